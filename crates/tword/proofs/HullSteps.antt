@@ -1,0 +1,40 @@
+-- A hull grows by one claim after another.
+use Rattle.std.proofs.Common.{◌≡◌, ℕ, ◌+◌, ◌<◌, ◌≤◌, subst, sym, ap, ◌∙◌, ◌++◌, [], ◌∷◌, ◌⊎◌, inl, inr, List, Option, Some, None, length, take, get_or, false, refl, arith}
+use Rattle.std.proofs.lemmas.Bool.{le-ltb, and_left, and_right}
+use Rattle.std.proofs.lemmas.List.{take_more, take_all}
+use Rattle.std.proofs.lemmas.List.Elements.{All-push, All-weaker}
+use Rattle.std.proofs.lemmas.List.Folds.{list_any_none}
+use Rattle.std.specs.List.{list_any}
+use Rattle.tword.specs.declared.span.Span.{Span}
+use Rattle.tword.specs.Claims.{overlaps_claim}
+use Rattle.tword.specs.Hulls.{IsWithin, AreWithin}
+
+wider : (low high l h : ℕ) → l ≤ low → high ≤ h → (c : Option Span) → IsWithin low high c → IsWithin l h c
+wider low high l h p q None k = tt
+wider low high l h p q (Some s) k = (omega arith, omega arith)
+
+-- one more claim, within wider bounds
+pub hull-more : (low high l h i : ℕ) (cs : List (Option Span)) (c : Option Span) → AreWithin low high (take i cs) → i < length cs → c ≡ get_or cs i c
+    → l ≤ low → high ≤ h → IsWithin l h c → AreWithin l h (take (i + 1) cs)
+hull-more low high l h i cs c k lt e p q one =
+    let push : AreWithin l h (take i cs ++ c ∷ []) =
+    All-push (IsWithin l h) (take i cs) c (All-weaker (IsWithin low high) (IsWithin l h) (wider low high l h p q) (take i cs) k) one in
+    subst (λ (xs : List (Option Span)). AreWithin l h xs) (sym (take_more cs i c lt ∙ ap (λ (x : Option Span). take i cs ++ x ∷ []) (sym e))) push
+
+-- all of them
+pub hull-all : (low high i : ℕ) (cs : List (Option Span)) → AreWithin low high (take i cs) → length cs ≤ i → AreWithin low high cs
+hull-all low high i cs k ge = subst (λ (xs : List (Option Span)). AreWithin low high xs) (take_all i cs ge) k
+
+one_above : (low high start size : ℕ) (c : Option Span) → IsWithin low high c → high ≤ start → overlaps_claim (record { start = start; size = size }) c ≡ false
+one_above low high start size None h g = refl
+one_above low high start size (Some s) h g = and_left _ _ (and_right _ _ (le-ltb start (s.start + s.size) (omega arith)))
+
+one_below : (low high start size : ℕ) (c : Option Span) → IsWithin low high c → start + size ≤ low → overlaps_claim (record { start = start; size = size }) c ≡ false
+one_below low high start size None h g = refl
+one_below low high start size (Some s) h g = and_right _ _ (le-ltb s.start (start + size) (omega arith))
+
+-- a span outside the bounds meets no claim
+pub outside : (low high start size : ℕ) (cs : List (Option Span)) → AreWithin low high cs → (high ≤ start) ⊎ (start + size ≤ low)
+    → list_any (overlaps_claim (record { start = start; size = size })) cs ≡ false
+outside low high start size cs h (inl g) = list_any_none _ cs (λ k d lt. one_above low high start size _ (h k d lt) g)
+outside low high start size cs h (inr g) = list_any_none _ cs (λ k d lt. one_below low high start size _ (h k d lt) g)

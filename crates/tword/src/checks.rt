@@ -1,0 +1,143 @@
+//! The checks of touches, without an access: for a row that makes several before its first change.
+
+ghost use Rattle.std.specs.Prelude.{◌≡◌, OnOk, None, length, true};
+ghost use Rattle.tword.specs.Actions.{or_break};
+ghost use Rattle.tword.specs.Touches.{Reads, Writes, place_break, word_place_break, span_break, word_break, copy_break, deschedule_break, is_inside, word_span};
+
+use crate::breaks::Break;
+use crate::marks::Marks;
+use crate::memory::Memory;
+use crate::word::Word;
+
+/// The least address, as its unsigned reading.
+const LEAST: u32 = 0x8000_0000;
+
+/// How many bytes from the least address on are closed to programs.
+const CLOSED: u64 = 0x48;
+
+impl Memory {
+    /// Whether the bytes of a span lie in the memory, where programs may use them.
+    ///
+    /// # Errors
+    /// `BadAddress` where one lies outside, else `Reserved` where one lies below the first address that programs may use. A span without bytes passes.
+    #[inline]
+    fn lies_open(&self, start: Word, size: u32) -> Result<(), Break>
+        ensures { result ≡ or_break (place_break (length self.now) (record { start = start; size = size })) tt }
+    {
+        let place = u64::from(start.get().wrapping_sub(LEAST));
+        if size == 0 {
+            return Ok(());
+        }
+        if u64::from(self.size()) < place + u64::from(size) {
+            return Err(Break::BadAddress);
+        }
+        if place < CLOSED {
+            return Err(Break::Reserved);
+        }
+        Ok(())
+    }
+
+    /// Whether the bytes of a span may be read.
+    ///
+    /// # Errors
+    /// The first of `BadAddress`, `Reserved`, `InTransit`, `SavedWord` that holds of one of them. A span without bytes passes.
+    #[inline]
+    #[tactic(auto, unfolding(crate::specs::Touches::span_break))]
+    pub fn may_read(&self, marks: &Marks, start: Word, size: u32) -> Result<(), Break>
+        ensures checks { result ≡ or_break (span_break (length self.now) marks.now Reads (record { start = start; size = size })) tt }
+        ensures inside { OnOk result (is_inside (length self.now) (record { start = start; size = size }) ≡ true) }
+    {
+        self.lies_open(start, size)?;
+        marks.may_read(start, size)
+    }
+
+    /// Whether the bytes of a span may be written.
+    ///
+    /// # Errors
+    /// The first of `BadAddress`, `Reserved`, `InTransit`, `SavedWord` that holds of one of them. A span without bytes passes.
+    #[inline]
+    #[tactic(auto, unfolding(crate::specs::Touches::span_break))]
+    pub fn may_write(&self, marks: &Marks, start: Word, size: u32) -> Result<(), Break>
+        ensures checks { result ≡ or_break (span_break (length self.now) marks.now Writes (record { start = start; size = size })) tt }
+        ensures inside { OnOk result (is_inside (length self.now) (record { start = start; size = size }) ≡ true) }
+    {
+        self.lies_open(start, size)?;
+        marks.may_write(start, size)
+    }
+
+    /// Whether the word at an address is one that programs may use.
+    ///
+    /// # Errors
+    /// `Unaligned` where the address is no multiple of 4, else `BadAddress`, else `Reserved`.
+    #[inline]
+    fn is_open_word(&self, address: Word) -> Result<(), Break>
+        ensures { result ≡ or_break (word_place_break (length self.now) address) tt }
+    {
+        if address.get() % 4 != 0 {
+            return Err(Break::Unaligned);
+        }
+        let place = u64::from(address.get().wrapping_sub(LEAST));
+        if u64::from(self.size()) <= place {
+            return Err(Break::BadAddress);
+        }
+        if place < CLOSED {
+            return Err(Break::Reserved);
+        }
+        Ok(())
+    }
+
+    /// Whether the word at an address may be read.
+    ///
+    /// # Errors
+    /// The first of `Unaligned`, `BadAddress`, `Reserved`, `InTransit`, `SavedWord` that holds of it.
+    #[inline]
+    #[tactic(auto, unfolding(crate::specs::Touches::word_break, crate::specs::Touches::span_break))]
+    pub fn may_read_word(&self, marks: &Marks, address: Word) -> Result<(), Break>
+        ensures checks { result ≡ or_break (word_break (length self.now) marks.now Reads address) tt }
+        ensures inside { OnOk result (is_inside (length self.now) (word_span address) ≡ true) }
+    {
+        self.is_open_word(address)?;
+        marks.may_read(address, 4)
+    }
+
+    /// Whether the word at an address may be written.
+    ///
+    /// # Errors
+    /// The first of `Unaligned`, `BadAddress`, `Reserved`, `InTransit`, `SavedWord` that holds of it.
+    #[inline]
+    #[tactic(auto, unfolding(crate::specs::Touches::word_break, crate::specs::Touches::span_break))]
+    pub fn may_write_word(&self, marks: &Marks, address: Word) -> Result<(), Break>
+        ensures checks { result ≡ or_break (word_break (length self.now) marks.now Writes address) tt }
+        ensures inside { OnOk result (is_inside (length self.now) (word_span address) ≡ true) }
+    {
+        self.is_open_word(address)?;
+        marks.may_write(address, 4)
+    }
+
+    /// Whether bytes may be copied: the source is read, then the target written.
+    ///
+    /// # Errors
+    /// The break of the source as a read, else that of the target as a write.
+    #[tactic(auto, unfolding(crate::specs::Touches::copy_break))]
+    pub fn may_copy(&self, marks: &Marks, from: Word, to: Word, size: u32) -> Result<(), Break>
+        ensures checks { result ≡ or_break (copy_break (length self.now) marks.now from to size) tt }
+        ensures source { OnOk result (is_inside (length self.now) (record { start = from; size = size }) ≡ true) }
+        ensures target { OnOk result (is_inside (length self.now) (record { start = to; size = size }) ≡ true) }
+    {
+        self.may_read(marks, from, size)?;
+        self.may_write(marks, to, size)
+    }
+
+    /// Whether the three words below a workspace may be written, from the lowest up: the check of descheduling its process.
+    ///
+    /// # Errors
+    /// The break of the first word that may not.
+    #[tactic(auto, unfolding(crate::specs::Touches::deschedule_break))]
+    pub fn may_deschedule(&self, marks: &Marks, workspace: Word) -> Result<(), Break>
+        ensures { result ≡ or_break (deschedule_break (length self.now) marks.now workspace) tt }
+    {
+        self.may_write_word(marks, workspace.minus(Word::new(12)))?;
+        self.may_write_word(marks, workspace.minus(Word::new(8)))?;
+        self.may_write_word(marks, workspace.minus(Word::new(4)))
+    }
+}

@@ -1,0 +1,191 @@
+//! Who claims bytes of a memory.
+
+ghost use Rattle.std.specs.Prelude.{◌≡◌, ◌+◌, ◌<◌, IfOk, IfErr, None, length, slice_index_or, true};
+ghost use Rattle.tword.specs.Accesses.{Changing, Frees, IsClaimable, IsClaimableWorkspace, no_claims, with_input, with_output, without_input, without_output};
+ghost use Rattle.tword.specs.Actions.{or_break};
+ghost use Rattle.tword.specs.Claims.{saving, saved_words, has_saved};
+ghost use Rattle.tword.specs.Touches.{Reads, Writes, claim_break};
+ghost use Rattle.tword.specs.Words.{word_below};
+
+use crate::breaks::{Break, MemoryFault};
+use crate::link_buffers::LinkBuffers;
+use crate::saved::{Saved, words_below};
+use crate::span::Span;
+use crate::word::Word;
+use std::alloc::Global;
+use std::marker::Model;
+
+/// The bytes of a memory that are claimed: the buffers of pending link messages, and the saved words of processes that are queued or wait.
+#[derive(Drop)]
+pub struct Marks {
+    inputs: LinkBuffers,
+    outputs: LinkBuffers,
+    saved: Saved,
+}
+
+impl Model for Marks {
+    ghost use Rattle.tword.specs.Claims.{Claims};
+
+    ghost Value = { Claims };
+
+    ghost view = { λ m. record { inputs = m.inputs; outputs = m.outputs; saved = m.saved } };
+}
+
+impl Marks {
+    /// No claims, and room for those of four inputs, four outputs and 512 workspaces: no other call takes memory.
+    ///
+    /// # Errors
+    /// `OutOfMemory` where the allocator refuses.
+    pub fn new(alloc: Global) -> Result<Marks, MemoryFault>
+        ensures none { IfOk result (λ m. m ≡ no_claims) }
+        ensures fault { IfErr result (λ fault. fault ≡ MemoryFault.OutOfMemory) }
+    {
+        match Saved::new(alloc) {
+            Ok(saved) => Ok(Marks {
+                inputs: LinkBuffers::new(),
+                outputs: LinkBuffers::new(),
+                saved,
+            }),
+            Err(_) => Err(MemoryFault::OutOfMemory),
+        }
+    }
+
+    /// Whether the words of a workspace are saved.
+    pub fn has_saved(&self, workspace: Word) -> bool
+        ensures { result ≡ has_saved self.now workspace }
+    {
+        self.saved.contains(workspace)
+    }
+
+    /// Whether claims let the bytes of a span be read.
+    ///
+    /// # Errors
+    /// `InTransit` where one of them belongs to a pending input, else `SavedWord`.
+    #[inline]
+    pub fn may_read(&self, start: Word, size: u32) -> Result<(), Break>
+        ensures { result ≡ or_break (claim_break self.now Reads (record { start = start; size = size })) tt }
+    {
+        let span = Span { start, size };
+        if self.inputs.overlap(&span) {
+            return Err(Break::InTransit);
+        }
+        if self.saved.overlap(&span) {
+            return Err(Break::SavedWord);
+        }
+        Ok(())
+    }
+
+    /// Whether claims let the bytes of a span be written.
+    ///
+    /// # Errors
+    /// `InTransit` where one of them belongs to a pending message, else `SavedWord`.
+    #[inline]
+    pub fn may_write(&self, start: Word, size: u32) -> Result<(), Break>
+        ensures { result ≡ or_break (claim_break self.now Writes (record { start = start; size = size })) tt }
+    {
+        let span = Span { start, size };
+        if self.inputs.overlap(&span) || self.outputs.overlap(&span) {
+            return Err(Break::InTransit);
+        }
+        if self.saved.overlap(&span) {
+            return Err(Break::SavedWord);
+        }
+        Ok(())
+    }
+
+    /// Claims the three words below a workspace, where the claims that there are let them be written.
+    ///
+    /// # Errors
+    /// As `may_write` of these words; nothing is changed then.
+    pub fn claim_saved(&mut self, workspace: Word) -> Result<(), Break>
+        requires workspace { IsClaimableWorkspace workspace }
+        requires room { length self.old.saved < 512 }
+        ensures { Changing (claim_break self.old Writes (saved_words workspace)) self.old (saving workspace self.old) result self.new }
+    {
+        self.may_write(words_below(workspace), 12)?;
+        self.claim_saved_known(workspace);
+        Ok(())
+    }
+
+    /// Claims the three words below a workspace, for a caller that knows that it may.
+    pub fn claim_saved_known(&mut self, workspace: Word)
+        requires workspace { IsClaimableWorkspace workspace }
+        requires room { length self.old.saved < 512 }
+        requires free { claim_break self.old Writes (saved_words workspace) ≡ None }
+        ensures { self.new ≡ saving workspace self.old }
+    {
+        self.saved.insert(workspace);
+    }
+
+    /// Gives the words below a workspace free, if they are saved. The order in which the others are kept is left open.
+    pub fn release_saved(&mut self, workspace: Word)
+        ensures frees { Frees workspace self.old self.new }
+        ensures counts { has_saved self.old workspace ≡ true → length self.new.saved + 1 ≡ length self.old.saved }
+        ensures inputs { self.new.inputs ≡ self.old.inputs }
+        ensures outputs { self.new.outputs ≡ self.old.outputs }
+    {
+        self.saved.remove(workspace);
+    }
+
+    /// Claims the buffer of a pending link input, where the claims that there are let it be written.
+    ///
+    /// # Errors
+    /// As `may_write` of the buffer; nothing is changed then.
+    pub fn claim_in(&mut self, link: u8, start: Word, size: u32) -> Result<(), Break>
+        requires link { link < 4 }
+        requires within { IsClaimable (record { start = start; size = size }) }
+        requires unclaimed { slice_index_or self.old.inputs link None ≡ None }
+        ensures { Changing (claim_break self.old Writes (record { start = start; size = size })) self.old (with_input link (record { start = start; size = size }) self.old) result self.new }
+    {
+        self.may_write(start, size)?;
+        self.claim_in_known(link, start, size);
+        Ok(())
+    }
+
+    /// Claims the buffer of a pending link input, for a caller that knows that it may.
+    pub fn claim_in_known(&mut self, link: u8, start: Word, size: u32)
+        requires { link < 4 }
+        ensures { self.new ≡ with_input link (record { start = start; size = size }) self.old }
+    {
+        self.inputs.claim(link, Span { start, size });
+    }
+
+    /// Claims the buffer of a pending link output, where the claims that there are let it be read: two outputs may share bytes.
+    ///
+    /// # Errors
+    /// As `may_read` of the buffer; nothing is changed then.
+    pub fn claim_out(&mut self, link: u8, start: Word, size: u32) -> Result<(), Break>
+        requires link { link < 4 }
+        requires within { IsClaimable (record { start = start; size = size }) }
+        requires unclaimed { slice_index_or self.old.outputs link None ≡ None }
+        ensures { Changing (claim_break self.old Reads (record { start = start; size = size })) self.old (with_output link (record { start = start; size = size }) self.old) result self.new }
+    {
+        self.may_read(start, size)?;
+        self.claim_out_known(link, start, size);
+        Ok(())
+    }
+
+    /// Claims the buffer of a pending link output, for a caller that knows that it may.
+    pub fn claim_out_known(&mut self, link: u8, start: Word, size: u32)
+        requires { link < 4 }
+        ensures { self.new ≡ with_output link (record { start = start; size = size }) self.old }
+    {
+        self.outputs.claim(link, Span { start, size });
+    }
+
+    /// Gives the buffer of a link input free.
+    pub fn release_in(&mut self, link: u8)
+        requires { link < 4 }
+        ensures { self.new ≡ without_input link self.old }
+    {
+        self.inputs.release(link);
+    }
+
+    /// Gives the buffer of a link output free.
+    pub fn release_out(&mut self, link: u8)
+        requires { link < 4 }
+        ensures { self.new ≡ without_output link self.old }
+    {
+        self.outputs.release(link);
+    }
+}
