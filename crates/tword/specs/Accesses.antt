@@ -34,10 +34,6 @@ without_input link claims = record claims { inputs = slice_set claims.inputs lin
 abbrev pub without_output : ℕ → Claims → Claims
 without_output link claims = record claims { outputs = slice_set claims.outputs link None }
 
--- a span that may be claimed: it lies from the first address that programs may use up to the last one
-abbrev pub IsClaimable : Span → Type 0
-IsClaimable span = (mem_start ≤ span.start) × (span.start + span.size ≤ 2 ^ 32)
-
 -- a workspace whose saved words may be claimed: a word, and a multiple of 4, with room below it
 abbrev pub IsClaimableWorkspace : ℕ → Type 0
 IsClaimableWorkspace w = (w % 4 ≡ 0) × (mem_start + 12 ≤ w) × (w < 2 ^ 32)

@@ -1,7 +1,7 @@
 //! Who claims bytes of a memory.
 
-ghost use Rattle.std.specs.Prelude.{◌≡◌, ◌+◌, ◌<◌, IfOk, IfErr, None, length, slice_index_or, true};
-ghost use Rattle.tword.specs.Accesses.{Changing, Frees, IsClaimable, IsClaimableWorkspace, no_claims, with_input, with_output, without_input, without_output};
+ghost use Rattle.std.specs.Prelude.{◌≡◌, ◌+◌, ◌<◌, IfOk, IfErr, None, length, true};
+ghost use Rattle.tword.specs.Accesses.{Changing, Frees, IsClaimableWorkspace, no_claims, with_input, with_output, without_input, without_output};
 ghost use Rattle.tword.specs.Actions.{or_break};
 ghost use Rattle.tword.specs.Claims.{saving, saved_words, has_saved};
 ghost use Rattle.tword.specs.Touches.{Reads, Writes, claim_break};
@@ -132,9 +132,7 @@ impl Marks {
     /// # Errors
     /// As `may_write` of the buffer; nothing is changed then.
     pub fn claim_in(&mut self, link: u8, start: Word, size: u32) -> Result<(), Break>
-        requires link { link < 4 }
-        requires within { IsClaimable (record { start = start; size = size }) }
-        requires unclaimed { slice_index_or self.old.inputs link None ≡ None }
+        requires { link < 4 }
         ensures { Changing (claim_break self.old Writes (record { start = start; size = size })) self.old (with_input link (record { start = start; size = size }) self.old) result self.new }
     {
         self.may_write(start, size)?;
@@ -155,9 +153,7 @@ impl Marks {
     /// # Errors
     /// As `may_read` of the buffer; nothing is changed then.
     pub fn claim_out(&mut self, link: u8, start: Word, size: u32) -> Result<(), Break>
-        requires link { link < 4 }
-        requires within { IsClaimable (record { start = start; size = size }) }
-        requires unclaimed { slice_index_or self.old.outputs link None ≡ None }
+        requires { link < 4 }
         ensures { Changing (claim_break self.old Reads (record { start = start; size = size })) self.old (with_output link (record { start = start; size = size }) self.old) result self.new }
     {
         self.may_read(start, size)?;

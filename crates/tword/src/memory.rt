@@ -101,7 +101,8 @@ impl Memory {
         ensures { result ≡ or_break (word_break (length self.now) marks.now Writes address) (word_at self.now address) }
     {
         self.may_write_word(marks, address)?;
-        Ok(self.word(address))
+        let word = self.word(address);
+        Ok(word)
     }
 
     /// Sets the word at an address.
