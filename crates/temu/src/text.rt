@@ -1,6 +1,7 @@
 //! Small parts of printed text. Each is put behind what a buffer holds already.
 
 ghost use Rattle.std.specs.Prelude.{◌≡◌, ◌++◌, OnOk, decimal};
+ghost use Rattle.hex.specs.Hex.{encode_lower};
 ghost use Rattle.temu.specs.Texts.{break_name, end_text};
 
 use std::alloc::AllocError;
@@ -16,6 +17,23 @@ pub fn push_decimal(out: &mut Vec<u8>, number: u64) -> Result<(), AllocError>
     ensures { OnOk result (out.new.items ≡ out.old.items ++ decimal number) }
 {
     write!(out, "{number}").map_err(|_| AllocError)
+}
+
+/// Bytes as hexadecimal digits, in lower case.
+///
+/// # Errors
+/// Where the allocator refuses.
+pub fn push_hex(out: &mut Vec<u8>, bytes: &[u8]) -> Result<(), AllocError>
+    ensures { OnOk result (out.new.items ≡ out.old.items ++ encode_lower bytes.now) }
+{
+    for byte in bytes {
+        let mut digits = [0; 2];
+        if hex::encode_to_slice([*byte], &mut digits).is_err() {
+            return Err(AllocError);
+        }
+        out.extend_from_slice(&digits)?;
+    }
+    Ok(())
 }
 
 /// An end of a wire, as its node and its link.

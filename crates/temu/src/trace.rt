@@ -1,13 +1,15 @@
 //! The trace of a run: a line for each note.
 
-ghost use Rattle.std.specs.Prelude.{◌≡◌, ◌++◌, OnOk, decimal};
+ghost use Rattle.std.specs.Prelude.{◌≡◌, ◌++◌, [], ◌∷◌, OnOk, codes, decimal, length};
 ghost use Rattle.hex.specs.Hex.{encode_lower};
 ghost use Rattle.temu.specs.Logs.{line};
-ghost use Rattle.temu.specs.Texts.{note_text, trace_text};
+ghost use Rattle.temu.specs.Texts.{break_name, end_text, note_text, trace_text, words};
 
-use crate::text::{break_name, push_decimal, push_end};
+use crate::text::{break_name, push_decimal, push_end, push_hex};
 use std::alloc::AllocError;
 use tnet::Note;
+use tnet::plan::End;
+use tword::Break;
 
 /// The trace behind what the buffer holds (own choice of format): for each note, in order, a line `msg 0.1 1.2 4 01020304` (from, to, length and bytes),
 /// `halt 0` or `freeze 1 LengthMismatch`.
@@ -28,41 +30,42 @@ fn push_note(out: &mut Vec<u8>, note: &Note) -> Result<(), AllocError>
     ensures { OnOk result (out.new.items ≡ out.old.items ++ line (note_text note.now)) }
 {
     match note {
-        Note::Msg { from, to, bytes } => {
-            let bytes = bytes.as_slice();
-            out.extend_from_slice(b"msg ")?;
-            push_end(out, from)?;
-            out.extend_from_slice(b" ")?;
-            push_end(out, to)?;
-            out.extend_from_slice(b" ")?;
-            push_decimal(out, bytes.len() as u64)?;
-            out.extend_from_slice(b" ")?;
-            push_hex(out, bytes)?;
-        }
-        Note::Halt(node) => {
-            out.extend_from_slice(b"halt ")?;
-            push_decimal(out, u64::from(*node))?;
-        }
-        Note::Freeze(node, broken) => {
-            out.extend_from_slice(b"freeze ")?;
-            push_decimal(out, u64::from(*node))?;
-            out.extend_from_slice(b" ")?;
-            out.extend_from_slice(break_name(*broken))?;
-        }
+        Note::Msg { from, to, bytes } => push_message(out, from, to, bytes.as_slice())?,
+        Note::Halt(node) => push_halt(out, *node)?,
+        Note::Freeze(node, broken) => push_freeze(out, *node, *broken)?,
     }
     out.extend_from_slice(b"\n")
 }
 
-/// Bytes as hexadecimal digits.
-fn push_hex(out: &mut Vec<u8>, bytes: &[u8]) -> Result<(), AllocError>
-    ensures { OnOk result (out.new.items ≡ out.old.items ++ encode_lower bytes.now) }
+/// A message: its two ends, its length and its bytes.
+fn push_message(out: &mut Vec<u8>, from: &End, to: &End, bytes: &[u8]) -> Result<(), AllocError>
+    ensures { OnOk result (out.new.items ≡ out.old.items
+        ++ words (codes "msg" ∷ end_text from.now ∷ end_text to.now ∷ decimal (length bytes.now) ∷ encode_lower bytes.now ∷ [])) }
 {
-    for byte in bytes {
-        let mut digits = [0; 2];
-        if hex::encode_to_slice([*byte], &mut digits).is_err() {
-            return Err(AllocError);
-        }
-        out.extend_from_slice(&digits)?;
-    }
-    Ok(())
+    out.extend_from_slice(b"msg ")?;
+    push_end(out, from)?;
+    out.extend_from_slice(b" ")?;
+    push_end(out, to)?;
+    out.extend_from_slice(b" ")?;
+    push_decimal(out, bytes.len() as u64)?;
+    out.extend_from_slice(b" ")?;
+    push_hex(out, bytes)
+}
+
+/// A node that halted.
+fn push_halt(out: &mut Vec<u8>, node: u8) -> Result<(), AllocError>
+    ensures { OnOk result (out.new.items ≡ out.old.items ++ words (codes "halt" ∷ decimal node ∷ [])) }
+{
+    out.extend_from_slice(b"halt ")?;
+    push_decimal(out, u64::from(node))
+}
+
+/// A node that froze.
+fn push_freeze(out: &mut Vec<u8>, node: u8, broken: Break) -> Result<(), AllocError>
+    ensures { OnOk result (out.new.items ≡ out.old.items ++ words (codes "freeze" ∷ decimal node ∷ break_name broken ∷ [])) }
+{
+    out.extend_from_slice(b"freeze ")?;
+    push_decimal(out, u64::from(node))?;
+    out.extend_from_slice(b" ")?;
+    out.extend_from_slice(break_name(broken))
 }
