@@ -4,8 +4,7 @@ ghost use Rattle.std.specs.Prelude.{◌≡◌, ◌+◌, ◌<◌, ◌≤◌, ◌^
 ghost use Rattle.std.specs.List.{list_any, list_all, flat_map};
 ghost use Rattle.tword.specs.Claims.{overlaps_claim};
 ghost use Rattle.tword.specs.Stores.{as_cells, hiding, hiding_from};
-ghost use Rattle.tword.specs.Words.{most_neg};
-ghost use Rattle.temu.specs.Texts.{node_line, node_text, dump_of, dump_line, dump_lines, cell_text, is_zero, is_pending};
+ghost use Rattle.temu.specs.Texts.{node_line, node_text, dump_of, dump_line, lines_of, cell_text, is_zero, is_pending};
 
 use crate::span::Span;
 use crate::text::{break_name, push_decimal, push_hex};
@@ -66,7 +65,7 @@ fn push_standing(out: &mut Vec<u8>, broken: Option<Break>, halted: bool) -> Resu
 /// The lines of bytes.
 fn push_lines(out: &mut Vec<u8>, bytes: &[u8], pending: &[Option<Span>]) -> Result<(), AllocError>
     requires { length bytes.now ≤ 2 ^ 20 }
-    ensures { OnOk result (out.new.items ≡ out.old.items ++ dump_lines (length bytes.now) most_neg (hiding (is_pending pending.now) (as_cells bytes.now))) }
+    ensures { OnOk result (out.new.items ≡ out.old.items ++ lines_of (hiding (is_pending pending.now) (as_cells bytes.now))) }
 {
     for line in 0..bytes.len().div_ceil(LINE_BYTES) {
         let start = LINE_BYTES * line;

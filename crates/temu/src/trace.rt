@@ -43,10 +43,24 @@ fn push_message(out: &mut Vec<u8>, from: &End, to: &End, bytes: &[u8]) -> Result
         ++ words (codes "msg" ∷ end_text from.now ∷ end_text to.now ∷ decimal (length bytes.now) ∷ encode_lower bytes.now ∷ [])) }
 {
     out.extend_from_slice(b"msg ")?;
+    push_ends(out, from, to)?;
+    out.extend_from_slice(b" ")?;
+    push_contents(out, bytes)
+}
+
+/// The two ends of a message.
+fn push_ends(out: &mut Vec<u8>, from: &End, to: &End) -> Result<(), AllocError>
+    ensures { OnOk result (out.new.items ≡ out.old.items ++ words (end_text from.now ∷ end_text to.now ∷ [])) }
+{
     push_end(out, from)?;
     out.extend_from_slice(b" ")?;
-    push_end(out, to)?;
-    out.extend_from_slice(b" ")?;
+    push_end(out, to)
+}
+
+/// The length of a message and its bytes.
+fn push_contents(out: &mut Vec<u8>, bytes: &[u8]) -> Result<(), AllocError>
+    ensures { OnOk result (out.new.items ≡ out.old.items ++ words (decimal (length bytes.now) ∷ encode_lower bytes.now ∷ [])) }
+{
     push_decimal(out, bytes.len() as u64)?;
     out.extend_from_slice(b" ")?;
     push_hex(out, bytes)
