@@ -6,7 +6,8 @@ use Rattle.std.specs.List.{list_all, list_any}
 use Rattle.std.proofs.Math.ListN.{drop_of_length-le}
 use Rattle.std.proofs.lemmas.Bool.{or_parts, and_parts, lt-ltb, ltb-true, both_ways, cases_lt}
 use Rattle.std.proofs.lemmas.List.{drop-map, take-map, drop-drop, length-map, length-drop, take_all}
-use Rattle.tword.specs.Claims.{Span, overlap, overlaps_claim}
+use Rattle.tword.specs.declared.span.Span.{Span}
+use Rattle.tword.specs.Claims.{overlap, overlaps_claim}
 use Rattle.tword.specs.Stores.{Store, as_cells, hiding_from}
 use Rattle.tword.specs.Touches.{byte_span}
 use Rattle.tword.specs.Words.{most_neg}

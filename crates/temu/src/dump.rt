@@ -6,10 +6,9 @@ ghost use Rattle.tword.specs.Claims.{overlaps_claim};
 ghost use Rattle.tword.specs.Stores.{as_cells, hiding, hiding_from};
 ghost use Rattle.temu.specs.Texts.{node_line, node_text, dump_of, dump_line, lines_of, cell_text, is_zero, is_pending};
 
-use crate::span::Span;
 use crate::text::{break_name, push_decimal, push_hex};
 use std::alloc::AllocError;
-use tword::{Break, Word};
+use tword::{Break, Span, Word};
 
 /// The least address of a memory.
 const FIRST_ADDRESS: u32 = 0x8000_0000;
