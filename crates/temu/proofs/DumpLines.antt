@@ -1,5 +1,5 @@
 -- The lines of a dump, byte by byte and line by line.
-use Rattle.std.proofs.Common.{◌≡◌, ℕ, zero, suc, ◌+◌, ◌*◌, ◌-◌, ◌<◌, ◌≤◌, refl, sym, ap, ap₂, ◌∙◌, List, [], ◌∷◌, ◌++◌, length, get_or, take, drop, flat_map, map, min, Bool, true, false, ◌⊎◌, inl, inr, Option, Some, None, arith, add-one, drop-cons}
+use Rattle.std.proofs.Common.{◌≡◌, ℕ, zero, suc, ◌+◌, ◌*◌, ◌-◌, ◌<◌, ◌≤◌, refl, sym, ap, ap₂, ◌∙◌, List, [], ◌∷◌, ◌++◌, length, get_or, take, drop, flat_map, min, Bool, true, false, ◌⊎◌, inl, inr, Option, Some, None, arith, add-one, drop-cons}
 use Rattle.std.specs.Prelude.{if◌then◌else◌, ◌&&◌, ◌||◌, nat_lt, slice_range}
 use Rattle.std.specs.Int.{div_ceil}
 use Rattle.std.specs.List.{list_all, list_any}
@@ -11,7 +11,7 @@ use Rattle.tword.specs.Claims.{overlap, overlaps_claim}
 use Rattle.tword.specs.Stores.{Store, as_cells, hiding_from}
 use Rattle.tword.specs.Touches.{byte_span}
 use Rattle.tword.specs.Words.{most_neg}
-use Rattle.temu.specs.Texts.{is_zero, cell_text, is_pending, dump_line, dump_lines, lines_of}
+use Rattle.temu.specs.Texts.{is_zero, cell_text, is_pending, dump_line, dump_lines}
 
 -- the cell of a byte, hidden or not
 abbrev pub cell_of : (ℕ → Bool) → ℕ → ℕ → Option ℕ
@@ -133,10 +133,10 @@ lines_next t k bytes l =
     let size : length store ≡ length bytes = length-hiding_from t most_neg (as_cells bytes) ∙ length-map bytes Some in
     let fuel : length store - k ≡ suc (length store - (k + 1)) = omega (arith, size) in
     let cells : take 16 (drop (16 * k) store) ≡ hiding_from t (most_neg + 16 * k) (as_cells (slice_range bytes (16 * k) (min (length bytes) (16 * k + 16)))) =
-        ap (λ (s : Store). take 16 s) (drop-hiding_from t (16 * k) most_neg (as_cells bytes)) ∙ take-hiding_from t 16 (most_neg + 16 * k) (drop (16 * k) (as_cells bytes))
-        ∙ ap (λ (s : Store). hiding_from t (most_neg + 16 * k) (take 16 s)) (drop-map Some (16 * k) bytes)
-        ∙ ap (λ (s : Store). hiding_from t (most_neg + 16 * k) s) (take-map Some 16 (drop (16 * k) bytes))
-        ∙ ap (λ (s : List ℕ). hiding_from t (most_neg + 16 * k) (as_cells s)) (sym (sixteen (16 * k) bytes)) in
+    ap (λ (s : Store). take 16 s) (drop-hiding_from t (16 * k) most_neg (as_cells bytes)) ∙ take-hiding_from t 16 (most_neg + 16 * k) (drop (16 * k) (as_cells bytes))
+    ∙ ap (λ (s : Store). hiding_from t (most_neg + 16 * k) (take 16 s)) (drop-map Some (16 * k) bytes)
+    ∙ ap (λ (s : Store). hiding_from t (most_neg + 16 * k) s) (take-map Some 16 (drop (16 * k) bytes))
+    ∙ ap (λ (s : List ℕ). hiding_from t (most_neg + 16 * k) (as_cells s)) (sym (sixteen (16 * k) bytes)) in
     let address : most_neg + 16 * k + 16 ≡ most_neg + 16 * (k + 1) = omega arith in
     let place : 16 * k + 16 ≡ 16 * (k + 1) = omega arith in
     ap (λ (n : ℕ). dump_lines n (most_neg + 16 * k) (drop (16 * k) store)) fuel

@@ -1,5 +1,5 @@
 -- What a loop that reads parts of one kind answers.
-use Rattle.std.proofs.Common.{◌≡◌, ℕ, ◌<◌, List, Some, None}
+use Rattle.std.proofs.Common.{◌≡◌, ℕ, ◌<◌, List, Some}
 use Rattle.temu.specs.declared.fault.ImageFault.{ImageFault}
 use Rattle.temu.specs.declared.fault.ImageFault.TheVariants.{BadMagic, TooMany, Truncated, Trailing, OutOfMemory}
 use Rattle.temu.specs.Images.{Reading, parts_in, IsPartFault}

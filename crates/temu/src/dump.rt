@@ -37,7 +37,12 @@ pub fn push_node_dump(
 }
 
 /// The line that says how the node stands.
-fn push_node_line(out: &mut Vec<u8>, node: usize, broken: Option<Break>, halted: bool) -> Result<(), AllocError>
+fn push_node_line(
+    out: &mut Vec<u8>,
+    node: usize,
+    broken: Option<Break>,
+    halted: bool,
+) -> Result<(), AllocError>
     ensures { OnOk result (out.new.items ≡ out.old.items ++ node_line node broken halted) }
 {
     out.extend_from_slice(b"node ")?;
@@ -69,13 +74,23 @@ fn push_lines(out: &mut Vec<u8>, bytes: &[u8], pending: &[Option<Span>]) -> Resu
     for line in 0..bytes.len().div_ceil(LINE_BYTES) {
         let start = LINE_BYTES * line;
         let end = bytes.len().min(start + LINE_BYTES);
-        push_line(out, FIRST_ADDRESS + start as u32, &bytes[start..end], pending)?;
+        push_line(
+            out,
+            FIRST_ADDRESS + start as u32,
+            &bytes[start..end],
+            pending,
+        )?;
     }
     Ok(())
 }
 
 /// One line. Only where a pending input has a byte of the line is each byte looked up.
-fn push_line(out: &mut Vec<u8>, address: u32, bytes: &[u8], pending: &[Option<Span>]) -> Result<(), AllocError>
+fn push_line(
+    out: &mut Vec<u8>,
+    address: u32,
+    bytes: &[u8],
+    pending: &[Option<Span>],
+) -> Result<(), AllocError>
     requires { address + length bytes.now < 2 ^ 32 }
     ensures { OnOk result (out.new.items ≡ out.old.items ++ dump_line address (hiding_from (is_pending pending.now) address (as_cells bytes.now))) }
 {
@@ -87,7 +102,12 @@ fn push_line(out: &mut Vec<u8>, address: u32, bytes: &[u8], pending: &[Option<Sp
 }
 
 /// One line, unless it has zeros alone.
-fn push_cells(out: &mut Vec<u8>, address: u32, bytes: &[u8], pending: &[Option<Span>]) -> Result<(), AllocError>
+fn push_cells(
+    out: &mut Vec<u8>,
+    address: u32,
+    bytes: &[u8],
+    pending: &[Option<Span>],
+) -> Result<(), AllocError>
     requires { address + length bytes.now < 2 ^ 32 }
     ensures { OnOk result (out.new.items ≡ out.old.items ++ dump_line address (hiding_from (is_pending pending.now) address (as_cells bytes.now))) }
 {
@@ -101,7 +121,12 @@ fn push_cells(out: &mut Vec<u8>, address: u32, bytes: &[u8], pending: &[Option<S
 }
 
 /// The bytes of a line.
-fn push_shown(out: &mut Vec<u8>, address: u32, bytes: &[u8], pending: &[Option<Span>]) -> Result<(), AllocError>
+fn push_shown(
+    out: &mut Vec<u8>,
+    address: u32,
+    bytes: &[u8],
+    pending: &[Option<Span>],
+) -> Result<(), AllocError>
     requires { address + length bytes.now < 2 ^ 32 }
     ensures { OnOk result (out.new.items ≡ out.old.items ++ flat_map cell_text (hiding_from (is_pending pending.now) address (as_cells bytes.now))) }
 {
@@ -113,7 +138,12 @@ fn push_shown(out: &mut Vec<u8>, address: u32, bytes: &[u8], pending: &[Option<S
 
 /// One byte.
 #[inline]
-fn push_cell(out: &mut Vec<u8>, address: u32, byte: u8, pending: &[Option<Span>]) -> Result<(), AllocError>
+fn push_cell(
+    out: &mut Vec<u8>,
+    address: u32,
+    byte: u8,
+    pending: &[Option<Span>],
+) -> Result<(), AllocError>
     ensures { OnOk result (out.new.items ≡ out.old.items ++ cell_text (if is_pending pending.now address then None else Some byte)) }
 {
     if has_pending(pending, address, 1) {

@@ -49,7 +49,12 @@ pub fn read_image(alloc: Global, bytes: &[u8]) -> Result<Image, ImageFault>
 }
 
 /// Segments and processes, and no byte behind them.
-fn body(alloc: Global, segment_count: u32, process_count: u32, bytes: &[u8]) -> Result<Image, ImageFault>
+fn body(
+    alloc: Global,
+    segment_count: u32,
+    process_count: u32,
+    bytes: &[u8],
+) -> Result<Image, ImageFault>
     ensures { IsImageAnswer (body_of segment_count process_count bytes.now) result }
 {
     let (segments, rest) = match segments(alloc, segment_count, bytes) {

@@ -5,7 +5,8 @@ use std::test::Fail;
 use tword::{Break, Span, Word};
 
 /// An image of one segment and one process: the code `ldc 4; stl 0; ldl 0; adc 1; stl 1; stopp`.
-const IMAGE: &[u8] = b"TEMUIMG1\x01\0\0\0\x01\0\0\0\x80\0\0\x80\x07\0\0\0\x44\xd0\x70\x81\xd1\x21\xf5\x01\x01\0\x80\x80\0\0\x80";
+const IMAGE: &[u8] =
+    b"TEMUIMG1\x01\0\0\0\x01\0\0\0\x80\0\0\x80\x07\0\0\0\x44\xd0\x70\x81\xd1\x21\xf5\x01\x01\0\x80\x80\0\0\x80";
 
 #[test]
 fn reads_an_image(rt: HostRuntime) -> Result<(), Fail> {
@@ -13,7 +14,10 @@ fn reads_an_image(rt: HostRuntime) -> Result<(), Fail> {
     let segments = image.segments.as_slice();
     assert_eq!(rt; segments.len(), 1);
     assert_eq!(rt; segments[0].address.get(), 0x8000_0080);
-    assert_eq!(rt; segments[0].bytes.as_slice(), b"\x44\xd0\x70\x81\xd1\x21\xf5".as_slice());
+    assert_eq!(rt;
+        segments[0].bytes.as_slice(),
+        b"\x44\xd0\x70\x81\xd1\x21\xf5".as_slice()
+    );
     let processes = image.processes.as_slice();
     assert_eq!(rt; processes.len(), 1);
     assert_eq!(rt; processes[0].wdesc.get(), 0x8000_0101);
@@ -23,7 +27,12 @@ fn reads_an_image(rt: HostRuntime) -> Result<(), Fail> {
 
 #[test]
 fn an_image_that_is_cut_is_truncated(rt: HostRuntime) {
-    assert!(rt; matches!(&read_image(rt.alloc(), &IMAGE[..38]), Err(ImageFault::Truncated)));
+    assert!(rt;
+        matches!(
+            &read_image(rt.alloc(), &IMAGE[..38]),
+            Err(ImageFault::Truncated)
+        )
+    );
 }
 
 /// The dump of a memory of 2,048 bytes after that image has run.
@@ -57,9 +66,19 @@ const PENDING: &str = "node 1 frozen LengthMismatch
 #[test]
 fn hides_pending_bytes(rt: HostRuntime) -> Result<(), Fail> {
     let bytes = b"\0\0\0\0\x01\x02\x03\x04\0\0\0\0\0\0\0\0\0\x01";
-    let pending = Span { start: Word::new(0x8000_0004), size: 4 };
+    let pending = Span {
+        start: Word::new(0x8000_0004),
+        size: 4,
+    };
     let mut out = Vec::new(rt.alloc());
-    push_node_dump(&mut out, 1, Some(Break::LengthMismatch), true, bytes, &[None, Some(pending)])?;
+    push_node_dump(
+        &mut out,
+        1,
+        Some(Break::LengthMismatch),
+        true,
+        bytes,
+        &[None, Some(pending)],
+    )?;
     assert_eq!(rt; out.as_slice(), PENDING.as_bytes());
     Ok(())
 }

@@ -1,7 +1,7 @@
-use Rattle.std.proofs.Common.{◌≡◌, ◌+◌, ◌++◌, drop, flat_map}
+use Rattle.std.proofs.Common.{◌≡◌, ◌+◌, drop}
 use Rattle.std.specs.List.{list_all}
 use Rattle.tword.specs.Stores.{as_cells, hiding_from}
-use Rattle.temu.specs.Texts.{cell_text, is_pending, is_zero}
+use Rattle.temu.specs.Texts.{is_pending, is_zero}
 use Rattle.temu.proofs.dump.are_zero.Given as goal
 
 abbrev pub invariant-loop-i : goal.invariant-loop-i
