@@ -1,13 +1,15 @@
 //! Decoding.
 
-ghost use Rattle.std.specs.Prelude.{◌≡◌, ◌==◌, pos, negsuc, ◌-ℤ◌, ◌*ℤ◌, if◌then◌else◌, Some, None};
+ghost use Rattle.std.specs.Prelude.{◌≡◌, ◌==◌, ◌/◌, pos, negsuc, ◌-ℤ◌, ◌*ℤ◌, if◌then◌else◌, Some, None};
 ghost use Rattle.tcode.specs.Chains.{instruction, is_listed, pfix};
-ghost use Rattle.tcode.specs.Decoding.{decode_bytes as decoded_bytes};
+ghost use Rattle.tcode.specs.Decoding.{IsFetched, decode as decoded, decode_bytes as decoded_bytes};
+ghost use Rattle.tcode.specs.Table.{function_at};
+ghost use Rattle.tword.specs.Actions.{run, value_of};
 ghost use Rattle.tword.specs.Words.{reduced};
 
 use crate::codes::{function_of, operation_of};
 use crate::instruction::{DecodeFault, Function, Instruction};
-use tword::Word;
+use tword::{Break, Marks, Memory, Word};
 
 /// How many bytes an instruction has at most, with its prefixes.
 const LONGEST: u8 = 16;
@@ -43,6 +45,51 @@ fn ended(function: Function, operand: u32, length: u8) -> Option<Instruction>
         operand,
         length,
     })
+}
+
+/// The instruction at an address. Its bytes are fetched one by one, each with the checks of a touch.
+///
+/// # Errors
+/// The break of the first fetch that fails; `LongPrefix` where sixteen bytes were fetched and all are
+/// prefixes; `NoSuchOperation` where its operation is not listed.
+// Chains stay out of line, so that the common case, one byte, is small where it is inlined.
+#[inline(always)]
+#[tactic(auto, unfolding(crate::specs::Decoding::decode))]
+pub fn decode(memory: &Memory, marks: &Marks, iptr: Word) -> Result<Instruction, Break>
+    ensures { result ≡ value_of (run (decoded iptr) memory.now marks.now) }
+{
+    let byte = memory.read_byte(marks, iptr)?;
+    match function_of(byte / 16) {
+        Some(function) => ended(function, u32::from(byte % 16), 1).ok_or(Break::NoSuchOperation),
+        None => decode_chain(memory, marks, iptr, byte),
+    }
+}
+
+/// The instruction at an address where a prefix was fetched.
+#[inline(never)]
+fn decode_chain(
+    memory: &Memory,
+    marks: &Marks,
+    iptr: Word,
+    prefix: u8,
+) -> Result<Instruction, Break>
+    requires fetched { IsFetched memory.now marks.now iptr prefix }
+    requires prefix { function_at (prefix / 16) ≡ None }
+    ensures { result ≡ value_of (run (decoded iptr) memory.now marks.now) }
+{
+    let mut value = prefixed(prefix / 16, u32::from(prefix % 16));
+    let mut address = iptr;
+    for had in 1..LONGEST {
+        address = address.plus(Word::new(1));
+        let byte = memory.read_byte(marks, address)?;
+        let data = u32::from(byte % 16);
+        let sum = value.wrapping_add(data);
+        if let Some(function) = function_of(byte / 16) {
+            return ended(function, sum, had + 1).ok_or(Break::NoSuchOperation);
+        }
+        value = prefixed(byte / 16, sum);
+    }
+    Err(Break::LongPrefix)
 }
 
 /// The instruction at the head of plain bytes.
