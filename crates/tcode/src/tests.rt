@@ -1,8 +1,10 @@
 //! Rows of the instruction set by value: every code of its two tables, and worked examples.
 
 use super::*;
+use std::alloc::Global;
+use std::process::Abort;
 use std::test::Fail;
-use tword::Word;
+use tword::{Break, Marks, Memory, Word};
 
 /// The functions but the prefixes and `opr`: code and name.
 const FUNCTIONS: [(u8, &str); 13] = [
@@ -188,4 +190,59 @@ fn an_operation_that_is_not_listed_shows_its_operand(rt: HostRuntime) -> Result<
     };
     assert_eq!(rt; format!(in rt.alloc(); "{unlisted}")?.as_str(), "opr 255");
     Ok(())
+}
+
+/// A memory of the least size with these bytes from an address on.
+fn memory_with<R: Alloc<A = Global> + Abort>(
+    rt: &R,
+    marks: &Marks,
+    address: u32,
+    bytes: &[u8],
+) -> Memory {
+    let mut memory = Memory::new(rt.alloc(), 2048).expect(rt, "a size that is allowed");
+    let mut address = Word::new(address);
+    for byte in bytes {
+        memory
+            .write_byte(marks, address, *byte)
+            .expect(rt, "an open address");
+        address = address.plus(Word::new(1));
+    }
+    memory
+}
+
+#[test]
+fn a_memory_is_decoded_as_its_bytes(rt: HostRuntime) -> Result<(), Fail> {
+    let marks = Marks::new(rt.alloc()).expect(&rt, "memory");
+    let code = [0x27, 0x25, 0x44, 0x61, 0x41, 0xd0, 0x24, 0xf5, 0x2f, 0xff];
+    let memory = memory_with(&rt, &marks, 0x8000_0080, &code);
+    let rows = [
+        (0u32, "ldc 1876", 3u8),
+        (3, "ldc -31", 2),
+        (5, "stl 0", 1),
+        (6, "altend", 2),
+    ];
+    for (offset, text, length) in rows {
+        let iptr = Word::new(0x8000_0080).plus(Word::new(offset));
+        let instruction = decode(&memory, &marks, iptr).expect(&rt, "an instruction");
+        assert_eq!(rt; format!(in rt.alloc(); "{instruction}")?.as_str(), text);
+        assert_eq!(rt; instruction.length, length);
+    }
+    let unlisted = decode(&memory, &marks, Word::new(0x8000_0088));
+    assert_eq!(rt; unlisted, Err(Break::NoSuchOperation));
+    Ok(())
+}
+
+#[test]
+fn the_first_fetch_that_fails_is_the_break(rt: HostRuntime) {
+    let marks = Marks::new(rt.alloc()).expect(&rt, "memory");
+    let memory = memory_with(&rt, &marks, 0x8000_07f0, &[0x20; 16]);
+    let rows = [
+        (0x8000_0047u32, Break::Reserved),
+        (0x8000_0800, Break::BadAddress),
+        (0x8000_07f1, Break::BadAddress),
+        (0x8000_07f0, Break::LongPrefix),
+    ];
+    for (iptr, broken) in rows {
+        assert_eq!(rt; decode(&memory, &marks, Word::new(iptr)), Err(broken));
+    }
 }
