@@ -1,5 +1,7 @@
 //! Mixed code in a memory is decoded from one instruction to the next.
 
+ghost use Rattle.std.specs.Prelude.{◌≡◌, ◌*◌, IfOk};
+
 use std::alloc::Global;
 use tcode::{Function, decode, encode, operation_of};
 use tword::{Break, Marks, Memory, MemoryFault, Word};
@@ -107,7 +109,9 @@ fn sum_of(memory: &Memory, marks: &Marks, turns: u32) -> Result<u32, Break> {
 }
 
 /// How many instructions were decoded, and the sum.
-pub fn decoded(alloc: Global, turns: u32) -> Result<(u64, u32), Fault> {
+pub fn decoded(alloc: Global, turns: u32) -> Result<(u64, u32), Fault>
+    ensures { IfOk result (λ answer. answer.0 ≡ turns * INSTRUCTIONS) }
+{
     let mut memory = Memory::new(alloc, 131_072).map_err(Fault::Memory)?;
     let marks = Marks::new(alloc).map_err(Fault::Memory)?;
     load(&mut memory, &marks).map_err(Fault::Broken)?;

@@ -11,7 +11,7 @@ use crate::codes::{function_of, operation_of};
 use crate::instruction::{DecodeFault, Function, Instruction};
 use tword::{Break, Marks, Memory, Word};
 
-/// How many bytes an instruction has at most, with its prefixes.
+/// How many bytes an instruction has at most, with its prefixes (own choice).
 const LONGEST: u8 = 16;
 
 /// The code of the prefix that shifts; the other prefix complements first.
