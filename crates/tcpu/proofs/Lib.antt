@@ -1,0 +1,4 @@
+-- signed words as machine numbers
+pub mod SignedWords
+-- shifts that lose nothing
+pub mod Normal
