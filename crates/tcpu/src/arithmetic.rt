@@ -9,7 +9,7 @@ ghost use Rattle.tcpu.specs.Functions.{function_effect};
 ghost use Rattle.tcpu.specs.Operations.{operation_effect};
 
 use crate::registers::{Next, Registers};
-use crate::words::{difference, signed_difference, signed_product, signed_quotient, signed_sum, truth, word_address};
+use crate::words::{signed_difference, signed_product, signed_quotient, signed_sum, truth, word_address};
 use tword::Word;
 
 /// `adc`: the signed sum with the operand
@@ -101,7 +101,7 @@ pub fn sum(registers: &mut Registers) -> Next
 pub fn difference_modulo(registers: &mut Registers) -> Next
     ensures { operation_effect op.Diff registers.old ≡ Some (answer (registers.new, result)) }
 {
-    registers.replace_all(difference(registers.b, registers.a));
+    registers.replace_all(registers.b.minus(registers.a));
     Next::Go
 }
 

@@ -7,7 +7,7 @@ ghost use Rattle.tword.specs.Actions.{answer};
 ghost use Rattle.tcpu.specs.Operations.{operation_effect};
 
 use crate::registers::{Next, Registers};
-use crate::words::{difference, is_outside, sign_of};
+use crate::words::{is_outside, sign_of};
 use tword::Word;
 
 /// `csub0`: a subscript below a limit
@@ -58,7 +58,7 @@ pub fn extend_to_word(registers: &mut Registers) -> Next
     if part.get() < sign.get() {
         registers.replace_all(part);
     } else {
-        registers.replace_all(difference(difference(part, sign), sign));
+        registers.replace_all(part.minus(sign).minus(sign));
     }
     Next::Go
 }

@@ -2,20 +2,12 @@
 
 ghost use Rattle.std.specs.Prelude.{◌≡◌, ◌+ℤ◌, ◌-ℤ◌, ◌*ℤ◌, ◌<◌, ◌*◌, ◌/◌, ◌%◌, ◌^◌, ◌||◌, int_div, int_le, int_lt, neg_ℤ, pos};
 ghost use Rattle.std.specs.Int.{w64, leading_zeros};
-ghost use Rattle.tword.specs.Words.{minus, word_from, signed, reduced, overflows};
+ghost use Rattle.tword.specs.Words.{word_from, signed, reduced, overflows};
 ghost use Rattle.tword.specs.Touches.{is_aligned};
 ghost use Rattle.tcpu.specs.Outcomes.{flag};
 ghost use Rattle.tcpu.specs.Operations.{low, high, double, carry_of, sign_word};
 
 use tword::Word;
-
-/// The difference modulo 2 ^ 32.
-#[inline]
-pub fn difference(left: Word, right: Word) -> Word
-    ensures { result ≡ minus left right }
-{
-    Word::new(left.get().wrapping_sub(right.get()))
-}
 
 /// The address of a word by its index from a base.
 #[inline]
