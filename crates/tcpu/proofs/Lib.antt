@@ -2,3 +2,7 @@
 pub mod SignedWords
 -- shifts that lose nothing
 pub mod Normal
+-- local effects deschedule nobody
+pub mod Quiet
+-- what jumps
+pub mod Foretelling

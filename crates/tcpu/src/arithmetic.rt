@@ -98,7 +98,7 @@ pub fn sum(registers: &mut Registers) -> Next
 
 /// `diff`
 #[inline]
-pub fn difference_modulo(registers: &mut Registers) -> Next
+pub fn difference(registers: &mut Registers) -> Next
     ensures { operation_effect op.Diff registers.old ≡ Some (answer (registers.new, result)) }
 {
     registers.replace_all(registers.b.minus(registers.a));
