@@ -9,7 +9,9 @@ ghost use Rattle.tcpu.specs.Functions.{function_effect};
 ghost use Rattle.tcpu.specs.Operations.{operation_effect};
 
 use crate::registers::{Next, Registers};
-use crate::words::{signed_difference, signed_product, signed_quotient, signed_sum, truth, word_address};
+use crate::words::{
+    signed_difference, signed_product, signed_quotient, signed_sum, truth, word_address,
+};
 use tword::Word;
 
 /// `adc`: the signed sum with the operand

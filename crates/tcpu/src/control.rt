@@ -70,7 +70,11 @@ pub fn load_pointer_to_instruction(registers: &mut Registers) -> Next
 ///
 /// # Errors
 /// `Unaligned` where A is no multiple of 4.
-pub fn general_adjust_workspace(registers: &mut Registers, memory: &Memory, marks: &Marks) -> Result<Next, Break>
+pub fn general_adjust_workspace(
+    registers: &mut Registers,
+    memory: &Memory,
+    marks: &Marks,
+) -> Result<Next, Break>
     ensures done { run (local_or_left (operation_effect op.Gajw registers.old) op.Gajw registers.old) memory.now marks.now ≡ outcome_of result registers.new memory.now }
     ensures kept { OnErr result (registers.new ≡ registers.old) }
 {
@@ -88,7 +92,12 @@ pub fn general_adjust_workspace(registers: &mut Registers, memory: &Memory, mark
 /// # Errors
 /// The break of the first of the four words, from the lowest up, that may not be written.
 #[inline]
-pub fn call(registers: &mut Registers, memory: &mut Memory, marks: &Marks, operand: Word) -> Result<Next, Break>
+pub fn call(
+    registers: &mut Registers,
+    memory: &mut Memory,
+    marks: &Marks,
+    operand: Word,
+) -> Result<Next, Break>
     ensures done { run (function_effect function.Call operand registers.old) memory.old marks.now ≡ outcome_of result registers.new memory.new }
     ensures kept { OnErr result ((memory.new ≡ memory.old) × (registers.new ≡ registers.old)) }
     ensures sized { length memory.new ≡ length memory.old }
@@ -134,7 +143,11 @@ pub fn may_call(registers: &Registers, memory: &Memory, marks: &Marks) -> Result
 /// # Errors
 /// The break of a read of the workspace's first word.
 #[inline]
-pub fn return_from_call(registers: &mut Registers, memory: &Memory, marks: &Marks) -> Result<Next, Break>
+pub fn return_from_call(
+    registers: &mut Registers,
+    memory: &Memory,
+    marks: &Marks,
+) -> Result<Next, Break>
     ensures done { run (local_or_left (operation_effect op.Ret registers.old) op.Ret registers.old) memory.now marks.now ≡ outcome_of result registers.new memory.now }
     ensures kept { OnErr result (registers.new ≡ registers.old) }
 {
@@ -149,7 +162,11 @@ pub fn return_from_call(registers: &mut Registers, memory: &Memory, marks: &Mark
 /// # Errors
 /// The break of a write of the count, else of the index.
 #[inline]
-pub fn loop_end(registers: &mut Registers, memory: &mut Memory, marks: &Marks) -> Result<Next, Break>
+pub fn loop_end(
+    registers: &mut Registers,
+    memory: &mut Memory,
+    marks: &Marks,
+) -> Result<Next, Break>
     ensures done { run (local_or_left (operation_effect op.Lend registers.old) op.Lend registers.old) memory.old marks.now ≡ outcome_of result registers.new memory.new }
     ensures kept { OnErr result ((memory.new ≡ memory.old) × (registers.new ≡ registers.old)) }
     ensures sized { length memory.new ≡ length memory.old }

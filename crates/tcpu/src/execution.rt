@@ -7,7 +7,9 @@ ghost use Rattle.tcpu.specs.Local.{outcome_of, StandsWhereLeft};
 ghost use Rattle.tcpu.specs.Operations.{operation_effect};
 
 use crate::registers::{Next, Registers};
-use crate::{arithmetic, bits, checks, control, flags, long_arithmetic, memory as store, shifts, stack};
+use crate::{
+    arithmetic, bits, checks, control, flags, long_arithmetic, memory as store, shifts, stack,
+};
 use tcode::{Function, Instruction, Operation, operation_of};
 use tword::{Break, Marks, Memory, Word};
 
@@ -20,7 +22,12 @@ use tword::{Break, Marks, Memory, Word};
 /// Registers and memory are then as they were.
 #[inline(always)]
 #[tactic(auto, unfolding(crate::specs::Effects::effect))]
-pub fn local(registers: &mut Registers, memory: &mut Memory, marks: &Marks, instruction: Instruction) -> Result<Next, Break>
+pub fn local(
+    registers: &mut Registers,
+    memory: &mut Memory,
+    marks: &Marks,
+    instruction: Instruction,
+) -> Result<Next, Break>
     ensures done { run (effect instruction registers.old) memory.old marks.now ≡ outcome_of result registers.new memory.new }
     ensures kept { OnErr result ((memory.new ≡ memory.old) × (registers.new ≡ registers.old)) }
     ensures left { IfOk result (λ next. StandsWhereLeft next memory.old registers.old memory.new registers.new) }
@@ -41,7 +48,14 @@ pub fn local(registers: &mut Registers, memory: &mut Memory, marks: &Marks, inst
 
 /// Does an instruction that began at `start`. Iptr is behind it already.
 #[inline(always)]
-fn act(registers: &mut Registers, memory: &mut Memory, marks: &Marks, start: Word, function: Function, operand: Word) -> Result<Next, Break>
+fn act(
+    registers: &mut Registers,
+    memory: &mut Memory,
+    marks: &Marks,
+    start: Word,
+    function: Function,
+    operand: Word,
+) -> Result<Next, Break>
     ensures done { run (effect_at function operand (record registers.old { iptr = start }) registers.old) memory.old marks.now ≡ outcome_of result registers.new memory.new }
     ensures kept { OnErr result ((memory.new ≡ memory.old) × (registers.new ≡ registers.old)) }
     ensures sized { length memory.new ≡ length memory.old }
@@ -70,7 +84,13 @@ fn act(registers: &mut Registers, memory: &mut Memory, marks: &Marks, start: Wor
 /// Does an operation, or leaves it to the scheduler.
 #[inline]
 #[tactic(auto, unfolding(crate::specs::Operations::operation_effect))]
-fn operate(registers: &mut Registers, memory: &mut Memory, marks: &Marks, start: Word, operation: Operation) -> Result<Next, Break>
+fn operate(
+    registers: &mut Registers,
+    memory: &mut Memory,
+    marks: &Marks,
+    start: Word,
+    operation: Operation,
+) -> Result<Next, Break>
     ensures done { run (local_or_left (operation_effect operation registers.old) operation (record registers.old { iptr = start })) memory.old marks.now ≡ outcome_of result registers.new memory.new }
     ensures kept { OnErr result ((memory.new ≡ memory.old) × (registers.new ≡ registers.old)) }
     ensures sized { length memory.new ≡ length memory.old }

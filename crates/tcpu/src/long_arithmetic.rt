@@ -7,7 +7,10 @@ ghost use Rattle.tword.specs.Actions.{answer};
 ghost use Rattle.tcpu.specs.Operations.{operation_effect};
 
 use crate::registers::{Next, Registers};
-use crate::words::{carry, double_word, high_word, long_quotient, low_word, normalised, signed_difference_with, signed_sum_with, truth};
+use crate::words::{
+    carry, double_word, high_word, long_quotient, low_word, normalised, signed_difference_with,
+    signed_sum_with, truth,
+};
 use tword::Word;
 
 /// `ladd`: the signed sum with a carry
@@ -23,7 +26,11 @@ pub fn long_add(registers: &mut Registers) -> Next
 pub fn long_subtract(registers: &mut Registers) -> Next
     ensures { operation_effect op.Lsub registers.old ≡ Some (answer (registers.new, result)) }
 {
-    let (difference, overflows) = signed_difference_with(registers.b, registers.a, carry(registers.c));
+    let (difference, overflows) = signed_difference_with(
+        registers.b,
+        registers.a,
+        carry(registers.c),
+    );
     registers.replace_all(difference);
     registers.finish(overflows)
 }
@@ -32,7 +39,9 @@ pub fn long_subtract(registers: &mut Registers) -> Next
 pub fn long_sum(registers: &mut Registers) -> Next
     ensures { operation_effect op.Lsum registers.old ≡ Some (answer (registers.new, result)) }
 {
-    let sum = u64::from(registers.b.get()) + u64::from(registers.a.get()) + u64::from(carry(registers.c));
+    let sum = u64::from(registers.b.get())
+        + u64::from(registers.a.get())
+        + u64::from(carry(registers.c));
     registers.replace_all_by_pair(low_word(sum), high_word(sum));
     Next::Go
 }
@@ -51,7 +60,8 @@ pub fn long_difference(registers: &mut Registers) -> Next
 pub fn long_multiply(registers: &mut Registers) -> Next
     ensures { operation_effect op.Lmul registers.old ≡ Some (answer (registers.new, result)) }
 {
-    let product = u64::from(registers.b.get()) * u64::from(registers.a.get()) + u64::from(registers.c.get());
+    let product = u64::from(registers.b.get()) * u64::from(registers.a.get())
+        + u64::from(registers.c.get());
     registers.replace_all_by_pair(low_word(product), high_word(product));
     Next::Go
 }

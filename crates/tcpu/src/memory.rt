@@ -19,7 +19,12 @@ use tword::{Break, Marks, Memory, Word};
 /// # Errors
 /// The break of a read of the word.
 #[inline]
-pub fn load_local(registers: &mut Registers, memory: &Memory, marks: &Marks, operand: Word) -> Result<Next, Break>
+pub fn load_local(
+    registers: &mut Registers,
+    memory: &Memory,
+    marks: &Marks,
+    operand: Word,
+) -> Result<Next, Break>
     ensures done { run (function_effect function.Ldl operand registers.old) memory.now marks.now ≡ outcome_of result registers.new memory.now }
     ensures kept { OnErr result (registers.new ≡ registers.old) }
 {
@@ -33,7 +38,12 @@ pub fn load_local(registers: &mut Registers, memory: &Memory, marks: &Marks, ope
 /// # Errors
 /// The break of a read of the word.
 #[inline]
-pub fn load_non_local(registers: &mut Registers, memory: &Memory, marks: &Marks, operand: Word) -> Result<Next, Break>
+pub fn load_non_local(
+    registers: &mut Registers,
+    memory: &Memory,
+    marks: &Marks,
+    operand: Word,
+) -> Result<Next, Break>
     ensures done { run (function_effect function.Ldnl operand registers.old) memory.now marks.now ≡ outcome_of result registers.new memory.now }
     ensures kept { OnErr result (registers.new ≡ registers.old) }
 {
@@ -47,7 +57,12 @@ pub fn load_non_local(registers: &mut Registers, memory: &Memory, marks: &Marks,
 /// # Errors
 /// The break of a write of the word.
 #[inline]
-pub fn store_local(registers: &mut Registers, memory: &mut Memory, marks: &Marks, operand: Word) -> Result<Next, Break>
+pub fn store_local(
+    registers: &mut Registers,
+    memory: &mut Memory,
+    marks: &Marks,
+    operand: Word,
+) -> Result<Next, Break>
     ensures done { run (function_effect function.Stl operand registers.old) memory.old marks.now ≡ outcome_of result registers.new memory.new }
     ensures kept { OnErr result ((memory.new ≡ memory.old) × (registers.new ≡ registers.old)) }
     ensures sized { length memory.new ≡ length memory.old }
@@ -62,7 +77,12 @@ pub fn store_local(registers: &mut Registers, memory: &mut Memory, marks: &Marks
 /// # Errors
 /// The break of a write of the word.
 #[inline]
-pub fn store_non_local(registers: &mut Registers, memory: &mut Memory, marks: &Marks, operand: Word) -> Result<Next, Break>
+pub fn store_non_local(
+    registers: &mut Registers,
+    memory: &mut Memory,
+    marks: &Marks,
+    operand: Word,
+) -> Result<Next, Break>
     ensures done { run (function_effect function.Stnl operand registers.old) memory.old marks.now ≡ outcome_of result registers.new memory.new }
     ensures kept { OnErr result ((memory.new ≡ memory.old) × (registers.new ≡ registers.old)) }
     ensures sized { length memory.new ≡ length memory.old }
@@ -92,7 +112,11 @@ pub fn load_byte(registers: &mut Registers, memory: &Memory, marks: &Marks) -> R
 /// # Errors
 /// The break of a write of the byte.
 #[inline]
-pub fn store_byte(registers: &mut Registers, memory: &mut Memory, marks: &Marks) -> Result<Next, Break>
+pub fn store_byte(
+    registers: &mut Registers,
+    memory: &mut Memory,
+    marks: &Marks,
+) -> Result<Next, Break>
     ensures done { run (local_or_left (operation_effect op.Sb registers.old) op.Sb registers.old) memory.old marks.now ≡ outcome_of result registers.new memory.new }
     ensures kept { OnErr result ((memory.new ≡ memory.old) × (registers.new ≡ registers.old)) }
     ensures sized { length memory.new ≡ length memory.old }
@@ -108,7 +132,11 @@ pub fn store_byte(registers: &mut Registers, memory: &mut Memory, marks: &Marks)
 ///
 /// # Errors
 /// The break of a read of the source, else of a write of the target.
-pub fn move_bytes(registers: &mut Registers, memory: &mut Memory, marks: &Marks) -> Result<Next, Break>
+pub fn move_bytes(
+    registers: &mut Registers,
+    memory: &mut Memory,
+    marks: &Marks,
+) -> Result<Next, Break>
     ensures done { run (local_or_left (operation_effect op.Move registers.old) op.Move registers.old) memory.old marks.now ≡ outcome_of result registers.new memory.new }
     ensures kept { OnErr result ((memory.new ≡ memory.old) × (registers.new ≡ registers.old)) }
     ensures sized { length memory.new ≡ length memory.old }

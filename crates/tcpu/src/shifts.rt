@@ -15,7 +15,11 @@ use tword::Word;
 pub fn shift_right(registers: &mut Registers) -> Next
     ensures { operation_effect op.Shr registers.old ≡ Some (answer (registers.new, result)) }
 {
-    let shifted = registers.b.get().checked_shr(registers.a.get()).unwrap_or(0);
+    let shifted = registers
+        .b
+        .get()
+        .checked_shr(registers.a.get())
+        .unwrap_or(0);
     registers.replace_all(Word::new(shifted));
     Next::Go
 }
@@ -25,7 +29,11 @@ pub fn shift_right(registers: &mut Registers) -> Next
 pub fn shift_left(registers: &mut Registers) -> Next
     ensures { operation_effect op.Shl registers.old ≡ Some (answer (registers.new, result)) }
 {
-    let shifted = registers.b.get().checked_shl(registers.a.get()).unwrap_or(0);
+    let shifted = registers
+        .b
+        .get()
+        .checked_shl(registers.a.get())
+        .unwrap_or(0);
     registers.replace_all(Word::new(shifted));
     Next::Go
 }

@@ -175,5 +175,8 @@ pub fn long_quotient(top: Word, bottom: Word, divisor: Word) -> (Word, Word)
 {
     let dividend = (u64::from(top.get()) << 32) + u64::from(bottom.get());
     let divisor = u64::from(divisor.get());
-    (Word::new((dividend / divisor) as u32), Word::new((dividend % divisor) as u32))
+    (
+        Word::new((dividend / divisor) as u32),
+        Word::new((dividend % divisor) as u32),
+    )
 }
