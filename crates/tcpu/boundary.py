@@ -125,7 +125,7 @@ def outcomes(name):
                         if fails and halt:
                             follows = HALT
                         words = [v % W for v in stack] + [iptr % W, wptr % W]
-                        yield (x, y, z, error, halt), words + [4 * follows + 2 * e + h]
+                        yield (x, y, z, error, halt), words + [follows, int(e), int(h)]
 
 
 def main():

@@ -217,6 +217,30 @@ pub effect_then : {B : Type 0} (i : Instruction) (r : Registers) (f : Outcome �
     → run_from (effect i r >>= f) s c s ≡ then_from (run (effect i r) s c) (λ o s'. run_from (f o) s c s')
 effect_then i r f s c = quiet_bind (IsStay r) (effect i r) f s s c (effect-quiet i r)
 
+-- so what was answered goes on as what follows says
+pub effect_answered : {B : Type 0} (i : Instruction) (r r' : Registers) (next : Next) (f : Outcome → Action B) (s s' : Store) (c : Claims)
+    → run (effect i r) s c ≡ Ok ((r', next), s') → run_from (effect i r >>= f) s c s ≡ run_from (f (r', next)) s c s'
+effect_answered i r r' next f s s' c e = rw (effect_then i r f s c, e) refl
+
+-- and a break is one whatever follows
+pub effect_broke : {B : Type 0} (i : Instruction) (r : Registers) (b : Break) (f : Outcome → Action B) (s : Store) (c : Claims)
+    → run (effect i r) s c ≡ Err b → run_from (effect i r >>= f) s c s ≡ Err b
+effect_broke i r b f s c e = rw (effect_then i r f s c, e) refl
+
+-- what would jump does
+pub jump_foretold : (x : Result (Outcome × Store) Break) → Ok true ≡ would_jump x
+    → (r' : Registers) × (s' : Store) × (x ≡ Ok ((r', Jumped), s'))
+jump_foretold (Ok ((r', Jumped), s')) e = (r', s', refl)
+jump_foretold (Ok ((r', Go), s')) e = cc
+jump_foretold (Ok ((r', Halt), s')) e = cc
+jump_foretold (Ok ((r', Schedule o), s')) e = cc
+jump_foretold (Err b) e = cc
+
+-- and what would break does
+pub break_foretold : (x : Result (Outcome × Store) Break) (b : Break) → Err b ≡ would_jump x → x ≡ Err b
+break_foretold (Ok ((r', next), s')) b e = cc
+break_foretold (Err b') b e = cc
+
 -- a jump stays in its workspace
 pub stays_effect : (i : Instruction) (r r' : Registers) (c : Claims) (s s' : Store) (result : Result Next Break)
     → run (effect i r) s c ≡ outcome_of result r' s' → IfOk result (λ next. StaysWhereJumped next r r')

@@ -15,11 +15,8 @@ use tword::Word;
 pub fn shift_right(registers: &mut Registers) -> Next
     ensures { operation_effect op.Shr registers.old ≡ Some (answer (registers.new, result)) }
 {
-    let shifted = registers
-        .b
-        .get()
-        .checked_shr(registers.a.get())
-        .unwrap_or(0);
+    let word = registers.b.get();
+    let shifted = word.checked_shr(registers.a.get()).unwrap_or(0);
     registers.replace_all(Word::new(shifted));
     Next::Go
 }
@@ -29,11 +26,8 @@ pub fn shift_right(registers: &mut Registers) -> Next
 pub fn shift_left(registers: &mut Registers) -> Next
     ensures { operation_effect op.Shl registers.old ≡ Some (answer (registers.new, result)) }
 {
-    let shifted = registers
-        .b
-        .get()
-        .checked_shl(registers.a.get())
-        .unwrap_or(0);
+    let word = registers.b.get();
+    let shifted = word.checked_shl(registers.a.get()).unwrap_or(0);
     registers.replace_all(Word::new(shifted));
     Next::Go
 }

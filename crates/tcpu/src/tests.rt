@@ -31,49 +31,49 @@ const VALUES: [u32; 12] = [
 /// What the operations on registers do at all stacks of boundary values and all flags: name, code, and the digest that
 /// `boundary.py` works out from the tables of the instruction set.
 const OPERATIONS: [(&str, u32, u64); 43] = [
-    ("rev", 0x00, 0x3a5b_7073_359e_3500),
-    ("bsub", 0x02, 0x6ac4_c8e1_155c_3980),
-    ("diff", 0x04, 0xb664_bded_ee5f_6080),
-    ("add", 0x05, 0xb285_5b13_3efb_bdd0),
-    ("prod", 0x08, 0x29f6_8e0a_561b_fbc0),
-    ("gt", 0x09, 0x568e_0180_dc21_1a20),
-    ("wsub", 0x0a, 0xd5f4_6665_7b26_1f00),
-    ("sub", 0x0c, 0x431a_98a1_c427_5650),
-    ("seterr", 0x10, 0x743b_0c92_2539_d000),
-    ("csub0", 0x13, 0x06a5_9ac6_7394_7ba0),
-    ("ladd", 0x16, 0xcb42_8dbe_96d4_fd20),
-    ("norm", 0x19, 0xded6_0d75_bc5b_6a10),
-    ("ldiv", 0x1a, 0x7da9_1010_721d_5d78),
-    ("ldpi", 0x1b, 0xdb16_dcd3_b47e_9f00),
-    ("xdble", 0x1d, 0x36bf_1403_5393_ee80),
-    ("rem", 0x1f, 0xab10_6ecf_c03e_8040),
-    ("testpranal", 0x2a, 0x2493_3323_866e_c080),
-    ("div", 0x2c, 0xad7f_562f_fd08_4b10),
-    ("lmul", 0x31, 0x0638_b92f_d724_fc20),
-    ("not", 0x32, 0x12b6_a940_f8a7_c700),
-    ("xor", 0x33, 0xc393_eb44_607b_3480),
-    ("bcnt", 0x34, 0xff41_d5d3_524c_3a80),
-    ("lshr", 0x35, 0x11f5_efa8_7ad5_2520),
-    ("lshl", 0x36, 0x9595_44ca_3da4_59f0),
-    ("lsum", 0x37, 0xd51f_efd3_6023_0a90),
-    ("lsub", 0x38, 0x928d_2a89_07e0_f3d0),
-    ("xword", 0x3a, 0x24fc_e943_5209_3400),
-    ("wcnt", 0x3f, 0xfb95_7562_ce23_7cc0),
-    ("shr", 0x40, 0x9ab0_3df7_268d_15d0),
-    ("shl", 0x41, 0xfbbf_e01e_4ac7_8d20),
-    ("mint", 0x42, 0x60a9_5da3_866e_c080),
-    ("and", 0x46, 0x43f1_33b4_650b_0300),
-    ("or", 0x4b, 0x602b_c7f2_baeb_b700),
-    ("csngl", 0x4c, 0xdee3_f7df_1641_25c0),
-    ("ccnt1", 0x4d, 0xf00a_a7e8_d03c_2ba0),
-    ("ldiff", 0x4f, 0x7564_4e18_38ba_1a00),
-    ("sum", 0x52, 0x6ac4_c8e1_155c_3980),
-    ("mul", 0x53, 0xec82_2306_7bd1_ac90),
-    ("cword", 0x56, 0x26d0_cb05_0e8b_5020),
-    ("testerr", 0x29, 0x11f6_d749_e784_a800),
-    ("clrhalterr", 0x57, 0xf1c6_9918_fa6b_0b80),
-    ("sethalterr", 0x58, 0xdaf5_7467_c79a_f280),
-    ("testhalterr", 0x59, 0xa8b5_505a_2607_0d00),
+    ("rev", 0x00, 0xe17a_ca9f_22a1_7c80),
+    ("bsub", 0x02, 0xbdc5_a15a_073c_eb00),
+    ("diff", 0x04, 0x79ce_c3a5_3df3_4e00),
+    ("add", 0x05, 0x92c5_9695_2bdd_bb48),
+    ("prod", 0x08, 0x2289_10bb_abbc_7e40),
+    ("gt", 0x09, 0x19cc_550e_e719_8220),
+    ("wsub", 0x0a, 0x35be_96db_a4dc_d680),
+    ("sub", 0x0c, 0x051a_fad3_7bc0_f608),
+    ("seterr", 0x10, 0x21a6_9c83_7179_e800),
+    ("csub0", 0x13, 0xeee6_857c_4b8f_5c10),
+    ("ladd", 0x16, 0x93c9_c6c8_32a2_fed0),
+    ("norm", 0x19, 0x87a4_8ec1_0def_bfd0),
+    ("ldiv", 0x1a, 0xb118_fb62_8d73_66c8),
+    ("ldpi", 0x1b, 0xbd4b_edb5_7fdc_8e80),
+    ("xdble", 0x1d, 0xa6c5_5847_673f_f400),
+    ("rem", 0x1f, 0xef9c_c8af_0d4a_3520),
+    ("testpranal", 0x2a, 0x2ada_f39d_b969_ce00),
+    ("div", 0x2c, 0x2b34_fc43_0d2d_dd38),
+    ("lmul", 0x31, 0x878b_fb30_3a50_a820),
+    ("not", 0x32, 0x8e06_06b9_450a_5680),
+    ("xor", 0x33, 0x7000_da0c_3f58_b200),
+    ("bcnt", 0x34, 0x16b5_8e47_d3ec_e800),
+    ("lshr", 0x35, 0x1fa6_260a_647f_7c20),
+    ("lshl", 0x36, 0xbb7b_f6b0_ea14_a530),
+    ("lsum", 0x37, 0x6e32_5e9f_6649_9550),
+    ("lsub", 0x38, 0x6bd8_1bea_48fc_3188),
+    ("xword", 0x3a, 0xf639_4d4c_83b2_af80),
+    ("wcnt", 0x3f, 0x9bd9_fcfa_bddc_1340),
+    ("shr", 0x40, 0xe170_4f03_65f0_da90),
+    ("shl", 0x41, 0xcc17_87a1_e03c_1120),
+    ("mint", 0x42, 0x76b0_381d_b969_ce00),
+    ("and", 0x46, 0x5761_0250_a754_ea80),
+    ("or", 0x4b, 0x9efe_8f13_234a_ce80),
+    ("csngl", 0x4c, 0xe937_b430_e75e_3460),
+    ("ccnt1", 0x4d, 0xe5f3_60dc_571e_fc10),
+    ("ldiff", 0x4f, 0xd650_4493_85fb_1380),
+    ("sum", 0x52, 0xbdc5_a15a_073c_eb00),
+    ("mul", 0x53, 0x6305_097d_4a81_a5c8),
+    ("cword", 0x56, 0x0648_1d54_ef02_e350),
+    ("testerr", 0x29, 0x1241_a9c0_eff9_4a00),
+    ("clrhalterr", 0x57, 0x97a2_d141_6bd2_1f00),
+    ("sethalterr", 0x58, 0x2593_b65a_433d_8a00),
+    ("testhalterr", 0x59, 0x66f5_8ecb_7290_ca80),
 ];
 
 /// Operations by value: name, code, A to C before, A to C after, and whether Error is set.
@@ -194,9 +194,9 @@ fn with_outcome(
     digest = with_word(digest, registers.c.get());
     digest = with_word(digest, registers.iptr.get());
     digest = with_word(digest, registers.wptr.get());
-    let error = u32::from(registers.error);
-    let halt = u32::from(registers.halt_on_error);
-    with_word(digest, 4 * follows + 2 * error + halt)
+    digest = with_word(digest, follows);
+    digest = with_word(digest, u32::from(registers.error));
+    with_word(digest, u32::from(registers.halt_on_error))
 }
 
 /// The digest of an operation at all stacks of boundary values.
@@ -274,35 +274,35 @@ fn functions_agree_at_the_boundaries(rt: HostRuntime) -> Result<(), Fail> {
     let marks = Marks::new(rt.alloc())?;
     assert_eq!(rt;
         function_digest(&mut memory, &marks, Function::J),
-        0xb810_1086_5429_a900
+        0xc69e_dd1e_ede6_c780
     );
     assert_eq!(rt;
         function_digest(&mut memory, &marks, Function::Ldlp),
-        0x669a_8ff0_6d4f_9280
+        0xe895_a99c_6156_8800
     );
     assert_eq!(rt;
         function_digest(&mut memory, &marks, Function::Ldc),
-        0x9c5a_269a_a9fc_7500
+        0xa789_8d51_8e20_7c80
     );
     assert_eq!(rt;
         function_digest(&mut memory, &marks, Function::Ldnlp),
-        0x59fc_749f_fa81_c180
+        0xb5d5_f5fd_285a_5300
     );
     assert_eq!(rt;
         function_digest(&mut memory, &marks, Function::Adc),
-        0xc6c5_00f8_6b5d_f150
+        0xd171_7edb_06a7_95c8
     );
     assert_eq!(rt;
         function_digest(&mut memory, &marks, Function::Cj),
-        0x9f39_1ab0_08de_d320
+        0xe651_29ba_b48a_d520
     );
     assert_eq!(rt;
         function_digest(&mut memory, &marks, Function::Ajw),
-        0x01ea_b427_80c5_a180
+        0x9c9d_9bd1_81f3_b300
     );
     assert_eq!(rt;
         function_digest(&mut memory, &marks, Function::Eqc),
-        0x6bd1_4930_921c_34c0
+        0x3792_83e3_d493_ab40
     );
     Ok(())
 }
@@ -446,15 +446,24 @@ fn breaks_change_nothing(rt: HostRuntime) -> Result<(), Fail> {
     let marks = Marks::new(rt.alloc())?;
     let mut registers = before(WORKSPACE + 2, 2, 3);
     let old = before(WORKSPACE + 2, 2, 3);
-    for (done, broken) in [
-        (operation(0x3c), Break::Unaligned),
-        (instruction(Function::Ldnl, 0), Break::Unaligned),
-        (instruction(Function::Ldl, 0x1_0000), Break::BadAddress),
-        (operation(0x21), Break::Unaligned),
-        (operation(0xff), Break::NoSuchOperation),
+    for (function, operand, broken) in [
+        (Function::Opr, 0x3c, Break::Unaligned),
+        (Function::Ldnl, 0, Break::Unaligned),
+        (Function::Ldl, 0x1_0000, Break::BadAddress),
+        (Function::Opr, 0x21, Break::Unaligned),
+        (Function::Opr, 0xff, Break::NoSuchOperation),
     ] {
-        assert!(rt; jumps(&registers, &memory, &marks, done) == Err(broken));
-        assert!(rt; local(&mut registers, &mut memory, &marks, done) == Err(broken));
+        assert!(rt;
+            jumps(&registers, &memory, &marks, instruction(function, operand)) == Err(broken)
+        );
+        assert!(rt;
+            local(
+                &mut registers,
+                &mut memory,
+                &marks,
+                instruction(function, operand)
+            ) == Err(broken)
+        );
         assert!(rt; registers == old);
     }
     let mut registers = before(WORKSPACE + 4, 2, 3);
