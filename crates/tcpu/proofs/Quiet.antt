@@ -20,7 +20,7 @@ use Rattle.tcpu.specs.Outcomes.{Outcome}
 use Rattle.tcpu.specs.Functions.{function_effect}
 use Rattle.tcpu.specs.Operations.{operation_effect, looped, is_positive_word}
 use Rattle.tcpu.specs.Effects.{local_or_left, selected_effect, effect_at, effect}
-use Rattle.tcpu.specs.Local.{outcome_of, would_jump, is_jump, StandsWhereLeft, StaysWhereJumped}
+use Rattle.tcpu.specs.Local.{outcome_of, would_jump, StandsWhereLeft, StaysWhereJumped}
 
 -- no process is descheduled, and Q holds of each answer
 abbrev pub IsQuiet : {A : Type 0} → (A → Type 0) → Action A → Type 0

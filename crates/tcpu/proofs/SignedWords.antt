@@ -1,6 +1,6 @@
 -- Signed words as machine numbers.
-use Rattle.std.proofs.Common.{◌≡◌, ℕ, ℤ, pos, negsuc, ◌<◌, ◌-◌, ◌%◌, ◌^◌, ◌+ℤ◌, ◌-ℤ◌, ◌*ℤ◌, FitsSigned, w32, w64, to_z, of_z, sym, ap, ◌∙◌, arith}
-use Rattle.std.specs.Int.{cast_unsigned, int_wrap, int_wrapping_mul}
+use Rattle.std.proofs.Common.{◌≡◌, ℕ, ℤ, pos, negsuc, ◌<◌, ◌-◌, ◌%◌, ◌^◌, ◌+ℤ◌, ◌-ℤ◌, ◌*ℤ◌, FitsSigned, w32, w64, to_z, of_z, ap, ◌∙◌, arith}
+use Rattle.std.specs.Int.{int_wrap, int_wrapping_mul}
 use Rattle.std.proofs.lemmas.Int.{ints, to_z-of_z, of_z-to_z, wrapping_mul_is}
 use Rattle.tword.specs.Words.{reduced}
 

@@ -24,7 +24,7 @@ pub fn add_constant(registers: &mut Registers, operand: Word) -> Next
     registers.finish(overflows)
 }
 
-/// `eqc`
+/// `eqc`: 1 where A is the operand, else 0
 #[inline]
 pub fn equals_constant(registers: &mut Registers, operand: Word) -> Next
     ensures { function_effect function.Eqc operand registers.old ≡ answer (registers.new, result) }
@@ -33,8 +33,8 @@ pub fn equals_constant(registers: &mut Registers, operand: Word) -> Next
     Next::Go
 }
 
-/// `add`
-#[inline]
+/// `add`: the signed sum of B and A, with Error on overflow
+#[inline(always)]
 pub fn add(registers: &mut Registers) -> Next
     ensures { operation_effect op.Add registers.old ≡ Some (answer (registers.new, result)) }
 {
@@ -43,8 +43,8 @@ pub fn add(registers: &mut Registers) -> Next
     registers.finish(overflows)
 }
 
-/// `sub`
-#[inline]
+/// `sub`: the signed difference of B and A, with Error on overflow
+#[inline(always)]
 pub fn subtract(registers: &mut Registers) -> Next
     ensures { operation_effect op.Sub registers.old ≡ Some (answer (registers.new, result)) }
 {
@@ -53,7 +53,7 @@ pub fn subtract(registers: &mut Registers) -> Next
     registers.finish(overflows)
 }
 
-/// `mul`
+/// `mul`: the signed product of B and A, with Error on overflow
 #[inline]
 pub fn multiply(registers: &mut Registers) -> Next
     ensures { operation_effect op.Mul registers.old ≡ Some (answer (registers.new, result)) }
@@ -89,7 +89,7 @@ pub fn remainder(registers: &mut Registers) -> Next
     Next::Go
 }
 
-/// `sum`
+/// `sum`: B + A modulo 2 ^ 32
 #[inline]
 pub fn sum(registers: &mut Registers) -> Next
     ensures { operation_effect op.Sum registers.old ≡ Some (answer (registers.new, result)) }
@@ -98,7 +98,7 @@ pub fn sum(registers: &mut Registers) -> Next
     Next::Go
 }
 
-/// `diff`
+/// `diff`: B - A modulo 2 ^ 32
 #[inline]
 pub fn difference(registers: &mut Registers) -> Next
     ensures { operation_effect op.Diff registers.old ≡ Some (answer (registers.new, result)) }
@@ -107,7 +107,7 @@ pub fn difference(registers: &mut Registers) -> Next
     Next::Go
 }
 
-/// `prod`
+/// `prod`: B times A modulo 2 ^ 32
 #[inline]
 pub fn product(registers: &mut Registers) -> Next
     ensures { operation_effect op.Prod registers.old ≡ Some (answer (registers.new, result)) }
@@ -117,8 +117,8 @@ pub fn product(registers: &mut Registers) -> Next
     Next::Go
 }
 
-/// `gt`
-#[inline]
+/// `gt`: 1 where B is above A, signed, else 0
+#[inline(always)]
 pub fn greater_than(registers: &mut Registers) -> Next
     ensures { operation_effect op.Gt registers.old ≡ Some (answer (registers.new, result)) }
 {
@@ -126,7 +126,7 @@ pub fn greater_than(registers: &mut Registers) -> Next
     Next::Go
 }
 
-/// `bsub`
+/// `bsub`: the address of byte B from A on
 #[inline]
 pub fn byte_subscript(registers: &mut Registers) -> Next
     ensures { operation_effect op.Bsub registers.old ≡ Some (answer (registers.new, result)) }
@@ -135,7 +135,7 @@ pub fn byte_subscript(registers: &mut Registers) -> Next
     Next::Go
 }
 
-/// `wsub`
+/// `wsub`: the address of word B from A on
 #[inline]
 pub fn word_subscript(registers: &mut Registers) -> Next
     ensures { operation_effect op.Wsub registers.old ≡ Some (answer (registers.new, result)) }
@@ -144,7 +144,7 @@ pub fn word_subscript(registers: &mut Registers) -> Next
     Next::Go
 }
 
-/// `bcnt`
+/// `bcnt`: how many bytes A words have
 pub fn byte_count(registers: &mut Registers) -> Next
     ensures { operation_effect op.Bcnt registers.old ≡ Some (answer (registers.new, result)) }
 {

@@ -9,7 +9,7 @@ ghost use Rattle.tcpu.specs.Operations.{operation_effect};
 use crate::registers::{Next, Registers};
 use tword::Word;
 
-/// `and`
+/// `and`: of B and A
 #[inline]
 pub fn bitwise_and(registers: &mut Registers) -> Next
     ensures { operation_effect op.And registers.old ≡ Some (answer (registers.new, result)) }
@@ -18,7 +18,7 @@ pub fn bitwise_and(registers: &mut Registers) -> Next
     Next::Go
 }
 
-/// `or`
+/// `or`: of B and A
 #[inline]
 pub fn bitwise_or(registers: &mut Registers) -> Next
     ensures { operation_effect op.Or registers.old ≡ Some (answer (registers.new, result)) }
@@ -27,7 +27,7 @@ pub fn bitwise_or(registers: &mut Registers) -> Next
     Next::Go
 }
 
-/// `xor`
+/// `xor`: of B and A
 #[inline]
 pub fn exclusive_or(registers: &mut Registers) -> Next
     ensures { operation_effect op.Xor registers.old ≡ Some (answer (registers.new, result)) }
@@ -36,7 +36,7 @@ pub fn exclusive_or(registers: &mut Registers) -> Next
     Next::Go
 }
 
-/// `not`
+/// `not`: of A
 #[inline]
 pub fn complement(registers: &mut Registers) -> Next
     ensures { operation_effect op.Not registers.old ≡ Some (answer (registers.new, result)) }

@@ -17,7 +17,7 @@ use crate::registers::{Next, Registers};
 use crate::words::{is_word_address, word_address};
 use tword::{Break, Marks, Memory, Word};
 
-/// `j`
+/// `j`: jumps by the operand
 #[inline]
 pub fn jump(registers: &mut Registers, operand: Word) -> Next
     ensures { function_effect function.J operand registers.old ≡ answer (registers.new, result) }
@@ -26,7 +26,7 @@ pub fn jump(registers: &mut Registers, operand: Word) -> Next
     Next::Jumped
 }
 
-/// `cj`: on 0 the stack is kept.
+/// `cj`: jumps by the operand where A is 0, which stays on the stack; else pops it
 #[inline]
 pub fn conditional_jump(registers: &mut Registers, operand: Word) -> Next
     ensures { function_effect function.Cj operand registers.old ≡ answer (registers.new, result) }
@@ -39,7 +39,7 @@ pub fn conditional_jump(registers: &mut Registers, operand: Word) -> Next
     Next::Go
 }
 
-/// `ajw`
+/// `ajw`: moves the workspace by a number of words
 #[inline]
 pub fn adjust_workspace(registers: &mut Registers, operand: Word) -> Next
     ensures { function_effect function.Ajw operand registers.old ≡ answer (registers.new, result) }
@@ -48,7 +48,7 @@ pub fn adjust_workspace(registers: &mut Registers, operand: Word) -> Next
     Next::Go
 }
 
-/// `gcall`
+/// `gcall`: exchanges Iptr and A
 pub fn general_call(registers: &mut Registers) -> Next
     ensures { operation_effect op.Gcall registers.old ≡ Some (answer (registers.new, result)) }
 {
@@ -58,7 +58,7 @@ pub fn general_call(registers: &mut Registers) -> Next
     Next::Go
 }
 
-/// `ldpi`
+/// `ldpi`: the address A bytes behind the instruction
 pub fn load_pointer_to_instruction(registers: &mut Registers) -> Next
     ensures { operation_effect op.Ldpi registers.old ≡ Some (answer (registers.new, result)) }
 {
@@ -66,7 +66,7 @@ pub fn load_pointer_to_instruction(registers: &mut Registers) -> Next
     Next::Go
 }
 
-/// `gajw`
+/// `gajw`: exchanges Wptr and A
 ///
 /// # Errors
 /// `Unaligned` where A is no multiple of 4.
@@ -138,11 +138,11 @@ pub fn may_call(registers: &Registers, memory: &Memory, marks: &Marks) -> Result
     memory.may_write_word(marks, wptr.minus(Word::new(4)))
 }
 
-/// `ret`
+/// `ret`: goes on behind the call, in the workspace of the caller
 ///
 /// # Errors
 /// The break of a read of the workspace's first word.
-#[inline]
+#[inline(always)]
 pub fn return_from_call(
     registers: &mut Registers,
     memory: &Memory,
@@ -161,7 +161,7 @@ pub fn return_from_call(
 ///
 /// # Errors
 /// The break of a write of the count, else of the index.
-#[inline]
+#[inline(always)]
 pub fn loop_end(
     registers: &mut Registers,
     memory: &mut Memory,
@@ -193,7 +193,7 @@ pub fn loop_end(
 ///
 /// # Errors
 /// The break of a write of the count, else of the index.
-#[inline]
+#[inline(always)]
 pub fn falling_count(registers: &Registers, memory: &Memory, marks: &Marks) -> Result<Word, Break>
     ensures count { result ≡ or_break (
         first_break (word_break (length memory.now) marks.now Writes (plus registers.now.b 4))

@@ -10,7 +10,7 @@ use crate::registers::{Next, Registers};
 use crate::words::truth;
 use tword::Word;
 
-/// `seterr`
+/// `seterr`: sets Error
 pub fn set_error(registers: &mut Registers) -> Next
     ensures { operation_effect op.Seterr registers.old ≡ Some (answer (registers.new, result)) }
 {
@@ -34,7 +34,7 @@ pub fn set_halt_on_error(registers: &mut Registers) -> Next
     Next::Go
 }
 
-/// `clrhalterr`
+/// `clrhalterr`: clears HaltOnError
 pub fn clear_halt_on_error(registers: &mut Registers) -> Next
     ensures { operation_effect op.Clrhalterr registers.old ≡ Some (answer (registers.new, result)) }
 {
@@ -42,7 +42,7 @@ pub fn clear_halt_on_error(registers: &mut Registers) -> Next
     Next::Go
 }
 
-/// `testhalterr`
+/// `testhalterr`: whether HaltOnError is set
 pub fn test_halt_on_error(registers: &mut Registers) -> Next
     ensures { operation_effect op.Testhalterr registers.old ≡ Some (answer (registers.new, result)) }
 {

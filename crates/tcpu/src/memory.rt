@@ -14,7 +14,7 @@ use crate::registers::{Next, Registers};
 use crate::words::word_address;
 use tword::{Break, Marks, Memory, Word};
 
-/// `ldl`
+/// `ldl`: pushes a word of the workspace
 ///
 /// # Errors
 /// The break of a read of the word.
@@ -33,7 +33,7 @@ pub fn load_local(
     Ok(Next::Go)
 }
 
-/// `ldnl`
+/// `ldnl`: the word at an index from A on
 ///
 /// # Errors
 /// The break of a read of the word.
@@ -52,7 +52,7 @@ pub fn load_non_local(
     Ok(Next::Go)
 }
 
-/// `stl`
+/// `stl`: pops A into a word of the workspace
 ///
 /// # Errors
 /// The break of a write of the word.
@@ -72,7 +72,7 @@ pub fn store_local(
     Ok(Next::Go)
 }
 
-/// `stnl`
+/// `stnl`: pops B into the word at an index from A on, and A
 ///
 /// # Errors
 /// The break of a write of the word.
@@ -93,7 +93,7 @@ pub fn store_non_local(
     Ok(Next::Go)
 }
 
-/// `lb`
+/// `lb`: the byte at A
 ///
 /// # Errors
 /// The break of a read of the byte.
@@ -107,7 +107,7 @@ pub fn load_byte(registers: &mut Registers, memory: &Memory, marks: &Marks) -> R
     Ok(Next::Go)
 }
 
-/// `sb`
+/// `sb`: pops the low byte of B to the address A
 ///
 /// # Errors
 /// The break of a write of the byte.

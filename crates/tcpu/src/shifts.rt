@@ -21,7 +21,7 @@ pub fn shift_right(registers: &mut Registers) -> Next
     Next::Go
 }
 
-/// `shl`
+/// `shl`: with zeros from the right
 #[inline]
 pub fn shift_left(registers: &mut Registers) -> Next
     ensures { operation_effect op.Shl registers.old ≡ Some (answer (registers.new, result)) }

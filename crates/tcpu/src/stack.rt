@@ -12,7 +12,7 @@ use crate::registers::{Next, Registers};
 use crate::words::word_address;
 use tword::Word;
 
-/// `ldc`
+/// `ldc`: pushes the operand
 #[inline]
 pub fn load_constant(registers: &mut Registers, operand: Word) -> Next
     ensures { function_effect function.Ldc operand registers.old ≡ answer (registers.new, result) }
@@ -21,7 +21,7 @@ pub fn load_constant(registers: &mut Registers, operand: Word) -> Next
     Next::Go
 }
 
-/// `ldlp`
+/// `ldlp`: pushes the address of a word of the workspace, by its index
 #[inline]
 pub fn load_local_pointer(registers: &mut Registers, operand: Word) -> Next
     ensures { function_effect function.Ldlp operand registers.old ≡ answer (registers.new, result) }
@@ -30,7 +30,7 @@ pub fn load_local_pointer(registers: &mut Registers, operand: Word) -> Next
     Next::Go
 }
 
-/// `ldnlp`
+/// `ldnlp`: the address of a word from A on, by its index
 #[inline]
 pub fn load_non_local_pointer(registers: &mut Registers, operand: Word) -> Next
     ensures { function_effect function.Ldnlp operand registers.old ≡ answer (registers.new, result) }
@@ -39,7 +39,7 @@ pub fn load_non_local_pointer(registers: &mut Registers, operand: Word) -> Next
     Next::Go
 }
 
-/// `mint`
+/// `mint`: pushes the least word
 pub fn minimum_integer(registers: &mut Registers) -> Next
     ensures { operation_effect op.Mint registers.old ≡ Some (answer (registers.new, result)) }
 {
@@ -47,7 +47,7 @@ pub fn minimum_integer(registers: &mut Registers) -> Next
     Next::Go
 }
 
-/// `rev`
+/// `rev`: exchanges A and B
 #[inline]
 pub fn reverse(registers: &mut Registers) -> Next
     ensures { operation_effect op.Rev registers.old ≡ Some (answer (registers.new, result)) }

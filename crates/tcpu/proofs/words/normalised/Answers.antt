@@ -1,4 +1,4 @@
-use Rattle.std.proofs.Common.{◌≡◌, ◌∙◌, arith}
+use Rattle.std.proofs.Common.{◌∙◌, arith}
 use Rattle.tcpu.proofs.Normal.{checked_shift}
 use Rattle.tcpu.proofs.words.normalised.Goals as goal
 

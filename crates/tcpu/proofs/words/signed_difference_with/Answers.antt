@@ -1,5 +1,3 @@
-use Rattle.std.proofs.Common.{ap, ◌∙◌, ◌-ℤ◌, pos, ◌≡◌, to_z, of_z, w64}
-use Rattle.tword.specs.Words.{reduced, overflows, signed}
 use Rattle.tcpu.proofs.SignedWords.{wide_difference}
 use Rattle.tcpu.proofs.words.signed_difference_with.Goals as goal
 

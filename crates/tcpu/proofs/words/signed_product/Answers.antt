@@ -1,5 +1,4 @@
-use Rattle.std.proofs.Common.{◌≡◌, ◌∙◌, ◌*ℤ◌}
-use Rattle.tword.specs.Words.{reduced, signed}
+use Rattle.std.proofs.Common.{◌∙◌}
 use Rattle.tcpu.proofs.SignedWords.{wrapped_product}
 use Rattle.tcpu.proofs.words.signed_product.Goals as goal
 
