@@ -1,0 +1,6 @@
+use Rattle.tproc.specs.Machine.{priority_of}
+use Rattle.tproc.proofs.Saved.{last_is_saved}
+use Rattle.tproc.proofs.state.State.last_saved.Goals as goal
+
+pub returns-clause-saved : goal.returns-clause-saved
+returns-clause-saved g c = rw c.last.ensures (last_is_saved (g.M.Ram.claims c.args.ram.now) c.args.self.now (priority_of c.args.process) c.requires.saved)

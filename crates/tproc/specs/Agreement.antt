@@ -1,0 +1,72 @@
+-- How the claims that a memory keeps agree with a control, and what the code of a step needs to know of a control.
+use Rattle.std.specs.Prelude.{◌≡◌, ◌≢◌, ◌<◌, ◌≤◌, ◌%◌, ◌+◌, ℕ, zero, suc, Bool, ◌&&◌, nat_le, nat_lt, not, true, false, [], ◌∷◌, ◌==◌, ◌++◌, AllPairs, List, map, length, Option, Some, None, IfSome, IsSome, option_map}
+use Rattle.tword.specs.Claims.{Claims, has_saved}
+use Rattle.tproc.specs.Machine.{Control, workspace_of, descheduled, buffer_of}
+use Rattle.tproc.specs.Standing.{is_among, live, most_processes}
+use Rattle.tproc.specs.declared.waiting.LinkEnd.{LinkEnd}
+
+-- the claims that a memory keeps are those of these workspaces, in any order, and of these links
+pub record AgreesOn (claims : Claims) (workspaces : List ℕ) (links : List LinkEnd) : Type 0 where
+  pub saved : (w : ℕ) → has_saved claims w ≡ is_among w workspaces
+  pub count : length claims.saved ≡ length workspaces
+  pub inputs : claims.inputs ≡ map (λ e. option_map buffer_of e.input) links
+  pub outputs : claims.outputs ≡ map (λ e. option_map buffer_of e.output) links
+
+-- and those of a control, where the words of these further workspaces are saved: of a process that is about to be queued or to wait, or that has just left its queue
+pub record AgreesWith (others : List ℕ) (claims : Claims) (m : Control) : Type 0 where
+  pub on : AgreesOn claims (others ++ descheduled m) m.links
+
+-- and those of a control alone
+abbrev pub Agrees : Claims → Control → Type 0
+Agrees claims m = AgreesWith [] claims m
+
+-- whatever claims agreed agree still
+abbrev pub StillAgrees : Control → Control → Type 0
+StillAgrees m m' = (others : List ℕ) (c : Claims) → AgreesWith others c m → AgreesWith others c m'
+
+-- whatever claims agreed but for this workspace agree now
+abbrev pub Settles : ℕ → Control → Control → Type 0
+Settles w m m' = (others : List ℕ) (c : Claims) → AgreesWith (w ∷ others) c m → AgreesWith others c m'
+
+-- whatever claims agreed do so now but for this workspace
+abbrev pub Unsettles : ℕ → Control → Control → Type 0
+Unsettles w m m' = (others : List ℕ) (c : Claims) → AgreesWith others c m → AgreesWith (w ∷ others) c m'
+
+-- the process of a workspace leaves its queue, and no other has that workspace
+abbrev pub Leaves : ℕ → Control → Control → Type 0
+Leaves w m m' = (is_among w (descheduled m') ≡ false) × Unsettles w m m'
+
+-- each process that is queued or waits has its words saved
+abbrev pub AreSaved : Claims → Control → Type 0
+AreSaved claims m = (w : ℕ) → is_among w (descheduled m) ≡ true → has_saved claims w ≡ true
+
+-- and has them still
+abbrev pub StillSaved : Control → Control → Type 0
+StillSaved m m' = (c : Claims) → AreSaved c m → AreSaved c m'
+
+-- what the code of a step needs to know of a control
+pub record IsPlain (m : Control) : Type 0 where
+  pub current : IfSome m.current (λ p. p < 2)
+  pub words : m.registers.wptr % 4 ≡ 0
+  pub kept : IfSome m.interrupted (λ s. s.registers.wptr % 4 ≡ 0)
+  pub few : length (live m) ≤ most_processes
+  pub links : length m.links ≡ 4
+  pub distinct : AllPairs (λ v w. v ≢ w) (descheduled m)
+
+-- how many are queued or wait
+abbrev pub taken : Control → ℕ
+taken m = length m.high + length m.low + length m.waiting
+
+-- there is a place in each list for one more
+abbrev pub HasPlace : Control → Type 0
+HasPlace m = taken m < 512
+
+-- the descriptor of the process that runs
+pub record IsOwn (process : ℕ) (m : Control) : Type 0 where
+  pub running : IsSome m.current
+  pub workspace : workspace_of process ≡ m.registers.wptr
+
+-- the timeslice of a process is over, and another low one is queued
+abbrev pub is_over : ℕ → Control → Bool
+is_over zero m = false
+is_over (suc p) m = nat_le m.timeslice m.count && nat_lt 0 (length m.low)

@@ -1,0 +1,39 @@
+-- Requests, and where a process stands, as the machine sees them.
+use Rattle.std.specs.Prelude.{◌≡◌, ℕ, Bool, ◌||◌, ◌==◌, None}
+use Rattle.tword.specs.Words.{word_below}
+use Rattle.tword.specs.Claims.{Claims, saving}
+use Rattle.tword.specs.Touches.{Writes, span_break, word_break, deschedule_break}
+use Rattle.tproc.specs.Channels as channels
+use Rattle.tproc.specs.Standing as standing
+use Rattle.tproc.specs.declared.channels.Side.{Side}
+use Rattle.tproc.specs.declared.channels.Side.TheVariants as side
+use Rattle.tproc.specs.declared.channels.Request.{Request}
+use Rattle.tproc.specs.declared.standing.Standing.{Standing}
+use Rattle.tproc.specs.declared.standing.Standing.TheVariants as stands
+
+-- the side of a request
+abbrev pub side_of : Side → channels.Side
+side_of side.Input = channels.Input
+side_of side.Output = channels.Output
+
+-- a request, without the registers that go on and the word that is laid down
+abbrev pub request : Request → channels.Request
+request q = record { process = q.process; side = side_of q.side; channel = q.channel; buffer = q.buffer; length = q.length }
+
+-- where a process stands
+abbrev pub standing_of : Standing → standing.Standing
+standing_of (stands.Waits reason) = standing.Waits reason
+standing_of stands.Queued = standing.Queued
+standing_of stands.Runs = standing.Runs
+standing_of stands.Interrupted = standing.Interrupted
+standing_of stands.Unknown = standing.Unknown
+
+-- what the checks of a process found that leaves its side of a message at a channel
+pub record MayLeave (size : ℕ) (claims : Claims) (workspace : ℕ) (q : channels.Request) : Type 0 where
+  pub workspace_free : deschedule_break size claims workspace ≡ None
+  pub channel_free : word_break size (saving workspace claims) Writes q.channel ≡ None
+  pub buffer_free : span_break size (saving workspace claims) (channels.mode_of q.side) (record { start = q.buffer; size = q.length }) ≡ None
+
+-- the address is that of a saved word of the workspace
+abbrev pub is_own_word : (workspace address : ℕ) → Bool
+is_own_word w address = (address == word_below w 1) || (address == word_below w 2) || (address == word_below w 3)

@@ -1,0 +1,153 @@
+//! Messages on internal channels: each is one step, at the arrival of the second process.
+
+ghost use Rattle.std.specs.Prelude.{◌≡◌, ◌<◌, ◌∷◌, Ok, Some, None, true, IfErr, IfSome, IsSome, OnOk, length};
+ghost use Rattle.tword.specs.Claims.{has_saved, saving};
+ghost use Rattle.tword.specs.Actions.{run_from};
+ghost use Rattle.tword.specs.Touches.{Reads, Writes, word_break, span_break};
+ghost use Rattle.tword.specs.Words.{word_below};
+ghost use Rattle.tproc.specs.Machine.{workspace_of as the_workspace};
+ghost use Rattle.tproc.specs.Standing.{reason_of, standing as the_standing, Waits, Queued, Interrupted};
+ghost use Rattle.tproc.specs.Queues.{waiting_for};
+ghost use Rattle.tproc.specs.Channels.{mode_of, own_side, reason_for, set_touched_word, waits_on_channel, exchanged, input_meets, output_meets, internal_message, is_choosing as choosing, touch_buffer};
+ghost use Rattle.tproc.specs.Agreement.{Agrees, AgreesWith, HasPlace, IsOwn, IsPlain};
+ghost use Rattle.tproc.specs.Doing.{Does, Part, Refuses, laid};
+ghost use Rattle.tproc.specs.Requests.{request, side_of, MayLeave, is_own_word};
+
+use crate::offer::Ran;
+use crate::queues::{IPTR_WORD, LINK_WORD, STATE_WORD, release, require};
+use crate::ram::Ram;
+use crate::standing::Standing;
+use crate::state::{State, workspace_of};
+use crate::waiting::Reason;
+use tcpu::Registers;
+use tword::{Break, Word};
+
+/// The word of a channel in which no process waits.
+pub const NOT_PROCESS: u32 = 0x8000_0000;
+
+/// The state of an alternative whose guards are being enabled.
+pub const ENABLING: u32 = 0x8000_0001;
+
+/// The state of an alternative whose process waits.
+pub const WAITING: u32 = 0x8000_0002;
+
+/// The state of an alternative with a ready guard.
+pub const READY: u32 = 0x8000_0003;
+
+/// Which way a process uses a channel.
+#[derive(Clone, Copy, Debug, PartialEq, Eq)]
+pub enum Side {
+    Input,
+    Output,
+}
+
+/// What a process asks for.
+#[derive(Clone, Copy, Debug, PartialEq, Eq)]
+pub struct Request {
+    /// Its descriptor.
+    pub process: Word,
+    pub side: Side,
+    pub channel: Word,
+    pub buffer: Word,
+    pub length: u32,
+    /// The word that is first laid down at the workspace, if the row does so.
+    pub first: Option<Word>,
+    /// The registers with which the process goes on, if it does not wait.
+    pub after: Registers,
+}
+
+impl Request {
+    /// What the process then waits for.
+    fn reason(&self) -> Reason
+        ensures { result ≡ reason_for (request self.now) (request self.now).side }
+    {
+        match self.side {
+            Side::Input => Reason::Receives {
+                channel: self.channel,
+                buffer: self.buffer,
+                length: self.length,
+            },
+            Side::Output => Reason::Sends {
+                channel: self.channel,
+                buffer: self.buffer,
+                length: self.length,
+            },
+        }
+    }
+}
+
+/// The address of word `-k` below a workspace.
+#[inline]
+pub fn below(workspace: Word, k: u32) -> Word
+    requires { k < 4 }
+    ensures { result ≡ word_below workspace k }
+{
+    Word::new(workspace.get().wrapping_sub(4 * k))
+}
+
+/// An alternative is under way and does not wait.
+pub fn is_choosing(state: Word) -> bool
+    ensures { result ≡ choosing state }
+{
+    state.get() == ENABLING || state.get() == READY
+}
+
+/// Lays the first word of a row down at the workspace, if the row has one.
+pub fn lay<M: Ram>(ram: &mut M, workspace: Word, first: Option<Word>)
+    requires free { IfSome first (λ _. word_break (length (M.cells ram.old)) (M.claims ram.old) Writes workspace ≡ None) }
+    ensures cells { M.cells ram.new ≡ laid first workspace (M.cells ram.old) }
+    ensures size { length (M.cells ram.new) ≡ length (M.cells ram.old) }
+    ensures claims { M.claims ram.new ≡ M.claims ram.old }
+{
+    if let Some(word) = first {
+        ram.set_word(workspace, word);
+    }
+}
+
+/// The checks of a process that leaves its side of a message at a channel and waits.
+#[tactic(auto, unfolding(crate::specs::Channels::own_side))]
+fn may_leave<M: Ram>(state: &State, ram: &M, q: &Request) -> Result<(), Break>
+    ensures refused { IfErr result (λ b. Refuses (own_side (request q.now) state.now) (M.claims ram.now) (M.cells ram.now) b) }
+    ensures free { OnOk result (MayLeave (length (M.cells ram.now)) (M.claims ram.now) state.now.registers.wptr (request q.now)) }
+{
+    let own = state.registers.wptr;
+    ram.may_deschedule(own)?;
+    ram.may_write_word_beside(own, q.channel)?;
+    match q.side {
+        Side::Input => ram.may_write_beside(own, q.buffer, q.length),
+        Side::Output => ram.may_read_beside(own, q.buffer, q.length),
+    }
+}
+
+/// The first of two processes leaves its descriptor in the channel and its buffer in its workspace.
+#[tactic(auto, using(crate::proofs::Agreeing::saved_itself), unfolding(crate::specs::Channels::own_side))]
+fn leave<M: Ram>(state: &State, ram: &mut M, q: &Request)
+    requires free { MayLeave (length (M.cells ram.old)) (M.claims ram.old) state.now.registers.wptr (request q.now) }
+    requires room { length (M.claims ram.old).saved < 512 }
+    ensures done { Part (own_side (request q.now) state.now) (M.claims ram.old) (M.cells ram.old) (Ok tt) (M.claims ram.new) (M.cells ram.new) }
+    ensures claims { M.claims ram.new ≡ saving state.now.registers.wptr (M.claims ram.old) }
+    ensures size { length (M.cells ram.new) ≡ length (M.cells ram.old) }
+{
+    let own = state.registers.wptr;
+    ram.deschedule(own);
+    ram.set_word(q.channel, q.process);
+    ram.set_saved_word(own, STATE_WORD, q.buffer);
+    ram.set_saved_word(own, IPTR_WORD, state.registers.iptr);
+}
+
+/// The first of two processes waits on the channel.
+#[tactic(auto, using(crate::proofs::Places::place_own, crate::proofs::Places::room_own, crate::proofs::Agreeing::agrees_but))]
+fn wait_on_channel<M: Ram>(state: &mut State, ram: &mut M, q: &Request) -> Result<Ran, Break>
+    requires own { IsOwn q.now.process state.old }
+    requires plain { IsPlain state.old }
+    requires agrees { Agrees (M.claims ram.old) state.old }
+    requires free { IfSome q.now.first (λ _. word_break (length (M.cells ram.old)) (M.claims ram.old) Writes state.old.registers.wptr ≡ None) }
+    ensures done { Does (run_from (waits_on_channel (request q.now) state.old) (M.cells ram.old) (M.claims ram.old) (laid q.now.first state.old.registers.wptr (M.cells ram.old))) state.old (M.cells ram.old) result state.new (M.cells ram.new) }
+    ensures agrees { Agrees (M.claims ram.new) state.new }
+{
+    may_leave(state, ram, q)?;
+    lay(ram, state.registers.wptr, q.first);
+    leave(state, ram, q);
+    state.wait(q.process, q.reason());
+    Ok(Ran::Instruction)
+}

@@ -1,0 +1,183 @@
+//! Queueing and admission.
+
+ghost use Rattle.std.specs.Prelude.{◌≡◌, ◌<◌, ◌+◌, ◌∷◌, ◌++◌, [], true, None, Some, Ok, IfOk, IfNone, IfSome, IsSome, OnErr, length, option_to_list};
+ghost use Rattle.tword.specs.Actions.{or_break, unmet};
+ghost use Rattle.tword.specs.Claims.{has_saved};
+ghost use Rattle.tproc.specs.Machine.{workspace_of as the_workspace, priority_of};
+ghost use Rattle.tproc.specs.Standing.{queue, reason_of, has_room};
+ghost use Rattle.tproc.specs.Queues.{admit as admission, enqueue as queueing, release as releasing, last_of, appended, waiting_for, without_waiter};
+ghost use Rattle.tproc.specs.Agreement.{Agrees, AgreesWith, AreSaved, HasPlace, IsPlain, Leaves, Settles, StillAgrees, StillSaved, Unsettles, taken};
+ghost use Rattle.tproc.specs.Doing.{Part};
+
+use crate::ram::Ram;
+use crate::state::{MOST_PROCESSES, State, workspace_of};
+use crate::waiting::{Reason, Waiter};
+use tword::{Break, Word};
+
+/// The word below a workspace that keeps Iptr.
+pub const IPTR_WORD: u32 = 1;
+
+/// The word below a workspace that links to the next of its queue.
+pub const LINK_WORD: u32 = 2;
+
+/// The word below a workspace that keeps the state of an alternative, or the buffer of a message.
+pub const STATE_WORD: u32 = 3;
+
+/// A condition, or its break.
+#[inline]
+pub fn require(holds: bool, fault: Break) -> Result<(), Break>
+    ensures { result ≡ or_break (unmet holds fault) tt }
+{
+    if holds { Ok(()) } else { Err(fault) }
+}
+
+impl State {
+    /// Whether another process may live.
+    pub fn has_room(&self) -> bool
+        ensures { result ≡ has_room self.now }
+    {
+        let queued = self.high.len() + self.low.len() + self.waiting.len();
+        let unqueued = usize::from(self.current.is_some())
+            + usize::from(self.interrupted.is_some());
+        queued + unqueued < MOST_PROCESSES
+    }
+
+    /// Puts a workspace at the back of a queue.
+    #[tactic(auto, using(crate::proofs::Agreeing::settles_appended))]
+    fn append(&mut self, workspace: Word, priority: u8)
+        requires place { HasPlace self.old }
+        ensures done { self.new ≡ appended workspace priority self.old }
+        ensures settles { Settles workspace self.old self.new }
+        ensures more { taken self.new ≡ taken self.old + 1 }
+    {
+        if priority == 0 {
+            self.high.push_back_reserved(workspace);
+        } else {
+            self.low.push_back_reserved(workspace);
+        }
+    }
+
+    /// The first of the high queue leaves it.
+    pub fn take_high(&mut self) -> Option<Word>
+        requires plain { IsPlain self.old }
+        ensures first { self.old.high ≡ option_to_list result ++ self.new.high }
+        ensures none { IfNone result ((self.old.high ≡ []) × (self.new ≡ self.old)) }
+        ensures leaves { IfSome result (λ w. Leaves w self.old self.new) }
+        ensures rest { self.new ≡ record self.old { high = self.new.high } }
+    {
+        self.high.pop_front()
+    }
+
+    /// The first of the low queue leaves it.
+    pub fn take_low(&mut self) -> Option<Word>
+        requires plain { IsPlain self.old }
+        ensures first { self.old.low ≡ option_to_list result ++ self.new.low }
+        ensures none { IfNone result ((self.old.low ≡ []) × (self.new ≡ self.old)) }
+        ensures leaves { IfSome result (λ w. Leaves w self.old self.new) }
+        ensures rest { self.new ≡ record self.old { low = self.new.low } }
+    {
+        self.low.pop_front()
+    }
+
+    /// The last of the queue of a process.
+    fn last(&self, process: Word) -> Option<Word>
+        ensures { result ≡ last_of (queue self.now (priority_of process)) }
+    {
+        if process.get() % 2 == 0 {
+            self.high.back().copied()
+        } else {
+            self.low.back().copied()
+        }
+    }
+
+    /// The last of the queue of a process, whose words are saved.
+    fn last_saved<M: Ram>(&self, ram: &M, process: Word) -> Option<Word>
+        requires saved { AreSaved (M.claims ram.now) self.now }
+        ensures last { result ≡ last_of (queue self.now (priority_of process)) }
+        ensures saved { IfSome result (λ last. has_saved (M.claims ram.now) last ≡ true) }
+    {
+        let _claims = ram;
+        self.last(process)
+    }
+
+    /// A process whose words are saved waits from now on, and none runs.
+    #[tactic(auto, using(crate::proofs::Agreeing::settles_waiting))]
+    pub fn wait(&mut self, process: Word, reason: Reason)
+        requires place { HasPlace self.old }
+        ensures done { self.new ≡ waiting_for process reason self.old }
+        ensures settles { Settles (the_workspace process) self.old self.new }
+    {
+        self.waiting.push_reserved(Waiter { process, reason });
+        self.rest();
+    }
+
+    /// A process waits no longer.
+    fn forget(&mut self, process: Word)
+        requires plain { IsPlain self.old }
+        requires waits { IsSome (reason_of self.old process) }
+        ensures done { self.new ≡ without_waiter process self.old }
+        ensures place { HasPlace self.new }
+        ensures unsettles { Unsettles (the_workspace process) self.old self.new }
+        ensures fewer { taken self.new + 1 ≡ taken self.old }
+        ensures saved { StillSaved self.old self.new }
+    {
+        self.waiting.retain(|w| w.process != process);
+    }
+}
+
+/// Lets a new process in.
+///
+/// # Errors
+/// `Unaligned`, `AlreadyLive`, `TooManyProcesses`, or the first failing check of the words below the workspace.
+#[tactic(auto, using(crate::proofs::Places::place_admitted, crate::proofs::Places::room_admitted, crate::proofs::Agreeing::agrees_but), unfolding(crate::specs::Queues::admit))]
+pub fn admit<M: Ram>(state: &State, ram: &mut M, process: Word) -> Result<(), Break>
+    requires plain { IsPlain state.now }
+    requires agrees { Agrees (M.claims ram.old) state.now }
+    ensures done { Part (admission process state.now) (M.claims ram.old) (M.cells ram.old) result (M.claims ram.new) (M.cells ram.new) }
+    ensures agrees { IfOk result (λ _. AgreesWith (the_workspace process ∷ []) (M.claims ram.new) state.now) }
+    ensures kept { OnErr result (M.claims ram.new ≡ M.claims ram.old) }
+    ensures place { IfOk result (λ _. HasPlace state.now) }
+    ensures cells { M.cells ram.new ≡ M.cells ram.old }
+{
+    let workspace = workspace_of(process);
+    require(workspace.get() % 4 == 0, Break::Unaligned)?;
+    require(!state.is_live(ram, workspace), Break::AlreadyLive)?;
+    require(state.has_room(), Break::TooManyProcesses)?;
+    ram.may_deschedule(workspace)?;
+    ram.deschedule(workspace);
+    Ok(())
+}
+
+/// Puts a process whose words are saved behind the others of its queue, and links the one before it.
+#[tactic(auto, unfolding(crate::specs::Queues::enqueue))]
+pub fn enqueue<M: Ram>(state: &mut State, ram: &mut M, process: Word)
+    requires place { HasPlace state.old }
+    requires saved { AreSaved (M.claims ram.old) state.old }
+    ensures done { Part (queueing process state.old) (M.claims ram.old) (M.cells ram.old) (Ok state.new) (M.claims ram.new) (M.cells ram.new) }
+    ensures settles { Settles (the_workspace process) state.old state.new }
+    ensures more { taken state.new ≡ taken state.old + 1 }
+    ensures claims { M.claims ram.new ≡ M.claims ram.old }
+    ensures size { length (M.cells ram.new) ≡ length (M.cells ram.old) }
+{
+    let workspace = workspace_of(process);
+    if let Some(last) = state.last_saved(ram, process) {
+        ram.set_saved_word(last, LINK_WORD, workspace);
+    }
+    state.append(workspace, if process.get() % 2 == 0 { 0 } else { 1 });
+}
+
+/// A process that waits is queued.
+#[tactic(auto, unfolding(crate::specs::Queues::release))]
+pub fn release<M: Ram>(state: &mut State, ram: &mut M, process: Word)
+    requires plain { IsPlain state.old }
+    requires waits { IsSome (reason_of state.old process) }
+    requires saved { AreSaved (M.claims ram.old) state.old }
+    ensures done { Part (releasing process state.old) (M.claims ram.old) (M.cells ram.old) (Ok state.new) (M.claims ram.new) (M.cells ram.new) }
+    ensures agrees { StillAgrees state.old state.new }
+    ensures same { taken state.new ≡ taken state.old }
+    ensures claims { M.claims ram.new ≡ M.claims ram.old }
+    ensures size { length (M.cells ram.new) ≡ length (M.cells ram.old) }
+{
+    state.forget(process);
+    enqueue(state, ram, process);
+}

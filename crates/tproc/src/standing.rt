@@ -1,0 +1,86 @@
+//! Where a process stands.
+
+ghost use Rattle.std.specs.Prelude.{◌≡◌};
+ghost use Rattle.tproc.specs.Standing.{is_live, is_queued as the_queued, reason_of as the_reason, standing as the_standing};
+ghost use Rattle.tproc.specs.Agreement.{Agrees, IsPlain};
+ghost use Rattle.tproc.specs.Requests.{standing_of};
+
+use crate::ram::Ram;
+use crate::state::{State, workspace_of};
+use crate::waiting::Reason;
+use tword::Word;
+
+/// Where a descriptor is found. One that is queued or waits comes first, since the process that runs may have moved onto its workspace.
+#[derive(Clone, Copy, Debug, PartialEq, Eq)]
+pub enum Standing {
+    /// It waits for this.
+    Waits(Reason),
+    /// It is in the queue of its priority.
+    Queued,
+    /// It is the process that runs.
+    Runs,
+    /// It is the low process that was interrupted.
+    Interrupted,
+    /// No live process has this descriptor.
+    Unknown,
+}
+
+impl State {
+    /// Whether the workspace belongs to a live process.
+    pub fn is_live<M: Ram>(&self, ram: &M, workspace: Word) -> bool
+        requires plain { IsPlain self.now }
+        requires agrees { Agrees (M.claims ram.now) self.now }
+        ensures { result ≡ is_live self.now workspace }
+    {
+        ram.has_saved(workspace)
+            || (self.current.is_some() && self.registers.wptr == workspace)
+            || match self.interrupted {
+                Some(kept) => kept.registers.wptr == workspace,
+                None => false,
+            }
+    }
+
+    /// What a process waits for.
+    pub fn reason(&self, process: Word) -> Option<Reason>
+        ensures { result ≡ the_reason self.now process }
+    {
+        self.waiting
+            .iter()
+            .find(|w| w.process == process)
+            .map(|w| w.reason)
+    }
+
+    /// Whether a process is in the queue of its priority.
+    fn is_queued(&self, process: Word) -> bool
+        ensures { result ≡ the_queued self.now process }
+    {
+        let workspace = workspace_of(process);
+        if process.get() % 2 == 0 {
+            self.high.iter().any(|w| *w == workspace)
+        } else {
+            self.low.iter().any(|w| *w == workspace)
+        }
+    }
+
+    /// Where a descriptor is found.
+    pub fn standing(&self, process: Word) -> Standing
+        requires { IsPlain self.now }
+        ensures { standing_of result ≡ the_standing self.now process }
+    {
+        if let Some(reason) = self.reason(process) {
+            return Standing::Waits(reason);
+        }
+        if self.is_queued(process) {
+            return Standing::Queued;
+        }
+        if let Some(priority) = self.current
+            && self.registers.wptr.get() + u32::from(priority) == process.get()
+        {
+            return Standing::Runs;
+        }
+        match self.interrupted {
+            Some(kept) if kept.registers.wptr.get() + 1 == process.get() => Standing::Interrupted,
+            _ => Standing::Unknown,
+        }
+    }
+}

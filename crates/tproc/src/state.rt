@@ -1,0 +1,202 @@
+//! All of a processor but its memory.
+
+ghost use Rattle.std.specs.Prelude.{◌≡◌, ◌+◌, Some, ◌<◌};
+ghost use Rattle.tproc.specs.LinkChannels.{link_end, with_link};
+ghost use Rattle.tproc.specs.Machine.{workspace_of as the_workspace};
+ghost use Rattle.tproc.specs.Queues.{at_rest, suspended, resumed};
+ghost use Rattle.tproc.specs.Scheduler.{counted, counted_by};
+ghost use Rattle.tproc.specs.Agreement.{IsPlain, IsOwn, StillAgrees, is_over};
+
+use crate::waiting::{LinkEnd, Suspended, Waiter};
+use std::collections::VecDeque;
+use std::marker::Model;
+use tcode::Operation;
+use tcpu::Registers;
+use tword::Word;
+
+/// How many processes may live.
+pub const MOST_PROCESSES: usize = 512;
+
+/// A processor without its memory. A priority is 0 where it is high and 1 where it is low, as in a descriptor's lowest bit.
+#[derive(Drop)]
+pub struct State {
+    pub registers: Registers,
+    /// The priority of the process that runs.
+    pub current: Option<u8>,
+    pub count: u32,
+    pub interrupted: Option<Suspended>,
+    pub high: VecDeque<Word>,
+    pub low: VecDeque<Word>,
+    /// The processes that wait, in the order in which they began to.
+    pub waiting: Vec<Waiter>,
+    pub links: [LinkEnd; 4],
+    pub timeslice: u32,
+    pub halted: bool,
+}
+
+impl Model for State {
+    ghost use Rattle.std.specs.Prelude.{◌≤◌, length};
+    ghost use Rattle.std.specs.Vec.{vec_capacity};
+    ghost use Rattle.std.specs.VecDeque.{deque_capacity};
+    ghost use Rattle.tproc.specs.Machine.{Control};
+
+    ghost Value = { Control };
+
+    ghost view = { λ s. record {
+      registers = s.registers;
+      current = s.current;
+      count = s.count;
+      interrupted = s.interrupted;
+      high = s.high.items;
+      low = s.low.items;
+      waiting = s.waiting.items;
+      links = s.links;
+      timeslice = s.timeslice;
+      halted = s.halted;
+    } };
+
+    ghost invariant = { λ s. (512 ≤ deque_capacity s.high) × (512 ≤ deque_capacity s.low) × (length s.high.items ≤ 512) × (length s.low.items ≤ 512) × (512 ≤ vec_capacity s.waiting) × (length s.waiting.items ≤ 512) };
+}
+
+/// The workspace of a descriptor.
+#[inline]
+pub fn workspace_of(process: Word) -> Word
+    ensures { result ≡ the_workspace process }
+{
+    Word::new(process.get() - process.get() % 2)
+}
+
+impl State {
+    /// The descriptor of the process that runs.
+    #[tactic(auto, using(crate::proofs::Agreeing::own_workspace))]
+    #[inline]
+    pub fn own(&self, priority: u8) -> Word
+        requires running { self.now.current ≡ Some priority }
+        requires plain { IsPlain self.now }
+        ensures is { result ≡ self.now.registers.wptr + priority }
+        ensures own { IsOwn result self.now }
+    {
+        Word::new(self.registers.wptr.get() + u32::from(priority))
+    }
+
+    /// The process goes on with these registers.
+    #[inline]
+    pub fn go(&mut self, registers: Registers)
+        ensures { self.new ≡ record self.old { registers = registers } }
+    {
+        self.registers = registers;
+    }
+
+    /// A process runs from its beginning on, with the flags as they are.
+    pub fn begin(&mut self, workspace: Word, iptr: Word, priority: u8)
+        ensures done { self.new ≡ record self.old { registers = record self.old.registers { a = 0; b = 0; c = 0; iptr = iptr; wptr = workspace }; current = Some priority; count = 0 } }
+        ensures agrees { StillAgrees self.old self.new }
+    {
+        let zero = Word::new(0);
+        self.registers = Registers {
+            a: zero,
+            b: zero,
+            c: zero,
+            iptr,
+            wptr: workspace,
+            ..self.registers
+        };
+        self.current = Some(priority);
+        self.count = 0;
+    }
+
+    /// The interrupted process runs again.
+    pub fn resume(&mut self, kept: &Suspended)
+        ensures done { self.new ≡ resumed kept.now self.old }
+        ensures agrees { StillAgrees self.old self.new }
+    {
+        self.registers = kept.registers;
+        self.current = Some(1);
+        self.count = kept.count;
+        self.interrupted = None;
+    }
+
+    /// The low process that runs is interrupted.
+    pub fn suspend(&mut self)
+        ensures done { self.new ≡ suspended self.old }
+        ensures agrees { StillAgrees self.old self.new }
+    {
+        self.interrupted = Some(Suspended {
+            registers: self.registers,
+            count: self.count,
+        });
+    }
+
+    /// No process runs any more.
+    pub fn rest(&mut self)
+        ensures done { self.new ≡ at_rest self.old }
+        ensures agrees { StillAgrees self.old self.new }
+    {
+        let zero = Word::new(0);
+        self.registers = Registers {
+            a: zero,
+            b: zero,
+            c: zero,
+            iptr: zero,
+            wptr: zero,
+            ..self.registers
+        };
+        self.current = None;
+        self.count = 0;
+    }
+
+    /// Registers and count are set back.
+    pub fn take_back(&mut self, registers: Registers, count: u32)
+        ensures { self.new ≡ record self.old { registers = registers; count = count } }
+    {
+        self.registers = registers;
+        self.count = count;
+    }
+
+    /// A link.
+    #[inline]
+    pub fn link(&self, link: u8) -> LinkEnd
+        requires { link < 4 }
+        ensures { result ≡ link_end self.now link }
+    {
+        self.links[usize::from(link)]
+    }
+
+    /// A link is set.
+    pub fn set_link(&mut self, link: u8, end: LinkEnd)
+        requires { link < 4 }
+        ensures { self.new ≡ with_link link end self.old }
+    {
+        self.links[usize::from(link)] = end;
+    }
+
+    /// The count of a low process rises, up to the timeslice.
+    #[inline]
+    pub fn count_one(&mut self, priority: u8)
+        ensures { self.new ≡ counted priority self.old }
+    {
+        if priority != 0 {
+            self.count = u32::min(self.count.saturating_add(1), self.timeslice);
+        }
+    }
+
+    /// The count after an operation of the scheduler.
+    pub fn count_by(&mut self, operation: Operation, priority: u8)
+        ensures { self.new ≡ counted_by operation priority self.old }
+    {
+        match operation {
+            Operation::Endp => {}
+            _ => self.count_one(priority),
+        }
+    }
+
+    /// Whether the timeslice of a process is over, once this jump is counted, and another low one is queued.
+    #[inline]
+    pub fn will_be_over(&self, priority: u8) -> bool
+        ensures { result ≡ is_over priority (counted priority self.now) }
+    {
+        priority != 0
+            && self.timeslice <= u32::min(self.count.saturating_add(1), self.timeslice)
+            && self.low.len() > 0
+    }
+}
