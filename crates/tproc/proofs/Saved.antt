@@ -66,3 +66,15 @@ waiter_saved c m p h e =
 -- and one that is queued
 pub queued_saved : (c : Claims) (m : Control) (p : ℕ) → AreSaved c m → is_queued m p ≡ true → has_saved c (workspace_of p) ≡ true
 queued_saved c m p h e = h (workspace_of p) (in_queue m (priority_of p) (workspace_of p) e)
+
+pub saved_beside : (w v : ℕ) (c : Claims) → has_saved c v ≡ true → has_saved (saving w c) v ≡ true
+saved_beside w v c e = or_right (w == v) _ e
+
+pub are_saved_beside : (w : ℕ) (c d : Claims) (m : Control) → Agrees c m → d ≡ saving w c → AreSaved d m
+are_saved_beside w c d m h e = rw e (are_saved-saving w c m (are_saved [] c m h))
+
+pub waiter_saved_now : (c : Claims) (m : Control) (p : ℕ) → Agrees c m → IsSome (reason_of m p) → has_saved c (workspace_of p) ≡ true
+waiter_saved_now c m p h e = waiter_saved c m p (are_saved [] c m h) e
+
+pub queued_saved_now : (c : Claims) (m : Control) (p : ℕ) → Agrees c m → is_queued m p ≡ true → has_saved c (workspace_of p) ≡ true
+queued_saved_now c m p h e = queued_saved c m p (are_saved [] c m h) e

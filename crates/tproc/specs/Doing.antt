@@ -1,10 +1,10 @@
 -- What a part of the code does, said of the action whose part it is.
-use Rattle.std.specs.Prelude.{◌≡◌, ℕ, Bool, true, false, length, Option, Some, None, Result, Ok, Err, IfErr}
+use Rattle.std.specs.Prelude.{◌≡◌, ℕ, Bool, true, false, length, Option, Some, None, Result, Ok, Err}
 use Rattle.tword.specs.declared.breaks.Break.{Break}
 use Rattle.tword.specs.Words.{plus}
 use Rattle.tword.specs.Stores.{Store, with_word}
 use Rattle.tword.specs.Claims.{Claims}
-use Rattle.tword.specs.Actions.{Action, run_from, ◌>>=◌}
+use Rattle.tword.specs.Actions.{Action, answer, run_from, ◌>>=◌}
 use Rattle.tcode.specs.declared.instruction.Instruction.{Instruction}
 use Rattle.tcpu.specs.declared.registers.Registers.{Registers}
 use Rattle.tcpu.specs.declared.registers.Next.{Next}
@@ -13,6 +13,7 @@ use Rattle.tcpu.specs.Outcomes.{Outcome}
 use Rattle.tcpu.specs.Local.{is_jump}
 use Rattle.tcpu.specs.Effects.{effect}
 use Rattle.tproc.specs.declared.offer.Ran.{Ran}
+use Rattle.tproc.specs.declared.offer.Ran.TheVariants as ran
 use Rattle.tproc.specs.Machine.{Control, Machine}
 use Rattle.tproc.specs.Channels.{StepAction}
 use Rattle.tproc.specs.Steps.{after, step, step_left_by, step_answered}
@@ -22,10 +23,9 @@ abbrev pub Does : {A : Type 0} → Result ((Control × A) × Store) Break → Co
 Does (Ok ((m, x), s)) old cells result new cells' = (result ≡ Ok x) × (new ≡ m) × (cells' ≡ s)
 Does (Err b) old cells result new cells' = (result ≡ Err b) × (new ≡ old) × (cells' ≡ cells)
 
--- an action is done, or where it would break a rule nothing is
-abbrev pub DoesOrNot : Result (Control × Store) Break → Control → Store → Control → Store → Type 0
-DoesOrNot (Ok (m, s)) old cells new cells' = (new ≡ m) × (cells' ≡ s)
-DoesOrNot (Err b) old cells new cells' = (new ≡ old) × (cells' ≡ cells)
+-- an action of the control alone, as a step
+abbrev pub as_step : Action Control → StepAction
+as_step x = x >>= (λ m. answer (m, ran.Instruction))
 
 -- what follows a part of an action: the rest from where the part ended, or the part's break
 abbrev pub onward : {A B : Type 0} → Result A Break → (A → Result B Break) → Result B Break
@@ -38,10 +38,21 @@ Part {A} x claims cells result claims' cells' =
     (f : A → StepAction) (old : Store) → length old ≡ length cells
     → run_from (x >>= f) old claims cells ≡ onward result (λ a. run_from (f a) old claims' cells')
 
+-- the same, where the row has first laid a word down. from: the store with it
+abbrev pub PartFrom : {A : Type 0} → Action A → Claims → Store → Store → Result A Break → Claims → Store → Type 0
+PartFrom {A} x claims cells from result claims' cells' =
+    (f : A → StepAction) (old : Store) → length old ≡ length cells
+    → run_from (x >>= f) old claims from ≡ onward result (λ a. run_from (f a) old claims' cells')
+
 -- the part of an action breaks a rule, whatever the step has changed so far and whatever follows
 abbrev pub Refuses : {A : Type 0} → Action A → Claims → Store → Break → Type 0
 Refuses {A} x claims cells b =
     (f : A → StepAction) (old new : Store) → length old ≡ length cells → run_from (x >>= f) old claims new ≡ Err b
+
+-- and so does one that comes right after a part
+abbrev pub RefusesAfter : {A B : Type 0} → Action A → Action B → Claims → Store → Break → Type 0
+RefusesAfter {A} {B} x y claims cells b =
+    (f : B → StepAction) (old new : Store) → length old ≡ length cells → run_from (x >>= (λ _. y >>= f)) old claims new ≡ Err b
 
 -- the first part of a step is done, which may read the store: the rest goes on from the same claims and this store; or its break is named
 abbrev pub Begins : {A : Type 0} → Action A → Claims → Store → Result A Break → Store → Type 0
@@ -60,6 +71,11 @@ Foresees x claims cells r (Ok false) = Unit {0}
 Foresees x claims cells r (Ok true) =
     (r' : Registers) × (s : Store) × (r'.wptr ≡ r.wptr)
     × ((f : Outcome → StepAction) → run_from (x >>= f) cells claims cells ≡ run_from (f (r', Jumped)) cells claims s)
+
+-- what a call answered, with the control that it left
+abbrev pub with_control : Result (Unit {0}) Break → Control → Result Control Break
+with_control (Ok u) m = Ok m
+with_control (Err b) m = Err b
 
 -- the effect of an instruction of the current process, and what follows it
 abbrev pub rest_of : Instruction → ℕ → Control → StepAction

@@ -1,10 +1,15 @@
 -- Requests, and where a process stands, as the machine sees them.
-use Rattle.std.specs.Prelude.{◌≡◌, ℕ, Bool, ◌||◌, ◌==◌, None}
+use Rattle.std.specs.Prelude.{◌≡◌, ℕ, Bool, ◌||◌, ◌==◌, Option, Some, None}
+use Rattle.tword.specs.declared.breaks.Break.{Break}
+use Rattle.tword.specs.declared.breaks.Break.TheVariants.{Unaligned, WrongEnd}
 use Rattle.tword.specs.Words.{word_below}
 use Rattle.tword.specs.Claims.{Claims, saving}
-use Rattle.tword.specs.Touches.{Writes, span_break, word_break, deschedule_break}
+use Rattle.tword.specs.Touches.{Writes, is_aligned, first_break, span_break, word_break, deschedule_break}
+use Rattle.tword.specs.Actions.{unmet}
 use Rattle.tproc.specs.Channels as channels
+use Rattle.tproc.specs.LinkChannels.{is_right_end}
 use Rattle.tproc.specs.Standing as standing
+use Rattle.tproc.specs.declared.waiting.Reason.{Reason}
 use Rattle.tproc.specs.declared.channels.Side.{Side}
 use Rattle.tproc.specs.declared.channels.Side.TheVariants as side
 use Rattle.tproc.specs.declared.channels.Request.{Request}
@@ -37,3 +42,17 @@ pub record MayLeave (size : ℕ) (claims : Claims) (workspace : ℕ) (q : channe
 -- the address is that of a saved word of the workspace
 abbrev pub is_own_word : (workspace address : ℕ) → Bool
 is_own_word w address = (address == word_below w 1) || (address == word_below w 2) || (address == word_below w 3)
+
+-- what a process waits for that stands so
+abbrev pub reason_in : Standing → Option Reason
+reason_in (stands.Waits reason) = Some reason
+reason_in _ = None
+
+-- a process that stands so is queued, if that is said
+abbrev pub IfQueued : Standing → Type 0 → Type 0
+IfQueued stands.Queued fact = fact
+IfQueued _ fact = Unit {0}
+
+-- the break of a link channel that is not aligned, or the wrong end
+abbrev pub end_break : channels.Side → ℕ → Option Break
+end_break side channel = first_break (unmet (is_aligned channel) Unaligned) (unmet (is_right_end side channel) WrongEnd)

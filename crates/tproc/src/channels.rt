@@ -1,23 +1,19 @@
 //! Messages on internal channels: each is one step, at the arrival of the second process.
 
-ghost use Rattle.std.specs.Prelude.{◌≡◌, ◌<◌, ◌∷◌, Ok, Some, None, true, IfErr, IfSome, IsSome, OnOk, length};
+ghost use Rattle.std.specs.Prelude.{◌≡◌, ◌<◌, ◌∷◌, ℕ, Ok, Some, None, true, IfErr, IfSome, OnOk, length};
 ghost use Rattle.tword.specs.Claims.{has_saved, saving};
 ghost use Rattle.tword.specs.Actions.{run_from};
-ghost use Rattle.tword.specs.Touches.{Reads, Writes, word_break, span_break};
+ghost use Rattle.tword.specs.Touches.{Writes, word_break};
 ghost use Rattle.tword.specs.Words.{word_below};
-ghost use Rattle.tproc.specs.Machine.{workspace_of as the_workspace};
-ghost use Rattle.tproc.specs.Standing.{reason_of, standing as the_standing, Waits, Queued, Interrupted};
-ghost use Rattle.tproc.specs.Queues.{waiting_for};
-ghost use Rattle.tproc.specs.Channels.{mode_of, own_side, reason_for, set_touched_word, waits_on_channel, exchanged, input_meets, output_meets, internal_message, is_choosing as choosing, touch_buffer};
-ghost use Rattle.tproc.specs.Agreement.{Agrees, AgreesWith, HasPlace, IsOwn, IsPlain};
-ghost use Rattle.tproc.specs.Doing.{Does, Part, Refuses, laid};
-ghost use Rattle.tproc.specs.Requests.{request, side_of, MayLeave, is_own_word};
+ghost use Rattle.tproc.specs.Channels.{own_side, reason_for, waits_on_channel, is_choosing as choosing};
+ghost use Rattle.tproc.specs.Agreement.{Agrees, IsOwn, IsPlain};
+ghost use Rattle.tproc.specs.Doing.{Does, PartFrom, Refuses, laid};
+ghost use Rattle.tproc.specs.Requests.{request, MayLeave};
 
 use crate::offer::Ran;
-use crate::queues::{IPTR_WORD, LINK_WORD, STATE_WORD, release, require};
+use crate::queues::{IPTR_WORD, STATE_WORD, wait};
 use crate::ram::Ram;
-use crate::standing::Standing;
-use crate::state::{State, workspace_of};
+use crate::state::State;
 use crate::waiting::Reason;
 use tcpu::Registers;
 use tword::{Break, Word};
@@ -58,7 +54,7 @@ pub struct Request {
 
 impl Request {
     /// What the process then waits for.
-    fn reason(&self) -> Reason
+    pub fn reason(&self) -> Reason
         ensures { result ≡ reason_for (request self.now) (request self.now).side }
     {
         match self.side {
@@ -106,7 +102,7 @@ pub fn lay<M: Ram>(ram: &mut M, workspace: Word, first: Option<Word>)
 
 /// The checks of a process that leaves its side of a message at a channel and waits.
 #[tactic(auto, unfolding(crate::specs::Channels::own_side))]
-fn may_leave<M: Ram>(state: &State, ram: &M, q: &Request) -> Result<(), Break>
+pub fn may_leave<M: Ram>(state: &State, ram: &M, q: &Request) -> Result<(), Break>
     ensures refused { IfErr result (λ b. Refuses (own_side (request q.now) state.now) (M.claims ram.now) (M.cells ram.now) b) }
     ensures free { OnOk result (MayLeave (length (M.cells ram.now)) (M.claims ram.now) state.now.registers.wptr (request q.now)) }
 {
@@ -120,15 +116,18 @@ fn may_leave<M: Ram>(state: &State, ram: &M, q: &Request) -> Result<(), Break>
 }
 
 /// The first of two processes leaves its descriptor in the channel and its buffer in its workspace.
-#[tactic(auto, using(crate::proofs::Agreeing::saved_itself), unfolding(crate::specs::Channels::own_side))]
-fn leave<M: Ram>(state: &State, ram: &mut M, q: &Request)
+#[tactic(auto, using(crate::proofs::Agreeing::saved_itself, crate::proofs::Saved::saved_beside), unfolding(crate::specs::Channels::own_side))]
+pub fn leave<M: Ram>(state: &State, ram: &mut M, q: &Request)
+    requires first { IfSome q.now.first (λ _. word_break (length (M.cells ram.old)) (M.claims ram.old) Writes state.now.registers.wptr ≡ None) }
     requires free { MayLeave (length (M.cells ram.old)) (M.claims ram.old) state.now.registers.wptr (request q.now) }
     requires room { length (M.claims ram.old).saved < 512 }
-    ensures done { Part (own_side (request q.now) state.now) (M.claims ram.old) (M.cells ram.old) (Ok tt) (M.claims ram.new) (M.cells ram.new) }
+    ensures done { PartFrom (own_side (request q.now) state.now) (M.claims ram.old) (M.cells ram.old) (laid q.now.first state.now.registers.wptr (M.cells ram.old)) (Ok tt) (M.claims ram.new) (M.cells ram.new) }
     ensures claims { M.claims ram.new ≡ saving state.now.registers.wptr (M.claims ram.old) }
+    ensures keeps { (v : ℕ) → has_saved (M.claims ram.old) v ≡ true → has_saved (M.claims ram.new) v ≡ true }
     ensures size { length (M.cells ram.new) ≡ length (M.cells ram.old) }
 {
     let own = state.registers.wptr;
+    lay(ram, own, q.first);
     ram.deschedule(own);
     ram.set_word(q.channel, q.process);
     ram.set_saved_word(own, STATE_WORD, q.buffer);
@@ -137,7 +136,7 @@ fn leave<M: Ram>(state: &State, ram: &mut M, q: &Request)
 
 /// The first of two processes waits on the channel.
 #[tactic(auto, using(crate::proofs::Places::place_own, crate::proofs::Places::room_own, crate::proofs::Agreeing::agrees_but))]
-fn wait_on_channel<M: Ram>(state: &mut State, ram: &mut M, q: &Request) -> Result<Ran, Break>
+pub fn wait_on_channel<M: Ram>(state: &mut State, ram: &mut M, q: &Request) -> Result<Ran, Break>
     requires own { IsOwn q.now.process state.old }
     requires plain { IsPlain state.old }
     requires agrees { Agrees (M.claims ram.old) state.old }
@@ -146,8 +145,7 @@ fn wait_on_channel<M: Ram>(state: &mut State, ram: &mut M, q: &Request) -> Resul
     ensures agrees { Agrees (M.claims ram.new) state.new }
 {
     may_leave(state, ram, q)?;
-    lay(ram, state.registers.wptr, q.first);
     leave(state, ram, q);
-    state.wait(q.process, q.reason());
+    wait(state, ram, q.process, q.reason());
     Ok(Ran::Instruction)
 }

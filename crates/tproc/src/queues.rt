@@ -102,7 +102,7 @@ impl State {
 
     /// A process whose words are saved waits from now on, and none runs.
     #[tactic(auto, using(crate::proofs::Agreeing::settles_waiting))]
-    pub fn wait(&mut self, process: Word, reason: Reason)
+    fn begin_waiting(&mut self, process: Word, reason: Reason)
         requires place { HasPlace self.old }
         ensures done { self.new ≡ waiting_for process reason self.old }
         ensures settles { Settles (the_workspace process) self.old self.new }
@@ -164,6 +164,17 @@ pub fn enqueue<M: Ram>(state: &mut State, ram: &mut M, process: Word)
         ram.set_saved_word(last, LINK_WORD, workspace);
     }
     state.append(workspace, if process.get() % 2 == 0 { 0 } else { 1 });
+}
+
+/// A process whose words are saved waits from now on, and none runs.
+pub fn wait<M: Ram>(state: &mut State, ram: &M, process: Word, reason: Reason)
+    requires place { HasPlace state.old }
+    requires agrees { AgreesWith (the_workspace process ∷ []) (M.claims ram.now) state.old }
+    ensures done { state.new ≡ waiting_for process reason state.old }
+    ensures agrees { Agrees (M.claims ram.now) state.new }
+{
+    let _claims = ram;
+    state.begin_waiting(process, reason);
 }
 
 /// A process that waits is queued.

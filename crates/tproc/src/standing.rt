@@ -1,9 +1,10 @@
 //! Where a process stands.
 
-ghost use Rattle.std.specs.Prelude.{◌≡◌};
+ghost use Rattle.std.specs.Prelude.{◌≡◌, true};
 ghost use Rattle.tproc.specs.Standing.{is_live, is_queued as the_queued, reason_of as the_reason, standing as the_standing};
+ghost use Rattle.tproc.specs.LinkChannels.{is_running};
 ghost use Rattle.tproc.specs.Agreement.{Agrees, IsPlain};
-ghost use Rattle.tproc.specs.Requests.{standing_of};
+ghost use Rattle.tproc.specs.Requests.{standing_of, reason_in, IfQueued};
 
 use crate::ram::Ram;
 use crate::state::{State, workspace_of};
@@ -65,7 +66,9 @@ impl State {
     /// Where a descriptor is found.
     pub fn standing(&self, process: Word) -> Standing
         requires { IsPlain self.now }
-        ensures { standing_of result ≡ the_standing self.now process }
+        ensures stands { standing_of result ≡ the_standing self.now process }
+        ensures waits { the_reason self.now process ≡ reason_in result }
+        ensures queued { IfQueued result (the_queued self.now process ≡ true) }
     {
         if let Some(reason) = self.reason(process) {
             return Standing::Waits(reason);
@@ -81,6 +84,17 @@ impl State {
         match self.interrupted {
             Some(kept) if kept.registers.wptr.get() + 1 == process.get() => Standing::Interrupted,
             _ => Standing::Unknown,
+        }
+    }
+
+    /// Whether a descriptor is found as the process that runs.
+    pub fn runs(&self, process: Word) -> bool
+        requires { IsPlain self.now }
+        ensures { result ≡ is_running (the_standing self.now process) }
+    {
+        match &self.standing(process) {
+            Standing::Runs => true,
+            _ => false,
         }
     }
 }

@@ -82,7 +82,8 @@ impl State {
     /// The process goes on with these registers.
     #[inline]
     pub fn go(&mut self, registers: Registers)
-        ensures { self.new ≡ record self.old { registers = registers } }
+        ensures done { self.new ≡ record self.old { registers = registers } }
+        ensures agrees { StillAgrees self.old self.new }
     {
         self.registers = registers;
     }

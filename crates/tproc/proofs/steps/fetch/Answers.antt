@@ -1,0 +1,5 @@
+use Rattle.tproc.proofs.Quiet.{begins_decode}
+use Rattle.tproc.proofs.steps.fetch.Goals as goal
+
+pub returns : goal.returns
+returns g c = begins_decode _ _ _ _ c.decode.ensures

@@ -1,0 +1,329 @@
+//! Alternatives: enabling, waiting and disabling.
+
+ghost use Rattle.std.specs.Prelude.{◌≡◌, ◌∷◌, Some, None, Ok, true, IfOk, IfErr, OnOk, OnErr, length};
+ghost use Rattle.tword.specs.Actions.{run, run_from, or_break};
+ghost use Rattle.tword.specs.Touches.{Writes, word_break, first_break};
+ghost use Rattle.tword.specs.Words.{word_below};
+ghost use Rattle.tword.specs.Stores.{word_at};
+ghost use Rattle.tproc.specs.Standing.{standing};
+ghost use Rattle.tproc.specs.LinkChannels.{is_link as names_link};
+ghost use Rattle.tproc.specs.Alternatives.{begins_choice, enable as enabling, enable_internal as enabling_internal, enables_channel, enables_skip, awaits_choice, disable as disabling, disable_internal as disabling_internal, disables_channel, disables_skip, selects, ends_choice};
+ghost use Rattle.tproc.specs.Agreement.{Agrees, AgreesWith, IsOwn, IsPlain, StillAgrees};
+ghost use Rattle.tproc.specs.Doing.{Begins, Does, with_control};
+ghost use Rattle.tproc.specs.Guards.{Disables, MayDisable, control_after, store_after, ready_as};
+
+use crate::channels::{ENABLING, NOT_PROCESS, READY, Side, WAITING, below, is_choosing};
+use crate::link_channels::{is_link, link_at};
+use crate::offer::Ran;
+use crate::queues::{IPTR_WORD, STATE_WORD, require, wait};
+use crate::ram::Ram;
+use crate::standing::Standing;
+use crate::state::State;
+use crate::waiting::{LinkEnd, Reason};
+use tcpu::Registers;
+use tword::{Break, Word};
+
+/// The offset of no guard.
+const NONE_SELECTED: u32 = 0xffff_ffff;
+
+/// An alternative begins.
+pub fn begin_choice<M: Ram>(state: &mut State, ram: &mut M) -> Result<Ran, Break>
+    requires agrees { Agrees (M.claims ram.old) state.old }
+    ensures done { Does (run (begins_choice state.old) (M.cells ram.old) (M.claims ram.old)) state.old (M.cells ram.old) result state.new (M.cells ram.new) }
+    ensures agrees { Agrees (M.claims ram.new) state.new }
+{
+    ram.write_word(
+        below(state.registers.wptr, STATE_WORD),
+        Word::new(ENABLING),
+    )?;
+    Ok(Ran::Instruction)
+}
+
+/// A link channel is enabled: a byte waits already, or its coming is remembered.
+fn enable_link<M: Ram>(state: &mut State, ram: &mut M, process: Word, channel: Word) -> Result<(), Break>
+    requires link { names_link channel ≡ true }
+    requires plain { IsPlain state.old }
+    requires touched { word_break (length (M.cells ram.old)) (M.claims ram.old) Writes (word_below state.old.registers.wptr 3) ≡ None }
+    ensures done { Begins (enabling channel process state.old) (M.claims ram.old) (M.cells ram.old) (with_control result state.new) (M.cells ram.new) }
+    ensures kept { OnErr result ((M.cells ram.new ≡ M.cells ram.old) × (state.new ≡ state.old)) }
+    ensures claims { M.claims ram.new ≡ M.claims ram.old }
+    ensures agrees { StillAgrees state.old state.new }
+{
+    let link = link_at(Side::Input, channel)?;
+    require(state.is_free(Side::Input, link), Break::LinkBusy)?;
+    let end = state.link(link);
+    if end.noticed {
+        ram.set_word(
+            below(state.registers.wptr, STATE_WORD),
+            Word::new(READY),
+        );
+    } else {
+        state.set_link(
+            link,
+            LinkEnd {
+                remembered: Some(process),
+                ..end
+            },
+        );
+    }
+    Ok(())
+}
+
+/// An internal channel is enabled: its word names the process, or a process waits there already to output.
+fn enable_internal<M: Ram>(state: &State, ram: &mut M, process: Word, channel: Word) -> Result<(), Break>
+    requires plain { IsPlain state.now }
+    requires touched { word_break (length (M.cells ram.old)) (M.claims ram.old) Writes (word_below state.now.registers.wptr 3) ≡ None }
+    ensures done { Begins (enabling_internal channel process state.now) (M.claims ram.old) (M.cells ram.old) (with_control result state.now) (M.cells ram.new) }
+    ensures kept { OnErr result (M.cells ram.new ≡ M.cells ram.old) }
+    ensures claims { M.claims ram.new ≡ M.claims ram.old }
+{
+    let found = ram.take_word(channel)?;
+    if found.get() == NOT_PROCESS {
+        ram.set_word(channel, process);
+        return Ok(());
+    }
+    match &state.standing(found) {
+        Standing::Waits(Reason::Sends { channel: other, .. }) => {
+            require(*other == channel, Break::ChannelMisuse)?;
+            ram.set_word(
+                below(state.registers.wptr, STATE_WORD),
+                Word::new(READY),
+            );
+            Ok(())
+        }
+        Standing::Runs => Ok(()),
+        _ => Err(Break::ChannelMisuse),
+    }
+}
+
+/// A channel is enabled.
+fn enable<M: Ram>(state: &mut State, ram: &mut M, process: Word, channel: Word) -> Result<(), Break>
+    requires plain { IsPlain state.old }
+    requires touched { word_break (length (M.cells ram.old)) (M.claims ram.old) Writes (word_below state.old.registers.wptr 3) ≡ None }
+    ensures done { Begins (enabling channel process state.old) (M.claims ram.old) (M.cells ram.old) (with_control result state.new) (M.cells ram.new) }
+    ensures kept { OnErr result ((M.cells ram.new ≡ M.cells ram.old) × (state.new ≡ state.old)) }
+    ensures claims { M.claims ram.new ≡ M.claims ram.old }
+    ensures agrees { StillAgrees state.old state.new }
+{
+    if is_link(channel) {
+        enable_link(state, ram, process, channel)
+    } else {
+        enable_internal(state, ram, process, channel)
+    }
+}
+
+/// A guard on a channel is enabled, and kept.
+pub fn enable_channel<M: Ram>(state: &mut State, ram: &mut M, process: Word) -> Result<Ran, Break>
+    requires plain { IsPlain state.old }
+    requires agrees { Agrees (M.claims ram.old) state.old }
+    ensures done { Does (run (enables_channel process state.old) (M.cells ram.old) (M.claims ram.old)) state.old (M.cells ram.old) result state.new (M.cells ram.new) }
+    ensures agrees { Agrees (M.claims ram.new) state.new }
+{
+    let r = state.registers;
+    let chosen = ram.take_word(below(state.registers.wptr, STATE_WORD))?;
+    require(is_choosing(chosen), Break::ChannelMisuse)?;
+    if r.a.get() != 0 {
+        enable(state, ram, process, r.b)?;
+    }
+    state.go(Registers { b: r.c, ..r });
+    Ok(Ran::Instruction)
+}
+
+/// A guard without a channel is enabled.
+pub fn enable_skip<M: Ram>(state: &mut State, ram: &mut M) -> Result<Ran, Break>
+    requires agrees { Agrees (M.claims ram.old) state.old }
+    ensures done { Does (run (enables_skip state.old) (M.cells ram.old) (M.claims ram.old)) state.old (M.cells ram.old) result state.new (M.cells ram.new) }
+    ensures agrees { Agrees (M.claims ram.new) state.new }
+{
+    let chosen = ram.take_word(below(state.registers.wptr, STATE_WORD))?;
+    require(is_choosing(chosen), Break::ChannelMisuse)?;
+    if state.registers.a.get() != 0 {
+        ram.set_word(
+            below(state.registers.wptr, STATE_WORD),
+            Word::new(READY),
+        );
+    }
+    Ok(Ran::Instruction)
+}
+
+/// A process waits for a guard of its alternative, or goes on where one is ready.
+#[tactic(auto, using(crate::proofs::Places::place_own, crate::proofs::Places::room_own, crate::proofs::Agreeing::agrees_but, crate::proofs::Agreeing::saved_itself))]
+pub fn await_choice<M: Ram>(state: &mut State, ram: &mut M, process: Word) -> Result<Ran, Break>
+    requires own { IsOwn process state.old }
+    requires plain { IsPlain state.old }
+    requires agrees { Agrees (M.claims ram.old) state.old }
+    ensures done { Does (run (awaits_choice process state.old) (M.cells ram.old) (M.claims ram.old)) state.old (M.cells ram.old) result state.new (M.cells ram.new) }
+    ensures agrees { Agrees (M.claims ram.new) state.new }
+{
+    let r = state.registers;
+    ram.may_write_word(r.wptr)?;
+    let chosen = ram.take_word(below(r.wptr, STATE_WORD))?;
+    require(is_choosing(chosen), Break::ChannelMisuse)?;
+    if chosen.get() == READY {
+        ram.set_word(r.wptr, Word::new(NONE_SELECTED));
+        return Ok(Ran::Instruction);
+    }
+    ram.may_deschedule(r.wptr)?;
+    ram.set_word(r.wptr, Word::new(NONE_SELECTED));
+    ram.deschedule(r.wptr);
+    ram.set_saved_word(r.wptr, STATE_WORD, Word::new(WAITING));
+    ram.set_saved_word(r.wptr, IPTR_WORD, r.iptr);
+    wait(state, ram, process, Reason::Chooses);
+    Ok(Ran::Instruction)
+}
+
+/// What a guard shows when it is disabled.
+#[derive(Clone, Copy, Debug, PartialEq, Eq)]
+pub enum Guard {
+    /// A link, which forgets the process. The guard is ready where a byte was noticed.
+    Link(u8, bool),
+    /// An internal channel that still names the process, and so is not ready.
+    Enabled(Word),
+    Ready,
+    NotReady,
+}
+
+/// The guard of a link channel.
+fn link_guard<M: Ram>(state: &State, ram: &M, channel: Word) -> Result<Guard, Break>
+    requires link { names_link channel ≡ true }
+    requires plain { IsPlain state.now }
+    ensures done { Disables (disabling channel state.now) (M.claims ram.now) (M.cells ram.now) state.now result }
+    ensures may { IfOk result (λ g. MayDisable (length (M.cells ram.now)) (M.claims ram.now) g) }
+{
+    let _claims = ram;
+    let link = link_at(Side::Input, channel)?;
+    require(state.is_free(Side::Input, link), Break::LinkBusy)?;
+    Ok(Guard::Link(link, state.link(link).noticed))
+}
+
+/// The guard of an internal channel.
+fn internal_guard<M: Ram>(state: &State, ram: &M, channel: Word) -> Result<Guard, Break>
+    requires plain { IsPlain state.now }
+    ensures done { Disables (disabling_internal channel state.now) (M.claims ram.now) (M.cells ram.now) state.now result }
+    ensures may { IfOk result (λ g. MayDisable (length (M.cells ram.now)) (M.claims ram.now) g) }
+{
+    let found = ram.take_word(channel)?;
+    if found.get() == NOT_PROCESS {
+        return Ok(Guard::NotReady);
+    }
+    match &state.standing(found) {
+        Standing::Waits(Reason::Sends { channel: other, .. }) => {
+            require(*other == channel, Break::ChannelMisuse)?;
+            Ok(Guard::Ready)
+        }
+        Standing::Runs => Ok(Guard::Enabled(channel)),
+        _ => Err(Break::ChannelMisuse),
+    }
+}
+
+/// The guard of a channel.
+fn channel_guard<M: Ram>(state: &State, ram: &M, channel: Word) -> Result<Guard, Break>
+    requires plain { IsPlain state.now }
+    ensures done { Disables (disabling channel state.now) (M.claims ram.now) (M.cells ram.now) state.now result }
+    ensures may { IfOk result (λ g. MayDisable (length (M.cells ram.now)) (M.claims ram.now) g) }
+{
+    if is_link(channel) {
+        link_guard(state, ram, channel)
+    } else {
+        internal_guard(state, ram, channel)
+    }
+}
+
+/// A guard is disabled.
+fn disable<M: Ram>(state: &mut State, ram: &mut M, guard: &Guard)
+    requires may { MayDisable (length (M.cells ram.old)) (M.claims ram.old) guard.now }
+    ensures control { state.new ≡ control_after guard.now state.old }
+    ensures cells { M.cells ram.new ≡ store_after guard.now (M.cells ram.old) }
+    ensures size { length (M.cells ram.new) ≡ length (M.cells ram.old) }
+    ensures claims { M.claims ram.new ≡ M.claims ram.old }
+    ensures agrees { StillAgrees state.old state.new }
+{
+    match guard {
+        Guard::Link(link, _) => {
+            let end = state.link(*link);
+            state.set_link(
+                *link,
+                LinkEnd {
+                    remembered: None,
+                    ..end
+                },
+            );
+        }
+        Guard::Enabled(channel) => ram.set_word(*channel, Word::new(NOT_PROCESS)),
+        Guard::Ready | Guard::NotReady => {}
+    }
+}
+
+/// Whether a guard is ready.
+fn is_ready(guard: &Guard) -> bool
+    ensures { result ≡ ready_as guard.now }
+{
+    match guard {
+        Guard::Link(_, noticed) => *noticed,
+        Guard::Ready => true,
+        Guard::Enabled(_) | Guard::NotReady => false,
+    }
+}
+
+/// A guard is disabled, and selected where it is ready and none was before it.
+fn select<M: Ram>(state: &mut State, ram: &mut M, guard: &Guard) -> Result<Ran, Break>
+    requires agrees { Agrees (M.claims ram.old) state.old }
+    requires may { MayDisable (length (M.cells ram.old)) (M.claims ram.old) guard.now }
+    ensures done { Does (run_from (selects state.old.registers.a (ready_as guard.now) (control_after guard.now state.old)) (M.cells ram.old) (M.claims ram.old) (store_after guard.now (M.cells ram.old))) state.old (M.cells ram.old) result state.new (M.cells ram.new) }
+    ensures agrees { Agrees (M.claims ram.new) state.new }
+{
+    let r = state.registers;
+    let selected = ram.take_word(r.wptr)?;
+    let chosen = is_ready(guard) && selected.get() == NONE_SELECTED;
+    disable(state, ram, guard);
+    if chosen {
+        ram.set_word(r.wptr, r.a);
+    }
+    state.go(Registers {
+        a: Word::new(u32::from(chosen)),
+        b: r.c,
+        ..r
+    });
+    Ok(Ran::Instruction)
+}
+
+/// A guard on a channel is disabled.
+pub fn disable_channel<M: Ram>(state: &mut State, ram: &mut M) -> Result<Ran, Break>
+    requires plain { IsPlain state.old }
+    requires agrees { Agrees (M.claims ram.old) state.old }
+    ensures done { Does (run (disables_channel state.old) (M.cells ram.old) (M.claims ram.old)) state.old (M.cells ram.old) result state.new (M.cells ram.new) }
+    ensures agrees { Agrees (M.claims ram.new) state.new }
+{
+    if state.registers.b.get() == 0 {
+        return select(state, ram, &Guard::NotReady);
+    }
+    let guard = channel_guard(state, ram, state.registers.c)?;
+    select(state, ram, &guard)
+}
+
+/// A guard without a channel is disabled.
+pub fn disable_skip<M: Ram>(state: &mut State, ram: &mut M) -> Result<Ran, Break>
+    requires agrees { Agrees (M.claims ram.old) state.old }
+    ensures done { Does (run (disables_skip state.old) (M.cells ram.old) (M.claims ram.old)) state.old (M.cells ram.old) result state.new (M.cells ram.new) }
+    ensures agrees { Agrees (M.claims ram.new) state.new }
+{
+    if state.registers.b.get() == 0 {
+        select(state, ram, &Guard::NotReady)
+    } else {
+        select(state, ram, &Guard::Ready)
+    }
+}
+
+/// The branch of the guard that was selected follows.
+pub fn end_choice<M: Ram>(state: &mut State, ram: &M) -> Result<Ran, Break>
+    ensures done { Does (run (ends_choice state.old) (M.cells ram.now) (M.claims ram.now)) state.old (M.cells ram.now) result state.new (M.cells ram.now) }
+    ensures agrees { StillAgrees state.old state.new }
+{
+    let r = state.registers;
+    let offset = ram.read_word(r.wptr)?;
+    state.go(Registers {
+        iptr: r.iptr.plus(offset),
+        ..r
+    });
+    Ok(Ran::Instruction)
+}

@@ -1,0 +1,166 @@
+//! What a link does to a processor: a byte comes that nobody asked for, and a message is over.
+
+ghost use Rattle.std.specs.Prelude.{◌≡◌, ◌<◌, ◌∷◌, [], Some, None, true, IfSome, IsSome, Ok};
+ghost use Rattle.tword.specs.Actions.{run};
+ghost use Rattle.tproc.specs.Standing.{is_queued, reason_of, standing};
+ghost use Rattle.tproc.specs.Queues.{add_process};
+ghost use Rattle.tproc.specs.LinkChannels.{link_end, with_link};
+ghost use Rattle.tproc.specs.Links.{wakes, readies_queued, readies_running, notify_at, notice as noticing, finished};
+ghost use Rattle.tproc.specs.Agreement.{Agrees, AgreesWith, IsPlain};
+ghost use Rattle.tproc.specs.Doing.{Does, as_step};
+
+use crate::channels::{ENABLING, READY, below};
+use crate::offer::Ran;
+use crate::queues::{IPTR_WORD, STATE_WORD, admit, enqueue, release};
+use crate::ram::Ram;
+use crate::standing::Standing;
+use crate::state::{State, workspace_of};
+use crate::waiting::{LinkEnd, Reason};
+use tword::{Break, Word};
+
+/// A process from outside is let in, with its first address.
+#[tactic(auto, using(crate::proofs::Saved::itself_saved, crate::proofs::Saved::are_saved))]
+pub fn add<M: Ram>(state: &mut State, ram: &mut M, process: Word, iptr: Word) -> Result<Ran, Break>
+    requires plain { IsPlain state.old }
+    requires agrees { Agrees (M.claims ram.old) state.old }
+    ensures done { Does (run (as_step (add_process process iptr state.old)) (M.cells ram.old) (M.claims ram.old)) state.old (M.cells ram.old) result state.new (M.cells ram.new) }
+    ensures agrees { Agrees (M.claims ram.new) state.new }
+{
+    admit(state, ram, process)?;
+    ram.set_saved_word(workspace_of(process), IPTR_WORD, iptr);
+    enqueue(state, ram, process);
+    Ok(Ran::Instruction)
+}
+
+/// A process that waits for its alternative is told that it is ready.
+#[tactic(auto, using(crate::proofs::Saved::are_saved, crate::proofs::Saved::waiter_saved))]
+fn wake<M: Ram>(state: &mut State, ram: &mut M, process: Word) -> Ran
+    requires plain { IsPlain state.old }
+    requires agrees { Agrees (M.claims ram.old) state.old }
+    requires waits { IsSome (reason_of state.old process) }
+    ensures done { Does (run (as_step (wakes process state.old)) (M.cells ram.old) (M.claims ram.old)) state.old (M.cells ram.old) (Ok result) state.new (M.cells ram.new) }
+    ensures agrees { Agrees (M.claims ram.new) state.new }
+{
+    ram.set_saved_word(workspace_of(process), STATE_WORD, Word::new(READY));
+    release(state, ram, process);
+    Ran::Instruction
+}
+
+/// A queued process is told, where it is enabling.
+#[tactic(auto, using(crate::proofs::Saved::are_saved, crate::proofs::Saved::queued_saved))]
+fn ready_queued<M: Ram>(state: &State, ram: &mut M, process: Word) -> Ran
+    requires agrees { Agrees (M.claims ram.old) state.now }
+    requires queued { is_queued state.now process ≡ true }
+    ensures done { Does (run (as_step (readies_queued process state.now)) (M.cells ram.old) (M.claims ram.old)) state.now (M.cells ram.old) (Ok result) state.now (M.cells ram.new) }
+    ensures claims { M.claims ram.new ≡ M.claims ram.old }
+{
+    let workspace = workspace_of(process);
+    if ram.saved_word(workspace, STATE_WORD).get() == ENABLING {
+        ram.set_saved_word(workspace, STATE_WORD, Word::new(READY));
+    }
+    Ran::Instruction
+}
+
+/// A process that runs or was interrupted is told, where it is enabling.
+fn ready_running<M: Ram>(state: &State, ram: &mut M, process: Word) -> Result<Ran, Break>
+    ensures done { Does (run (as_step (readies_running process state.now)) (M.cells ram.old) (M.claims ram.old)) state.now (M.cells ram.old) result state.now (M.cells ram.new) }
+    ensures claims { M.claims ram.new ≡ M.claims ram.old }
+{
+    let address = below(workspace_of(process), STATE_WORD);
+    if ram.take_word(address)?.get() == ENABLING {
+        ram.set_word(address, Word::new(READY));
+    }
+    Ok(Ran::Instruction)
+}
+
+/// The process that enabled a link is told that a byte waits there.
+fn tell<M: Ram>(state: &mut State, ram: &mut M, process: Word)
+    requires plain { IsPlain state.old }
+    requires agrees { Agrees (M.claims ram.old) state.old }
+    ensures done { record { control = state.new; store = M.cells ram.new } ≡ notify_at (standing state.old process) process (record { control = state.old; store = M.cells ram.old }) }
+    ensures agrees { Agrees (M.claims ram.new) state.new }
+{
+    match &state.standing(process) {
+        Standing::Waits(Reason::Chooses) => {
+            wake(state, ram, process);
+        }
+        Standing::Queued => {
+            ready_queued(state, ram, process);
+        }
+        Standing::Runs | Standing::Interrupted => {
+            let _ = ready_running(state, ram, process);
+        }
+        _ => {}
+    }
+}
+
+/// A byte waits at a link and no input is pending.
+#[tactic(auto, unfolding(crate::specs::Links::notice))]
+pub fn notice<M: Ram>(state: &mut State, ram: &mut M, link: u8)
+    requires link { link < 4 }
+    requires plain { IsPlain state.old }
+    requires agrees { Agrees (M.claims ram.old) state.old }
+    ensures done { record { control = state.new; store = M.cells ram.new } ≡ noticing link (record { control = state.old; store = M.cells ram.old }) }
+    ensures agrees { Agrees (M.claims ram.new) state.new }
+{
+    let end = state.link(link);
+    state.set_link(
+        link,
+        LinkEnd {
+            noticed: true,
+            remembered: None,
+            ..end
+        },
+    );
+    if let Some(process) = end.remembered {
+        tell(state, ram, process);
+    }
+}
+
+/// The pending output of a link is over: its process is queued.
+pub fn finish_output<M: Ram>(state: &mut State, ram: &mut M, link: u8) -> Ran
+    requires link { link < 4 }
+    requires plain { IsPlain state.old }
+    requires agrees { Agrees (M.claims ram.old) state.old }
+    requires waits { IfSome (link_end state.old link).output (λ o. IsSome (reason_of state.old o.wdesc)) }
+    ensures done { Does (run (as_step (finished (link_end state.old link).output (with_link link (record (link_end state.old link) { output = None }) state.old))) (M.cells ram.old) (M.claims ram.old)) state.old (M.cells ram.old) (Ok result) state.new (M.cells ram.new) }
+    ensures agrees { Agrees (M.claims ram.new) state.new }
+{
+    let end = state.link(link);
+    state.set_link(
+        link,
+        LinkEnd {
+            output: None,
+            ..end
+        },
+    );
+    if let Some(offer) = end.output {
+        release(state, ram, offer.wdesc);
+    }
+    ram.release_output(link);
+    Ran::Instruction
+}
+
+/// The pending input of a link is over: its process is queued.
+pub fn finish_input<M: Ram>(state: &mut State, ram: &mut M, link: u8) -> Ran
+    requires link { link < 4 }
+    requires plain { IsPlain state.old }
+    requires agrees { Agrees (M.claims ram.old) state.old }
+    requires waits { IfSome (link_end state.old link).input (λ o. IsSome (reason_of state.old o.wdesc)) }
+    ensures done { Does (run (as_step (finished (link_end state.old link).input (with_link link (record (link_end state.old link) { input = None }) state.old))) (M.cells ram.old) (M.claims ram.old)) state.old (M.cells ram.old) (Ok result) state.new (M.cells ram.new) }
+    ensures agrees { Agrees (M.claims ram.new) state.new }
+{
+    let end = state.link(link);
+    state.set_link(
+        link,
+        LinkEnd {
+            input: None,
+            ..end
+        },
+    );
+    if let Some(offer) = end.input {
+        release(state, ram, offer.wdesc);
+    }
+    ram.release_input(link);
+    Ran::Instruction
+}

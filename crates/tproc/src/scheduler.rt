@@ -1,0 +1,229 @@
+//! The operations of the scheduler, and the end of a timeslice.
+
+ghost use Rattle.std.specs.Prelude.{◌≡◌, ◌<◌, ◌+◌, ◌∷◌, [], if◌then◌else◌, true, None, Some, Ok, length};
+ghost use Rattle.tword.specs.Stores.{Store};
+ghost use Rattle.tword.specs.Touches.{deschedule_break};
+ghost use Rattle.tword.specs.Actions.{run, run_from};
+ghost use Rattle.tcpu.specs.Outcomes.{push};
+ghost use Rattle.tproc.specs.Channels.{goes_on};
+ghost use Rattle.tproc.specs.Scheduler.{stops, starts, runs, ends, yields, jumped as jumping, communicates, sends_from_workspace};
+ghost use Rattle.tproc.specs.declared.offer.Ran.TheVariants as ran;
+ghost use Rattle.tproc.specs.Agreement.{Agrees, AgreesWith, IsOwn, IsPlain, StillAgrees, is_over};
+ghost use Rattle.tproc.specs.Doing.{Does};
+ghost use Rattle.tproc.specs.Requests.{side_of};
+
+use crate::channels::{Request, Side, below};
+use crate::link_channels::{is_link, link_message};
+use crate::meetings::internal_message;
+use crate::offer::Ran;
+use crate::queues::{IPTR_WORD, admit, enqueue, require};
+use crate::ram::Ram;
+use crate::state::State;
+use tcpu::Registers;
+use tword::{Break, Word};
+
+/// The current process is no longer live.
+pub fn stop<M: Ram>(state: &mut State, ram: &mut M) -> Result<Ran, Break>
+    requires agrees { Agrees (M.claims ram.old) state.old }
+    ensures done { Does (run (stops state.old) (M.cells ram.old) (M.claims ram.old)) state.old (M.cells ram.old) result state.new (M.cells ram.new) }
+    ensures agrees { Agrees (M.claims ram.new) state.new }
+{
+    ram.write_word(
+        below(state.registers.wptr, IPTR_WORD),
+        state.registers.iptr,
+    )?;
+    state.rest();
+    Ok(Ran::Instruction)
+}
+
+/// The current process ends if Error is set.
+pub fn stop_on_error<M: Ram>(state: &mut State, ram: &mut M) -> Result<Ran, Break>
+    requires agrees { Agrees (M.claims ram.old) state.old }
+    ensures done { Does (run (if state.old.registers.error then stops state.old else goes_on state.old.registers state.old) (M.cells ram.old) (M.claims ram.old)) state.old (M.cells ram.old) result state.new (M.cells ram.new) }
+    ensures agrees { Agrees (M.claims ram.new) state.new }
+{
+    if state.registers.error {
+        return stop(state, ram);
+    }
+    Ok(Ran::Instruction)
+}
+
+/// The priority of the current process is pushed.
+pub fn load_priority(state: &mut State, priority: u8) -> Ran
+    ensures done { state.new ≡ record state.old { registers = push priority state.old.registers } }
+    ensures ran { result ≡ ran.Instruction }
+    ensures agrees { StillAgrees state.old state.new }
+{
+    let r = state.registers;
+    state.go(Registers {
+        a: Word::new(u32::from(priority)),
+        b: r.a,
+        c: r.b,
+        ..r
+    });
+    Ran::Instruction
+}
+
+/// A new process starts, at an address relative to the next instruction.
+#[tactic(auto, using(crate::proofs::Saved::itself_saved, crate::proofs::Saved::are_saved, crate::proofs::Agreeing::own_workspace))]
+pub fn start<M: Ram>(state: &mut State, ram: &mut M, priority: u8) -> Result<Ran, Break>
+    requires priority { priority < 2 }
+    requires plain { IsPlain state.old }
+    requires agrees { Agrees (M.claims ram.old) state.old }
+    ensures done { Does (run (starts priority state.old) (M.cells ram.old) (M.claims ram.old)) state.old (M.cells ram.old) result state.new (M.cells ram.new) }
+    ensures agrees { Agrees (M.claims ram.new) state.new }
+{
+    let r = state.registers;
+    require(r.a.get() % 4 == 0, Break::Unaligned)?;
+    let process = Word::new(r.a.get() + u32::from(priority));
+    admit(state, ram, process)?;
+    ram.set_saved_word(r.a, IPTR_WORD, r.iptr.plus(r.b));
+    enqueue(state, ram, process);
+    state.go(Registers {
+        a: r.c,
+        b: r.c,
+        ..r
+    });
+    Ok(Ran::Instruction)
+}
+
+/// A process that was stopped runs again.
+#[tactic(auto, using(crate::proofs::Saved::are_saved))]
+pub fn run_process<M: Ram>(state: &mut State, ram: &mut M) -> Result<Ran, Break>
+    requires plain { IsPlain state.old }
+    requires agrees { Agrees (M.claims ram.old) state.old }
+    ensures done { Does (run (runs state.old) (M.cells ram.old) (M.claims ram.old)) state.old (M.cells ram.old) result state.new (M.cells ram.new) }
+    ensures agrees { Agrees (M.claims ram.new) state.new }
+{
+    let r = state.registers;
+    admit(state, ram, r.a)?;
+    enqueue(state, ram, r.a);
+    state.go(Registers {
+        a: r.b,
+        b: r.c,
+        ..r
+    });
+    Ok(Ran::Instruction)
+}
+
+/// One of several processes ends, and the last one goes on as their successor.
+pub fn end<M: Ram>(state: &mut State, ram: &mut M) -> Result<Ran, Break>
+    requires plain { IsPlain state.old }
+    requires agrees { Agrees (M.claims ram.old) state.old }
+    ensures done { Does (run (ends state.old) (M.cells ram.old) (M.claims ram.old)) state.old (M.cells ram.old) result state.new (M.cells ram.new) }
+    ensures agrees { Agrees (M.claims ram.new) state.new }
+{
+    let r = state.registers;
+    let zero = Word::new(0);
+    let successor = ram.read_word(r.a)?;
+    let count = r.a.plus(Word::new(4));
+    let left = ram.take_word(count)?;
+    if left.get() == 1 {
+        require(
+            r.a == r.wptr || !state.is_live(ram, r.a),
+            Break::AlreadyLive,
+        )?;
+        ram.set_word(count, zero);
+        state.go(Registers {
+            a: zero,
+            b: zero,
+            c: zero,
+            iptr: successor,
+            wptr: r.a,
+            ..r
+        });
+    } else {
+        ram.set_word(count, Word::new(left.get().wrapping_sub(1)));
+        state.rest();
+    }
+    Ok(Ran::Instruction)
+}
+
+/// The low process that runs goes behind the others of its queue.
+#[tactic(auto, using(crate::proofs::Places::place_running, crate::proofs::Places::room_running, crate::proofs::Agreeing::agrees_but, crate::proofs::Agreeing::saved_itself, crate::proofs::Agreeing::own_workspace, crate::proofs::Saved::are_saved))]
+fn yield_now<M: Ram>(state: &mut State, ram: &mut M)
+    requires running { state.old.current ≡ Some 1 }
+    requires plain { IsPlain state.old }
+    requires agrees { Agrees (M.claims ram.old) state.old }
+    requires free { deschedule_break (length (M.cells ram.old)) (M.claims ram.old) state.old.registers.wptr ≡ None }
+    ensures done { (old : Store) → length old ≡ length (M.cells ram.old) → run_from (yields (state.old.registers.wptr + 1) state.old) old (M.claims ram.old) (M.cells ram.old) ≡ Ok ((state.new, ran.Instruction), M.cells ram.new) }
+    ensures agrees { Agrees (M.claims ram.new) state.new }
+{
+    let r = state.registers;
+    ram.deschedule(r.wptr);
+    ram.set_saved_word(r.wptr, IPTR_WORD, r.iptr);
+    state.rest();
+    enqueue(state, ram, Word::new(r.wptr.get() + 1));
+}
+
+/// What follows a jump: a low process whose timeslice is over yields, or its timeslice begins again.
+pub fn jumped<M: Ram>(state: &mut State, ram: &mut M, priority: u8)
+    requires running { state.old.current ≡ Some priority }
+    requires plain { IsPlain state.old }
+    requires agrees { Agrees (M.claims ram.old) state.old }
+    requires free { is_over priority state.old ≡ true → deschedule_break (length (M.cells ram.old)) (M.claims ram.old) state.old.registers.wptr ≡ None }
+    ensures done { (old : Store) → length old ≡ length (M.cells ram.old) → run_from (jumping priority state.old) old (M.claims ram.old) (M.cells ram.old) ≡ Ok ((state.new, ran.Instruction), M.cells ram.new) }
+    ensures agrees { Agrees (M.claims ram.new) state.new }
+{
+    if priority == 0 {
+        return;
+    }
+    if state.timeslice <= state.count {
+        if state.low.is_empty() {
+            state.count = 0;
+        } else {
+            yield_now(state, ram);
+        }
+    }
+}
+
+/// A process asks for a message, or offers one, with length, channel and buffer on its stack.
+pub fn communicate<M: Ram>(state: &mut State, ram: &mut M, side: Side, priority: u8) -> Result<Ran, Break>
+    requires running { state.old.current ≡ Some priority }
+    requires plain { IsPlain state.old }
+    requires agrees { Agrees (M.claims ram.old) state.old }
+    ensures done { Does (run (communicates (side_of side) (state.old.registers.wptr + priority) state.old) (M.cells ram.old) (M.claims ram.old)) state.old (M.cells ram.old) result state.new (M.cells ram.new) }
+    ensures agrees { Agrees (M.claims ram.new) state.new }
+{
+    let r = state.registers;
+    let q = Request {
+        process: state.own(priority),
+        side,
+        channel: r.b,
+        buffer: r.c,
+        length: r.a.get(),
+        first: None,
+        after: Registers { a: r.c, b: r.c, ..r },
+    };
+    if is_link(q.channel) {
+        link_message(state, ram, &q)
+    } else {
+        internal_message(state, ram, &q)
+    }
+}
+
+/// A process lays a message of this length down at its workspace and offers it.
+pub fn send_from_workspace<M: Ram>(state: &mut State, ram: &mut M, size: u32, priority: u8) -> Result<Ran, Break>
+    requires running { state.old.current ≡ Some priority }
+    requires plain { IsPlain state.old }
+    requires agrees { Agrees (M.claims ram.old) state.old }
+    ensures done { Does (run (sends_from_workspace size (state.old.registers.wptr + priority) state.old) (M.cells ram.old) (M.claims ram.old)) state.old (M.cells ram.old) result state.new (M.cells ram.new) }
+    ensures agrees { Agrees (M.claims ram.new) state.new }
+{
+    let r = state.registers;
+    ram.may_write_word(r.wptr)?;
+    let q = Request {
+        process: state.own(priority),
+        side: Side::Output,
+        channel: r.b,
+        buffer: r.wptr,
+        length: size,
+        first: Some(r.a),
+        after: Registers { a: r.c, b: r.c, ..r },
+    };
+    if is_link(q.channel) {
+        link_message(state, ram, &q)
+    } else {
+        internal_message(state, ram, &q)
+    }
+}

@@ -1,0 +1,214 @@
+//! One step of a processor.
+
+ghost use Rattle.std.specs.Prelude.{◌≡◌, ◌<◌, [], true, Some, None, Ok, IfOk, IfErr, OnErr, Err, length};
+ghost use Rattle.tword.specs.Actions.{run};
+ghost use Rattle.tword.specs.Touches.{deschedule_break};
+ghost use Rattle.tcode.specs.Decoding.{decode};
+ghost use Rattle.tcpu.specs.Effects.{effect};
+ghost use Rattle.tcpu.specs.Local.{would_jump};
+ghost use Rattle.tproc.specs.Scheduler.{operation_step, counted, counted_by};
+ghost use Rattle.tproc.specs.Steps.{instruction_step, control_step, low_step};
+ghost use Rattle.tproc.specs.Agreement.{Agrees, IsPlain, is_over};
+ghost use Rattle.tproc.specs.Doing.{Begins, Does, Foresees, StandsWhereLeft, StaysWhereJumped, jumps_as, moved_on, rest_of, with_registers};
+
+use crate::alternatives::{await_choice, begin_choice, disable_channel, disable_skip, enable_channel, enable_skip, end_choice};
+use crate::channels::Side;
+use crate::dispatch::{dispatch, start_queued};
+use crate::offer::Ran;
+use crate::ram::Ram;
+use crate::scheduler::{communicate, end, jumped, load_priority, run_process, send_from_workspace, start, stop, stop_on_error};
+use crate::state::State;
+use tcode::{Instruction, Operation};
+use tcpu::{Next, Registers};
+use tword::{Break, Word};
+
+/// The instruction with which a step begins.
+#[inline(always)]
+fn fetch<M: Ram>(ram: &M, iptr: Word) -> Result<Instruction, Break>
+    ensures { Begins (decode iptr) (M.claims ram.now) (M.cells ram.now) result (M.cells ram.now) }
+{
+    ram.decode(iptr)
+}
+
+/// Whether the instruction of a step jumps.
+fn jumps<M: Ram>(ram: &M, i: &Instruction, registers: &Registers) -> Result<bool, Break>
+    ensures told { result ≡ would_jump (run (effect i.now registers.now) (M.cells ram.now) (M.claims ram.now)) }
+    ensures foreseen { Foresees (effect i.now registers.now) (M.claims ram.now) (M.cells ram.now) registers.now result }
+{
+    ram.jumps(i, registers)
+}
+
+/// The effect of the instruction of a step.
+#[inline(always)]
+fn perform<M: Ram>(
+    ram: &mut M,
+    i: &Instruction,
+    registers: &mut Registers,
+) -> Result<Next, Break>
+    ensures begins { Begins (effect i.now registers.old) (M.claims ram.old) (M.cells ram.old) (with_registers result registers.new) (M.cells ram.new) }
+    ensures kept { OnErr result ((M.cells ram.new ≡ M.cells ram.old) × (registers.new ≡ registers.old)) }
+    ensures left { IfOk result (λ next. StandsWhereLeft next (M.cells ram.old) registers.old (M.cells ram.new) registers.new) }
+    ensures told { would_jump (run (effect i.now registers.old) (M.cells ram.old) (M.claims ram.old)) ≡ jumps_as result }
+    ensures stays { IfOk result (λ next. StaysWhereJumped next registers.old registers.new) }
+    ensures size { length (M.cells ram.new) ≡ length (M.cells ram.old) }
+    ensures claims { M.claims ram.new ≡ M.claims ram.old }
+{
+    ram.local(i, registers)
+}
+
+/// An operation of the scheduler.
+#[tactic(auto, unfolding(crate::specs::Scheduler::operation_step))]
+fn operation<M: Ram>(
+    state: &mut State,
+    ram: &mut M,
+    operation: Operation,
+    priority: u8,
+) -> Result<Ran, Break>
+    requires running { state.old.current ≡ Some priority }
+    requires plain { IsPlain state.old }
+    requires agrees { Agrees (M.claims ram.old) state.old }
+    ensures done { Does (run (operation_step operation priority state.old) (M.cells ram.old) (M.claims ram.old)) state.old (M.cells ram.old) result state.new (M.cells ram.new) }
+    ensures agrees { Agrees (M.claims ram.new) state.new }
+{
+    match operation {
+        Operation::Startp => start(state, ram, priority),
+        Operation::Endp => end(state, ram),
+        Operation::Runp => run_process(state, ram),
+        Operation::Stopp => stop(state, ram),
+        Operation::Stoperr => stop_on_error(state, ram),
+        Operation::Ldpri => Ok(load_priority(state, priority)),
+        Operation::In => communicate(state, ram, Side::Input, priority),
+        Operation::Out => communicate(state, ram, Side::Output, priority),
+        Operation::Outbyte => send_from_workspace(state, ram, 1, priority),
+        Operation::Outword => send_from_workspace(state, ram, 4, priority),
+        Operation::Alt => begin_choice(state, ram),
+        Operation::Enbc => {
+            let process = state.own(priority);
+            enable_channel(state, ram, process)
+        }
+        Operation::Enbs => enable_skip(state, ram),
+        Operation::Altwt => {
+            let process = state.own(priority);
+            await_choice(state, ram, process)
+        }
+        Operation::Disc => disable_channel(state, ram),
+        Operation::Diss => disable_skip(state, ram),
+        Operation::Altend => end_choice(state, ram),
+        _ => Err(Break::NoSuchOperation),
+    }
+}
+
+/// An operation of the scheduler, whose instruction has this length.
+fn scheduled<M: Ram>(
+    state: &mut State,
+    ram: &mut M,
+    o: Operation,
+    priority: u8,
+    size: u8,
+) -> Result<Ran, Break>
+    requires running { state.old.current ≡ Some priority }
+    requires plain { IsPlain state.old }
+    requires agrees { Agrees (M.claims ram.old) state.old }
+    ensures done { Does (run (operation_step o priority (counted_by o priority (moved_on size state.old))) (M.cells ram.old) (M.claims ram.old)) state.old (M.cells ram.old) result state.new (M.cells ram.new) }
+    ensures agrees { Agrees (M.claims ram.new) state.new }
+{
+    let before = state.registers;
+    let count = state.count;
+    state.go(Registers {
+        iptr: before.iptr.plus(Word::new(u32::from(size))),
+        ..before
+    });
+    state.count_by(o, priority);
+    match operation(state, ram, o, priority) {
+        Ok(ran) => Ok(ran),
+        Err(broken) => {
+            state.take_back(before, count);
+            Err(broken)
+        }
+    }
+}
+
+/// The checks of a yield that may follow an instruction.
+#[inline(always)]
+fn foresee<M: Ram>(state: &State, ram: &M, i: &Instruction, priority: u8) -> Result<(), Break>
+    ensures ends { IfErr result (λ b. run (rest_of i.now priority state.now) (M.cells ram.now) (M.claims ram.now) ≡ Err b) }
+    ensures free { IfOk result (λ _. is_over priority (counted priority state.now) ≡ true → would_jump (run (effect i.now state.now.registers) (M.cells ram.now) (M.claims ram.now)) ≡ Ok true → deschedule_break (length (M.cells ram.now)) (M.claims ram.now) state.now.registers.wptr ≡ None) }
+{
+    if state.will_be_over(priority) && jumps(ram, i, &state.registers)? {
+        ram.may_deschedule(state.registers.wptr)?;
+    }
+    Ok(())
+}
+
+/// One instruction of the current process.
+#[tactic(auto, unfolding(crate::specs::Steps::instruction_step))]
+#[inline]
+fn instruction<M: Ram>(state: &mut State, ram: &mut M, priority: u8) -> Result<Ran, Break>
+    requires running { state.old.current ≡ Some priority }
+    requires plain { IsPlain state.old }
+    requires agrees { Agrees (M.claims ram.old) state.old }
+    ensures done { Does (run (instruction_step priority state.old) (M.cells ram.old) (M.claims ram.old)) state.old (M.cells ram.old) result state.new (M.cells ram.new) }
+    ensures agrees { Agrees (M.claims ram.new) state.new }
+{
+    let before = state.registers;
+    let i = fetch(ram, before.iptr)?;
+    foresee(state, ram, &i, priority)?;
+    let mut r = before;
+    match perform(ram, &i, &mut r)? {
+        Next::Go => {
+            state.go(r);
+            state.count_one(priority);
+            Ok(Ran::Instruction)
+        }
+        Next::Jumped => {
+            state.go(r);
+            state.count_one(priority);
+            jumped(state, ram, priority);
+            Ok(Ran::Instruction)
+        }
+        Next::Schedule(o) => scheduled(state, ram, o, priority, i.length),
+        Next::Halt => {
+            state.go(r);
+            state.count_one(priority);
+            state.halted = true;
+            Ok(Ran::Halting)
+        }
+    }
+}
+
+/// One step while a low process runs.
+#[inline]
+fn step_low<M: Ram>(state: &mut State, ram: &mut M) -> Result<Ran, Break>
+    requires running { state.old.current ≡ Some 1 }
+    requires plain { IsPlain state.old }
+    requires agrees { Agrees (M.claims ram.old) state.old }
+    ensures done { Does (run (low_step state.old.high state.old) (M.cells ram.old) (M.claims ram.old)) state.old (M.cells ram.old) result state.new (M.cells ram.new) }
+    ensures agrees { Agrees (M.claims ram.new) state.new }
+{
+    match state.take_high() {
+        Some(workspace) => {
+            state.suspend();
+            start_queued(state, ram, workspace, 0);
+            Ok(Ran::Dispatch)
+        }
+        None => instruction(state, ram, 1),
+    }
+}
+
+/// One step by the process that runs, or a dispatch, unless the processor has halted.
+#[inline]
+pub fn step<M: Ram>(state: &mut State, ram: &mut M) -> Result<Ran, Break>
+    requires plain { IsPlain state.old }
+    requires agrees { Agrees (M.claims ram.old) state.old }
+    ensures done { Does (run (control_step state.old.halted state.old) (M.cells ram.old) (M.claims ram.old)) state.old (M.cells ram.old) result state.new (M.cells ram.new) }
+    ensures agrees { Agrees (M.claims ram.new) state.new }
+{
+    if state.halted {
+        return Ok(Ran::Halted);
+    }
+    match state.current {
+        None => Ok(dispatch(state, ram)),
+        Some(0) => instruction(state, ram, 0),
+        Some(_) => step_low(state, ram),
+    }
+}
