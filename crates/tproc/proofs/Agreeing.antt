@@ -5,7 +5,7 @@ use Rattle.std.specs.Prelude.{IsSome, IfSome, ◌==◌, filter, find, option_map
 use Rattle.std.proofs.lemmas.Bool.{eqb-true, eqb-false, eq-eqb, ne_eqb, or_right}
 use Rattle.std.proofs.lemmas.List.{map-append, map-set, set-get_or, length-map}
 use Rattle.std.proofs.lemmas.List.Folds.{list_any-append}
-use Rattle.tword.specs.Claims.{Span, Claims, has_saved, saving}
+use Rattle.tword.specs.Claims.{Claims, has_saved, saving}
 use Rattle.tproc.specs.Machine.{Control, buffer_of, workspace_of, descheduled}
 use Rattle.tproc.specs.Standing.{is_among, reason_of}
 use Rattle.tproc.specs.declared.waiting.Reason.{Reason}
@@ -15,7 +15,7 @@ use Rattle.tproc.specs.Queues.{appended, waiting_for, without_waiter}
 use Rattle.tproc.specs.declared.offer.Offer.{Offer}
 use Rattle.tproc.specs.LinkChannels.{link_end, with_link, quiet_end}
 use Rattle.tproc.specs.Agreement.{AgreesOn, AgreesWith, Agrees, Settles, Unsettles, Leaves, AreSaved, IsPlain, StillSaved, StillAgrees}
-use Rattle.tproc.specs.Standins.{Frees, with_input, with_output}
+use Rattle.tword.specs.Accesses.{Frees, with_input, with_output}
 use Rattle.tproc.proofs.Occurs.{occurs, hits, occurs-append, occurring_once, found-occurs, occurs-found, same_once}
 use Rattle.tproc.proofs.ClaimState.{workspaces_of, HasWaiter}
 use Rattle.tproc.proofs.Waiters.{without, without_none, waiter_occurs, found_waiter, filter_step}

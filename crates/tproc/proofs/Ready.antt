@@ -1,26 +1,42 @@
 -- What a placement gives to the code of a step, and what the code's step is to the machine.
-use Rattle.std.proofs.Common.{◌≡◌, ◌∙◌, ℕ, refl, sym, ap, subst, List, [], ◌∷◌, ◌||◌, ◌==◌, ◌%◌, Bool, true, false, Result, Ok, Err, Option, Some, None}
-use Rattle.std.specs.Prelude.{IfSome}
+use Rattle.std.proofs.Common.{◌≡◌, ◌∙◌, ℕ, zero, suc, ◌+◌, ◌-◌, ◌<◌, ◌≤◌, ◌%◌, refl, sym, ap, subst, cond, List, [], ◌∷◌, ◌||◌, ◌==◌, Bool, true, false, Result, Ok, Err, Option, Some, None, length, get_or, arith}
+use Rattle.std.specs.Prelude.{IfSome, IfOk, IsSome, MatchResult, find, option_map, nat_le}
 use Rattle.std.specs.List.{list_any}
-use Rattle.std.proofs.lemmas.Bool.{eqb-true, eq-eqb, or_right}
+use Rattle.std.proofs.lemmas.Bool.{eqb-true, eq-eqb, or_right, leb-true, leb-false}
 use Rattle.tword.specs.declared.breaks.Break.{Break}
-use Rattle.tword.specs.Stores.{Store}
+use Rattle.tword.specs.Words.{most_neg}
+use Rattle.tword.specs.Stores.{Store, place}
 use Rattle.tword.specs.Claims.{Claims, overlap, saved_words}
+use Rattle.tword.specs.Accesses.{no_claims}
 use Rattle.tword.specs.Actions.{Action, run}
 use Rattle.tword.proofs.Answering.{answering, run_from-answering}
 use Rattle.tword.proofs.SameClaims.{SameClaims, run_from-same}
 use Rattle.tcpu.specs.declared.registers.Registers.{Registers}
+use Rattle.tproc.specs.declared.offer.Offer.{Offer}
 use Rattle.tproc.specs.declared.offer.Ran.{Ran}
 use Rattle.tproc.specs.declared.offer.Ran.TheVariants as ran
+use Rattle.tproc.specs.declared.waiting.LinkEnd.{LinkEnd}
+use Rattle.tproc.specs.declared.waiting.Reason.{Reason}
+use Rattle.tproc.specs.declared.waiting.Reason.TheVariants.{LinkInput, LinkOutput}
 use Rattle.tproc.specs.declared.waiting.Suspended.{Suspended}
+use Rattle.tproc.specs.declared.waiting.Waiter.{Waiter}
 use Rattle.tproc.specs.Machine.{Control, Machine, descheduled, claims_of}
-use Rattle.tproc.specs.Standing.{is_among}
-use Rattle.tproc.specs.Placement.{IsPlaced, AreWords}
-use Rattle.tproc.specs.Steps.{step, control_step, step_left_by, act, acted}
+use Rattle.tproc.specs.Standing.{is_among, reason_of}
+use Rattle.tproc.specs.Queues.{add_process}
+use Rattle.tproc.specs.LinkChannels.{link_end, quiet_end}
+use Rattle.tproc.specs.Placement.{IsPlaced, AreWords, WaitsFor, IsBuffer}
+use Rattle.tproc.specs.Steps.{step, control_step, step_left_by, step_answered, acted}
+use Rattle.tproc.specs.Resting.{IfRests}
 use Rattle.tproc.specs.Links.{act_or_unchanged, or_unchanged}
-use Rattle.tproc.proofs.Placed.{step_keeps_placed}
+use Rattle.tproc.specs.Messages.{output_of, input_of}
+use Rattle.tproc.specs.Opening.{added, only_machine, no_processes}
 use Rattle.tproc.specs.Agreement.{Agrees, IsPlain}
 use Rattle.tproc.specs.Doing.{Does, Stepped, as_step}
+use Rattle.tproc.proofs.ClaimState.{HasWaiter}
+use Rattle.tproc.proofs.Pending.{at_some}
+use Rattle.tproc.proofs.Placed.{step_keeps_placed}
+use Rattle.tproc.proofs.Resting.{rest_changes_nothing}
+use Rattle.tproc.proofs.Storing.{buffer_inside}
 
 aligned_words : (r : Registers) → AreWords r → r.wptr % 4 ≡ 0
 aligned_words r h = eqb-true _ _ h.aligned
@@ -111,3 +127,87 @@ acted_or_unchanged action c n n' r a h =
         → n' ≡ or_unchanged n (acted n.store (answering (λ (m : Control). (m, tt)) y))
     by (Ok (m1, s1)) d = rw (← d.1, ← d.2) refl
     by (Err b) d = rw (d.1, d.2) refl
+
+-- a step that was no step changed nothing
+pub rests : (n n' : Machine) (r : Result Ran Break) → n' ≡ step_left_by n (step n) → r ≡ step_answered (step n) → IfOk r (λ x. IfRests x (n' ≡ n))
+rests n n' r l a = by (step n) refl l a
+  where
+    by : (y : Result (Machine × Ran) Break) → step n ≡ y → n' ≡ step_left_by n y → r ≡ step_answered y → IfOk r (λ x. IfRests x (n' ≡ n))
+    by (Ok (m, x)) e k h = rw (h, k) (rest_changes_nothing n m x e)
+    by (Err b) e k h = rw h tt
+
+-- a process that waits has a reason
+reason_found : (ws : List Waiter) (p : ℕ) (r : Reason) → HasWaiter ws p r → IsSome (option_map (λ (w : Waiter). w.reason) (find (λ (w : Waiter). w.process == p) ws))
+reason_found [] p r h = absurd (omega (arith, h.1))
+reason_found (x ∷ xs) p r (zero, b, e) = let f : (x.process == p) ≡ true = eq-eqb _ _ (ap (λ (w : Waiter). w.process) e) in rw f tt
+reason_found (x ∷ xs) p r (suc k, b, e) = by (x.process == p) (reason_found xs p r (k, (omega arith), e))
+  where
+    by : (b : Bool) → IsSome (option_map (λ (w : Waiter). w.reason) (find (λ (w : Waiter). w.process == p) xs)) → IsSome (option_map (λ (w : Waiter). w.reason) (cond b (Some x) (find (λ (w : Waiter). w.process == p) xs)))
+    by true h = tt
+    by false h = h
+
+-- so has that of a pending message
+pub output_waits : (n : Machine) (l : ℕ) → IsPlaced n → IfSome (link_end n.control l).output (λ o. IsSome (reason_of n.control o.wdesc))
+output_waits n l p = by (link_end n.control l).output (p.claimed.outputs l)
+  where
+    by : (o : Option Offer) → IfSome o (λ o. WaitsFor n.control o.wdesc (LinkOutput l) × IsBuffer (length n.store) o) → IfSome o (λ o. IsSome (reason_of n.control o.wdesc))
+    by None h = tt
+    by (Some o) h = reason_found n.control.waiting o.wdesc (LinkOutput l) h.0
+
+pub input_waits : (n : Machine) (l : ℕ) → IsPlaced n → IfSome (link_end n.control l).input (λ o. IsSome (reason_of n.control o.wdesc))
+input_waits n l p = by (link_end n.control l).input (p.claimed.inputs l)
+  where
+    by : (o : Option Offer) → IfSome o (λ o. WaitsFor n.control o.wdesc (LinkInput l) × IsBuffer (length n.store) o) → IfSome o (λ o. IsSome (reason_of n.control o.wdesc))
+    by None h = tt
+    by (Some o) h = reason_found n.control.waiting o.wdesc (LinkInput l) h.0
+
+-- a link where something is pending is there
+past_the_end : (ls : List LinkEnd) (l : ℕ) → length ls ≤ l → get_or ls l quiet_end ≡ quiet_end
+past_the_end [] l h = refl
+past_the_end (x ∷ xs) zero h = absurd (omega arith)
+past_the_end (x ∷ xs) (suc l) h = past_the_end xs l (omega arith)
+
+pub output_within : (n : Machine) (l : ℕ) → IsPlaced n → IsSome (output_of n l) → l < 4
+output_within n l p h = by (nat_le 4 l) refl
+  where
+    by : (b : Bool) → nat_le 4 l ≡ b → l < 4
+    by false e = leb-false _ _ e
+    by true e = let f : link_end n.control l ≡ quiet_end = past_the_end n.control.links l (omega (arith, p.claimed.links, leb-true 4 l e)) in absurd (rw f at h)
+
+pub input_within : (n : Machine) (l : ℕ) → IsPlaced n → IsSome (input_of n l) → l < 4
+input_within n l p h = by (nat_le 4 l) refl
+  where
+    by : (b : Bool) → nat_le 4 l ≡ b → l < 4
+    by false e = leb-false _ _ e
+    by true e = let f : link_end n.control l ≡ quiet_end = past_the_end n.control.links l (omega (arith, p.claimed.links, leb-true 4 l e)) in absurd (rw f at h)
+
+-- the byte of a pending message lies in the memory
+pub output_byte : (n : Machine) (l k : ℕ) (o : Offer) → IsPlaced n → output_of n l ≡ Some o → k < o.length → (most_neg ≤ o.buffer + k) × (o.buffer + k - most_neg + 1 ≤ length n.store)
+output_byte n l k o p e h =
+    let w : WaitsFor n.control o.wdesc (LinkOutput l) × IsBuffer (length n.store) o = at_some (link_end n.control l).output _ o e (p.claimed.outputs l) in
+    let b : (most_neg ≤ o.buffer) × (place o.buffer + o.length ≤ length n.store) = buffer_inside (length n.store) o w.1 in
+    (omega (arith, b.0, h), omega (arith, b.0, b.1, h))
+
+pub input_byte : (n : Machine) (l k : ℕ) (o : Offer) → IsPlaced n → input_of n l ≡ Some o → k < o.length → (most_neg ≤ o.buffer + k) × (o.buffer + k - most_neg + 1 ≤ length n.store)
+input_byte n l k o p e h =
+    let w : WaitsFor n.control o.wdesc (LinkInput l) × IsBuffer (length n.store) o = at_some (link_end n.control l).input _ o e (p.claimed.inputs l) in
+    let b : (most_neg ≤ o.buffer) × (place o.buffer + o.length ≤ length n.store) = buffer_inside (length n.store) o w.1 in
+    (omega (arith, b.0, h), omega (arith, b.0, b.1, h))
+
+-- no claims are those of no process
+pub agrees_empty : (timeslice : ℕ) → Agrees no_claims (no_processes timeslice)
+agrees_empty timeslice = record { on = record { saved = λ w. refl; count = refl; inputs = refl; outputs = refl } }
+
+-- a process is added
+pub adds : (process iptr : ℕ) (c : Claims) (n n' : Machine) (r : Result Ran Break) → Agrees c n.control
+    → Does (run (as_step (add_process process iptr n.control)) n.store c) n.control n.store r n'.control n'.store
+    → MatchResult r (λ x. added process iptr n ≡ Ok n') (λ b. (added process iptr n ≡ Err b) × (n' ≡ n))
+adds process iptr c n n' r a h =
+    rw (run_from-answering (λ (m : Control). (m, tt)) (add_process process iptr n.control) n.store (claims_of n.control) n.store)
+    (by (run (add_process process iptr n.control) n.store (claims_of n.control))
+    (rw (run_from-answering (λ (m : Control). (m, ran.Instruction)) (add_process process iptr n.control) n.store c n.store, run_from-same (add_process process iptr n.control) n.store n.store c (claims_of n.control) (same_from c n.control a)) at h))
+  where
+    by : (y : Result (Control × Store) Break) → Does (answering (λ (m : Control). (m, ran.Instruction)) y) n.control n.store r n'.control n'.store
+        → MatchResult r (λ x. only_machine (acted n.store (answering (λ (m : Control). (m, tt)) y)) ≡ Ok n') (λ b. (only_machine (acted n.store (answering (λ (m : Control). (m, tt)) y)) ≡ Err b) × (n' ≡ n))
+    by (Ok (m1, s1)) d = rw (d.0, ← d.1, ← d.2) refl
+    by (Err b) d = rw (d.0, d.1, d.2) (refl, refl)

@@ -12,7 +12,7 @@ ghost use Rattle.tproc.specs.Agreement.{Agrees, AgreesWith, IsOwn, IsPlain, Stil
 ghost use Rattle.tproc.specs.Doing.{Begins, Does, with_control};
 ghost use Rattle.tproc.specs.Guards.{Disables, MayDisable, control_after, store_after, ready_as};
 
-use crate::channels::{ENABLING, NOT_PROCESS, READY, Side, WAITING, below, is_choosing};
+use crate::channels::{ENABLING, NOT_PROCESS, READY, Side, WAITING, is_choosing};
 use crate::link_channels::{is_link, link_at};
 use crate::offer::Ran;
 use crate::queues::{IPTR_WORD, STATE_WORD, require, wait};
@@ -21,16 +21,17 @@ use crate::standing::Standing;
 use crate::state::State;
 use crate::waiting::{LinkEnd, Reason};
 use tcpu::Registers;
+use crate::words::below;
 use tword::{Break, Word};
 
 /// The offset of no guard.
 const NONE_SELECTED: u32 = 0xffff_ffff;
 
 /// An alternative begins.
-pub fn begin_choice<M: Ram>(state: &mut State, ram: &mut M) -> Result<Ran, Break>
-    requires agrees { Agrees (M.claims ram.old) state.old }
-    ensures done { Does (run (begins_choice state.old) (M.cells ram.old) (M.claims ram.old)) state.old (M.cells ram.old) result state.new (M.cells ram.new) }
-    ensures agrees { Agrees (M.claims ram.new) state.new }
+pub fn begin_choice(state: &mut State, ram: &mut Ram) -> Result<Ran, Break>
+    requires agrees { Agrees ram.old.marks state.old }
+    ensures done { Does (run (begins_choice state.old) ram.old.memory ram.old.marks) state.old ram.old.memory result state.new ram.new.memory }
+    ensures agrees { Agrees ram.new.marks state.new }
 {
     ram.write_word(
         below(state.registers.wptr, STATE_WORD),
@@ -40,13 +41,13 @@ pub fn begin_choice<M: Ram>(state: &mut State, ram: &mut M) -> Result<Ran, Break
 }
 
 /// A link channel is enabled: a byte waits already, or its coming is remembered.
-fn enable_link<M: Ram>(state: &mut State, ram: &mut M, process: Word, channel: Word) -> Result<(), Break>
+fn enable_link(state: &mut State, ram: &mut Ram, process: Word, channel: Word) -> Result<(), Break>
     requires link { names_link channel ≡ true }
     requires plain { IsPlain state.old }
-    requires touched { word_break (length (M.cells ram.old)) (M.claims ram.old) Writes (word_below state.old.registers.wptr 3) ≡ None }
-    ensures done { Begins (enabling channel process state.old) (M.claims ram.old) (M.cells ram.old) (with_control result state.new) (M.cells ram.new) }
-    ensures kept { OnErr result ((M.cells ram.new ≡ M.cells ram.old) × (state.new ≡ state.old)) }
-    ensures claims { M.claims ram.new ≡ M.claims ram.old }
+    requires touched { word_break (length ram.old.memory) ram.old.marks Writes (word_below state.old.registers.wptr 3) ≡ None }
+    ensures done { Begins (enabling channel process state.old) ram.old.marks ram.old.memory (with_control result state.new) ram.new.memory }
+    ensures kept { OnErr result ((ram.new.memory ≡ ram.old.memory) × (state.new ≡ state.old)) }
+    ensures claims { ram.new.marks ≡ ram.old.marks }
     ensures agrees { StillAgrees state.old state.new }
 {
     let link = link_at(Side::Input, channel)?;
@@ -70,12 +71,12 @@ fn enable_link<M: Ram>(state: &mut State, ram: &mut M, process: Word, channel: W
 }
 
 /// An internal channel is enabled: its word names the process, or a process waits there already to output.
-fn enable_internal<M: Ram>(state: &State, ram: &mut M, process: Word, channel: Word) -> Result<(), Break>
+fn enable_internal(state: &State, ram: &mut Ram, process: Word, channel: Word) -> Result<(), Break>
     requires plain { IsPlain state.now }
-    requires touched { word_break (length (M.cells ram.old)) (M.claims ram.old) Writes (word_below state.now.registers.wptr 3) ≡ None }
-    ensures done { Begins (enabling_internal channel process state.now) (M.claims ram.old) (M.cells ram.old) (with_control result state.now) (M.cells ram.new) }
-    ensures kept { OnErr result (M.cells ram.new ≡ M.cells ram.old) }
-    ensures claims { M.claims ram.new ≡ M.claims ram.old }
+    requires touched { word_break (length ram.old.memory) ram.old.marks Writes (word_below state.now.registers.wptr 3) ≡ None }
+    ensures done { Begins (enabling_internal channel process state.now) ram.old.marks ram.old.memory (with_control result state.now) ram.new.memory }
+    ensures kept { OnErr result (ram.new.memory ≡ ram.old.memory) }
+    ensures claims { ram.new.marks ≡ ram.old.marks }
 {
     let found = ram.take_word(channel)?;
     if found.get() == NOT_PROCESS {
@@ -97,12 +98,12 @@ fn enable_internal<M: Ram>(state: &State, ram: &mut M, process: Word, channel: W
 }
 
 /// A channel is enabled.
-fn enable<M: Ram>(state: &mut State, ram: &mut M, process: Word, channel: Word) -> Result<(), Break>
+fn enable(state: &mut State, ram: &mut Ram, process: Word, channel: Word) -> Result<(), Break>
     requires plain { IsPlain state.old }
-    requires touched { word_break (length (M.cells ram.old)) (M.claims ram.old) Writes (word_below state.old.registers.wptr 3) ≡ None }
-    ensures done { Begins (enabling channel process state.old) (M.claims ram.old) (M.cells ram.old) (with_control result state.new) (M.cells ram.new) }
-    ensures kept { OnErr result ((M.cells ram.new ≡ M.cells ram.old) × (state.new ≡ state.old)) }
-    ensures claims { M.claims ram.new ≡ M.claims ram.old }
+    requires touched { word_break (length ram.old.memory) ram.old.marks Writes (word_below state.old.registers.wptr 3) ≡ None }
+    ensures done { Begins (enabling channel process state.old) ram.old.marks ram.old.memory (with_control result state.new) ram.new.memory }
+    ensures kept { OnErr result ((ram.new.memory ≡ ram.old.memory) × (state.new ≡ state.old)) }
+    ensures claims { ram.new.marks ≡ ram.old.marks }
     ensures agrees { StillAgrees state.old state.new }
 {
     if is_link(channel) {
@@ -113,11 +114,11 @@ fn enable<M: Ram>(state: &mut State, ram: &mut M, process: Word, channel: Word) 
 }
 
 /// A guard on a channel is enabled, and kept.
-pub fn enable_channel<M: Ram>(state: &mut State, ram: &mut M, process: Word) -> Result<Ran, Break>
+pub fn enable_channel(state: &mut State, ram: &mut Ram, process: Word) -> Result<Ran, Break>
     requires plain { IsPlain state.old }
-    requires agrees { Agrees (M.claims ram.old) state.old }
-    ensures done { Does (run (enables_channel process state.old) (M.cells ram.old) (M.claims ram.old)) state.old (M.cells ram.old) result state.new (M.cells ram.new) }
-    ensures agrees { Agrees (M.claims ram.new) state.new }
+    requires agrees { Agrees ram.old.marks state.old }
+    ensures done { Does (run (enables_channel process state.old) ram.old.memory ram.old.marks) state.old ram.old.memory result state.new ram.new.memory }
+    ensures agrees { Agrees ram.new.marks state.new }
 {
     let r = state.registers;
     let chosen = ram.take_word(below(state.registers.wptr, STATE_WORD))?;
@@ -130,10 +131,10 @@ pub fn enable_channel<M: Ram>(state: &mut State, ram: &mut M, process: Word) -> 
 }
 
 /// A guard without a channel is enabled.
-pub fn enable_skip<M: Ram>(state: &mut State, ram: &mut M) -> Result<Ran, Break>
-    requires agrees { Agrees (M.claims ram.old) state.old }
-    ensures done { Does (run (enables_skip state.old) (M.cells ram.old) (M.claims ram.old)) state.old (M.cells ram.old) result state.new (M.cells ram.new) }
-    ensures agrees { Agrees (M.claims ram.new) state.new }
+pub fn enable_skip(state: &mut State, ram: &mut Ram) -> Result<Ran, Break>
+    requires agrees { Agrees ram.old.marks state.old }
+    ensures done { Does (run (enables_skip state.old) ram.old.memory ram.old.marks) state.old ram.old.memory result state.new ram.new.memory }
+    ensures agrees { Agrees ram.new.marks state.new }
 {
     let chosen = ram.take_word(below(state.registers.wptr, STATE_WORD))?;
     require(is_choosing(chosen), Break::ChannelMisuse)?;
@@ -148,12 +149,12 @@ pub fn enable_skip<M: Ram>(state: &mut State, ram: &mut M) -> Result<Ran, Break>
 
 /// A process waits for a guard of its alternative, or goes on where one is ready.
 #[tactic(auto, using(crate::proofs::Places::place_own, crate::proofs::Places::room_own, crate::proofs::Agreeing::agrees_but, crate::proofs::Agreeing::saved_itself))]
-pub fn await_choice<M: Ram>(state: &mut State, ram: &mut M, process: Word) -> Result<Ran, Break>
+pub fn await_choice(state: &mut State, ram: &mut Ram, process: Word) -> Result<Ran, Break>
     requires own { IsOwn process state.old }
     requires plain { IsPlain state.old }
-    requires agrees { Agrees (M.claims ram.old) state.old }
-    ensures done { Does (run (awaits_choice process state.old) (M.cells ram.old) (M.claims ram.old)) state.old (M.cells ram.old) result state.new (M.cells ram.new) }
-    ensures agrees { Agrees (M.claims ram.new) state.new }
+    requires agrees { Agrees ram.old.marks state.old }
+    ensures done { Does (run (awaits_choice process state.old) ram.old.memory ram.old.marks) state.old ram.old.memory result state.new ram.new.memory }
+    ensures agrees { Agrees ram.new.marks state.new }
 {
     let r = state.registers;
     ram.may_write_word(r.wptr)?;
@@ -184,11 +185,11 @@ pub enum Guard {
 }
 
 /// The guard of a link channel.
-fn link_guard<M: Ram>(state: &State, ram: &M, channel: Word) -> Result<Guard, Break>
+fn link_guard(state: &State, ram: &Ram, channel: Word) -> Result<Guard, Break>
     requires link { names_link channel ≡ true }
     requires plain { IsPlain state.now }
-    ensures done { Disables (disabling channel state.now) (M.claims ram.now) (M.cells ram.now) state.now result }
-    ensures may { IfOk result (λ g. MayDisable (length (M.cells ram.now)) (M.claims ram.now) g) }
+    ensures done { Disables (disabling channel state.now) ram.now.marks ram.now.memory state.now result }
+    ensures may { IfOk result (λ g. MayDisable (length ram.now.memory) ram.now.marks g) }
 {
     let _claims = ram;
     let link = link_at(Side::Input, channel)?;
@@ -197,10 +198,10 @@ fn link_guard<M: Ram>(state: &State, ram: &M, channel: Word) -> Result<Guard, Br
 }
 
 /// The guard of an internal channel.
-fn internal_guard<M: Ram>(state: &State, ram: &M, channel: Word) -> Result<Guard, Break>
+fn internal_guard(state: &State, ram: &Ram, channel: Word) -> Result<Guard, Break>
     requires plain { IsPlain state.now }
-    ensures done { Disables (disabling_internal channel state.now) (M.claims ram.now) (M.cells ram.now) state.now result }
-    ensures may { IfOk result (λ g. MayDisable (length (M.cells ram.now)) (M.claims ram.now) g) }
+    ensures done { Disables (disabling_internal channel state.now) ram.now.marks ram.now.memory state.now result }
+    ensures may { IfOk result (λ g. MayDisable (length ram.now.memory) ram.now.marks g) }
 {
     let found = ram.take_word(channel)?;
     if found.get() == NOT_PROCESS {
@@ -217,10 +218,10 @@ fn internal_guard<M: Ram>(state: &State, ram: &M, channel: Word) -> Result<Guard
 }
 
 /// The guard of a channel.
-fn channel_guard<M: Ram>(state: &State, ram: &M, channel: Word) -> Result<Guard, Break>
+fn channel_guard(state: &State, ram: &Ram, channel: Word) -> Result<Guard, Break>
     requires plain { IsPlain state.now }
-    ensures done { Disables (disabling channel state.now) (M.claims ram.now) (M.cells ram.now) state.now result }
-    ensures may { IfOk result (λ g. MayDisable (length (M.cells ram.now)) (M.claims ram.now) g) }
+    ensures done { Disables (disabling channel state.now) ram.now.marks ram.now.memory state.now result }
+    ensures may { IfOk result (λ g. MayDisable (length ram.now.memory) ram.now.marks g) }
 {
     if is_link(channel) {
         link_guard(state, ram, channel)
@@ -230,12 +231,12 @@ fn channel_guard<M: Ram>(state: &State, ram: &M, channel: Word) -> Result<Guard,
 }
 
 /// A guard is disabled.
-fn disable<M: Ram>(state: &mut State, ram: &mut M, guard: &Guard)
-    requires may { MayDisable (length (M.cells ram.old)) (M.claims ram.old) guard.now }
+fn disable(state: &mut State, ram: &mut Ram, guard: &Guard)
+    requires may { MayDisable (length ram.old.memory) ram.old.marks guard.now }
     ensures control { state.new ≡ control_after guard.now state.old }
-    ensures cells { M.cells ram.new ≡ store_after guard.now (M.cells ram.old) }
-    ensures size { length (M.cells ram.new) ≡ length (M.cells ram.old) }
-    ensures claims { M.claims ram.new ≡ M.claims ram.old }
+    ensures cells { ram.new.memory ≡ store_after guard.now ram.old.memory }
+    ensures size { length ram.new.memory ≡ length ram.old.memory }
+    ensures claims { ram.new.marks ≡ ram.old.marks }
     ensures agrees { StillAgrees state.old state.new }
 {
     match guard {
@@ -266,11 +267,11 @@ fn is_ready(guard: &Guard) -> bool
 }
 
 /// A guard is disabled, and selected where it is ready and none was before it.
-fn select<M: Ram>(state: &mut State, ram: &mut M, guard: &Guard) -> Result<Ran, Break>
-    requires agrees { Agrees (M.claims ram.old) state.old }
-    requires may { MayDisable (length (M.cells ram.old)) (M.claims ram.old) guard.now }
-    ensures done { Does (run_from (selects state.old.registers.a (ready_as guard.now) (control_after guard.now state.old)) (M.cells ram.old) (M.claims ram.old) (store_after guard.now (M.cells ram.old))) state.old (M.cells ram.old) result state.new (M.cells ram.new) }
-    ensures agrees { Agrees (M.claims ram.new) state.new }
+fn select(state: &mut State, ram: &mut Ram, guard: &Guard) -> Result<Ran, Break>
+    requires agrees { Agrees ram.old.marks state.old }
+    requires may { MayDisable (length ram.old.memory) ram.old.marks guard.now }
+    ensures done { Does (run_from (selects state.old.registers.a (ready_as guard.now) (control_after guard.now state.old)) ram.old.memory ram.old.marks (store_after guard.now ram.old.memory)) state.old ram.old.memory result state.new ram.new.memory }
+    ensures agrees { Agrees ram.new.marks state.new }
 {
     let r = state.registers;
     let selected = ram.take_word(r.wptr)?;
@@ -288,11 +289,11 @@ fn select<M: Ram>(state: &mut State, ram: &mut M, guard: &Guard) -> Result<Ran, 
 }
 
 /// A guard on a channel is disabled.
-pub fn disable_channel<M: Ram>(state: &mut State, ram: &mut M) -> Result<Ran, Break>
+pub fn disable_channel(state: &mut State, ram: &mut Ram) -> Result<Ran, Break>
     requires plain { IsPlain state.old }
-    requires agrees { Agrees (M.claims ram.old) state.old }
-    ensures done { Does (run (disables_channel state.old) (M.cells ram.old) (M.claims ram.old)) state.old (M.cells ram.old) result state.new (M.cells ram.new) }
-    ensures agrees { Agrees (M.claims ram.new) state.new }
+    requires agrees { Agrees ram.old.marks state.old }
+    ensures done { Does (run (disables_channel state.old) ram.old.memory ram.old.marks) state.old ram.old.memory result state.new ram.new.memory }
+    ensures agrees { Agrees ram.new.marks state.new }
 {
     if state.registers.b.get() == 0 {
         return select(state, ram, &Guard::NotReady);
@@ -302,10 +303,10 @@ pub fn disable_channel<M: Ram>(state: &mut State, ram: &mut M) -> Result<Ran, Br
 }
 
 /// A guard without a channel is disabled.
-pub fn disable_skip<M: Ram>(state: &mut State, ram: &mut M) -> Result<Ran, Break>
-    requires agrees { Agrees (M.claims ram.old) state.old }
-    ensures done { Does (run (disables_skip state.old) (M.cells ram.old) (M.claims ram.old)) state.old (M.cells ram.old) result state.new (M.cells ram.new) }
-    ensures agrees { Agrees (M.claims ram.new) state.new }
+pub fn disable_skip(state: &mut State, ram: &mut Ram) -> Result<Ran, Break>
+    requires agrees { Agrees ram.old.marks state.old }
+    ensures done { Does (run (disables_skip state.old) ram.old.memory ram.old.marks) state.old ram.old.memory result state.new ram.new.memory }
+    ensures agrees { Agrees ram.new.marks state.new }
 {
     if state.registers.b.get() == 0 {
         select(state, ram, &Guard::NotReady)
@@ -315,8 +316,8 @@ pub fn disable_skip<M: Ram>(state: &mut State, ram: &mut M) -> Result<Ran, Break
 }
 
 /// The branch of the guard that was selected follows.
-pub fn end_choice<M: Ram>(state: &mut State, ram: &M) -> Result<Ran, Break>
-    ensures done { Does (run (ends_choice state.old) (M.cells ram.now) (M.claims ram.now)) state.old (M.cells ram.now) result state.new (M.cells ram.now) }
+pub fn end_choice(state: &mut State, ram: &Ram) -> Result<Ran, Break>
+    ensures done { Does (run (ends_choice state.old) ram.now.memory ram.now.marks) state.old ram.now.memory result state.new ram.now.memory }
     ensures agrees { StillAgrees state.old state.new }
 {
     let r = state.registers;

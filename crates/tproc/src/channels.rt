@@ -4,7 +4,6 @@ ghost use Rattle.std.specs.Prelude.{◌≡◌, ◌<◌, ◌∷◌, ℕ, Ok, Some
 ghost use Rattle.tword.specs.Claims.{has_saved, saving};
 ghost use Rattle.tword.specs.Actions.{run_from};
 ghost use Rattle.tword.specs.Touches.{Writes, word_break};
-ghost use Rattle.tword.specs.Words.{word_below};
 ghost use Rattle.tproc.specs.Channels.{own_side, reason_for, waits_on_channel, is_choosing as choosing};
 ghost use Rattle.tproc.specs.Agreement.{Agrees, IsOwn, IsPlain};
 ghost use Rattle.tproc.specs.Doing.{Does, PartFrom, Refuses, laid};
@@ -72,15 +71,6 @@ impl Request {
     }
 }
 
-/// The address of word `-k` below a workspace.
-#[inline]
-pub fn below(workspace: Word, k: u32) -> Word
-    requires { k < 4 }
-    ensures { result ≡ word_below workspace k }
-{
-    Word::new(workspace.get().wrapping_sub(4 * k))
-}
-
 /// An alternative is under way and does not wait.
 pub fn is_choosing(state: Word) -> bool
     ensures { result ≡ choosing state }
@@ -89,11 +79,11 @@ pub fn is_choosing(state: Word) -> bool
 }
 
 /// Lays the first word of a row down at the workspace, if the row has one.
-pub fn lay<M: Ram>(ram: &mut M, workspace: Word, first: Option<Word>)
-    requires free { IfSome first (λ _. word_break (length (M.cells ram.old)) (M.claims ram.old) Writes workspace ≡ None) }
-    ensures cells { M.cells ram.new ≡ laid first workspace (M.cells ram.old) }
-    ensures size { length (M.cells ram.new) ≡ length (M.cells ram.old) }
-    ensures claims { M.claims ram.new ≡ M.claims ram.old }
+pub fn lay(ram: &mut Ram, workspace: Word, first: Option<Word>)
+    requires free { IfSome first (λ _. word_break (length ram.old.memory) ram.old.marks Writes workspace ≡ None) }
+    ensures cells { ram.new.memory ≡ laid first workspace ram.old.memory }
+    ensures size { length ram.new.memory ≡ length ram.old.memory }
+    ensures claims { ram.new.marks ≡ ram.old.marks }
 {
     if let Some(word) = first {
         ram.set_word(workspace, word);
@@ -102,9 +92,9 @@ pub fn lay<M: Ram>(ram: &mut M, workspace: Word, first: Option<Word>)
 
 /// The checks of a process that leaves its side of a message at a channel and waits.
 #[tactic(auto, unfolding(crate::specs::Channels::own_side))]
-pub fn may_leave<M: Ram>(state: &State, ram: &M, q: &Request) -> Result<(), Break>
-    ensures refused { IfErr result (λ b. Refuses (own_side (request q.now) state.now) (M.claims ram.now) (M.cells ram.now) b) }
-    ensures free { OnOk result (MayLeave (length (M.cells ram.now)) (M.claims ram.now) state.now.registers.wptr (request q.now)) }
+pub fn may_leave(state: &State, ram: &Ram, q: &Request) -> Result<(), Break>
+    ensures refused { IfErr result (λ b. Refuses (own_side (request q.now) state.now) ram.now.marks ram.now.memory b) }
+    ensures free { OnOk result (MayLeave (length ram.now.memory) ram.now.marks state.now.registers.wptr (request q.now)) }
 {
     let own = state.registers.wptr;
     ram.may_deschedule(own)?;
@@ -117,14 +107,14 @@ pub fn may_leave<M: Ram>(state: &State, ram: &M, q: &Request) -> Result<(), Brea
 
 /// The first of two processes leaves its descriptor in the channel and its buffer in its workspace.
 #[tactic(auto, using(crate::proofs::Agreeing::saved_itself, crate::proofs::Saved::saved_beside), unfolding(crate::specs::Channels::own_side))]
-pub fn leave<M: Ram>(state: &State, ram: &mut M, q: &Request)
-    requires first { IfSome q.now.first (λ _. word_break (length (M.cells ram.old)) (M.claims ram.old) Writes state.now.registers.wptr ≡ None) }
-    requires free { MayLeave (length (M.cells ram.old)) (M.claims ram.old) state.now.registers.wptr (request q.now) }
-    requires room { length (M.claims ram.old).saved < 512 }
-    ensures done { PartFrom (own_side (request q.now) state.now) (M.claims ram.old) (M.cells ram.old) (laid q.now.first state.now.registers.wptr (M.cells ram.old)) (Ok tt) (M.claims ram.new) (M.cells ram.new) }
-    ensures claims { M.claims ram.new ≡ saving state.now.registers.wptr (M.claims ram.old) }
-    ensures keeps { (v : ℕ) → has_saved (M.claims ram.old) v ≡ true → has_saved (M.claims ram.new) v ≡ true }
-    ensures size { length (M.cells ram.new) ≡ length (M.cells ram.old) }
+pub fn leave(state: &State, ram: &mut Ram, q: &Request)
+    requires first { IfSome q.now.first (λ _. word_break (length ram.old.memory) ram.old.marks Writes state.now.registers.wptr ≡ None) }
+    requires free { MayLeave (length ram.old.memory) ram.old.marks state.now.registers.wptr (request q.now) }
+    requires room { length ram.old.marks.saved < 512 }
+    ensures done { PartFrom (own_side (request q.now) state.now) ram.old.marks ram.old.memory (laid q.now.first state.now.registers.wptr ram.old.memory) (Ok tt) ram.new.marks ram.new.memory }
+    ensures claims { ram.new.marks ≡ saving state.now.registers.wptr ram.old.marks }
+    ensures keeps { (v : ℕ) → has_saved ram.old.marks v ≡ true → has_saved ram.new.marks v ≡ true }
+    ensures size { length ram.new.memory ≡ length ram.old.memory }
 {
     let own = state.registers.wptr;
     lay(ram, own, q.first);
@@ -136,13 +126,13 @@ pub fn leave<M: Ram>(state: &State, ram: &mut M, q: &Request)
 
 /// The first of two processes waits on the channel.
 #[tactic(auto, using(crate::proofs::Places::place_own, crate::proofs::Places::room_own, crate::proofs::Agreeing::agrees_but))]
-pub fn wait_on_channel<M: Ram>(state: &mut State, ram: &mut M, q: &Request) -> Result<Ran, Break>
+pub fn wait_on_channel(state: &mut State, ram: &mut Ram, q: &Request) -> Result<Ran, Break>
     requires own { IsOwn q.now.process state.old }
     requires plain { IsPlain state.old }
-    requires agrees { Agrees (M.claims ram.old) state.old }
-    requires free { IfSome q.now.first (λ _. word_break (length (M.cells ram.old)) (M.claims ram.old) Writes state.old.registers.wptr ≡ None) }
-    ensures done { Does (run_from (waits_on_channel (request q.now) state.old) (M.cells ram.old) (M.claims ram.old) (laid q.now.first state.old.registers.wptr (M.cells ram.old))) state.old (M.cells ram.old) result state.new (M.cells ram.new) }
-    ensures agrees { Agrees (M.claims ram.new) state.new }
+    requires agrees { Agrees ram.old.marks state.old }
+    requires free { IfSome q.now.first (λ _. word_break (length ram.old.memory) ram.old.marks Writes state.old.registers.wptr ≡ None) }
+    ensures done { Does (run_from (waits_on_channel (request q.now) state.old) ram.old.memory ram.old.marks (laid q.now.first state.old.registers.wptr ram.old.memory)) state.old ram.old.memory result state.new ram.new.memory }
+    ensures agrees { Agrees ram.new.marks state.new }
 {
     may_leave(state, ram, q)?;
     leave(state, ram, q);

@@ -17,12 +17,12 @@ use tword::Word;
 
 /// A process that has left its queue runs, with the flags as they are.
 #[tactic(auto, using(crate::proofs::Saved::itself_saved))]
-pub fn start_queued<M: Ram>(state: &mut State, ram: &mut M, workspace: Word, priority: u8)
-    requires agrees { AgreesWith (workspace ∷ []) (M.claims ram.old) state.old }
+pub fn start_queued(state: &mut State, ram: &mut Ram, workspace: Word, priority: u8)
+    requires agrees { AgreesWith (workspace ∷ []) ram.old.marks state.old }
     requires fresh { is_among workspace (descheduled state.old) ≡ false }
-    ensures agrees { Agrees (M.claims ram.new) state.new }
-    ensures done { run (started workspace priority state.old) (M.cells ram.old) (M.claims ram.old) ≡ Ok (state.new, M.cells ram.new) }
-    ensures cells { M.cells ram.new ≡ M.cells ram.old }
+    ensures agrees { Agrees ram.new.marks state.new }
+    ensures done { run (started workspace priority state.old) ram.old.memory ram.old.marks ≡ Ok (state.new, ram.new.memory) }
+    ensures cells { ram.new.memory ≡ ram.old.memory }
 {
     let iptr = ram.saved_word(workspace, IPTR_WORD);
     ram.free(workspace);
@@ -30,11 +30,11 @@ pub fn start_queued<M: Ram>(state: &mut State, ram: &mut M, workspace: Word, pri
 }
 
 /// The first process that may run is dispatched: a high one, the interrupted one, a low one.
-pub fn dispatch<M: Ram>(state: &mut State, ram: &mut M) -> Ran
+pub fn dispatch(state: &mut State, ram: &mut Ram) -> Ran
     requires plain { IsPlain state.old }
-    requires agrees { Agrees (M.claims ram.old) state.old }
-    ensures done { Does (run (dispatching state.old.high state.old) (M.cells ram.old) (M.claims ram.old)) state.old (M.cells ram.old) (Ok result) state.new (M.cells ram.new) }
-    ensures agrees { Agrees (M.claims ram.new) state.new }
+    requires agrees { Agrees ram.old.marks state.old }
+    ensures done { Does (run (dispatching state.old.high state.old) ram.old.memory ram.old.marks) state.old ram.old.memory (Ok result) state.new ram.new.memory }
+    ensures agrees { Agrees ram.new.marks state.new }
 {
     if let Some(workspace) = state.take_high() {
         start_queued(state, ram, workspace, 0);

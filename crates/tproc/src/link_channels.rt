@@ -2,8 +2,7 @@
 
 ghost use Rattle.std.specs.Prelude.{◌≡◌, ◌<◌, ◌∷◌, Some, None, true, false, IfOk, IfSome, length};
 ghost use Rattle.tword.specs.Actions.{or_break, run_from};
-ghost use Rattle.tword.specs.Touches.{Reads, Writes, span_break, word_break};
-ghost use Rattle.tproc.specs.Machine.{buffer_of};
+ghost use Rattle.tword.specs.Touches.{Writes, word_break};
 ghost use Rattle.tproc.specs.Channels.{Input, Output};
 ghost use Rattle.tproc.specs.LinkChannels.{is_link as names_link, link_of, is_free as end_free, link_message as messaging, link_end, with_link};
 ghost use Rattle.tproc.specs.Agreement.{Agrees, AgreesWith, IsOwn, IsPlain};
@@ -74,14 +73,12 @@ impl State {
 }
 
 /// The offer of a pending output stands at its link.
-fn offer_output<M: Ram>(state: &mut State, ram: &mut M, link: u8, offer: Offer)
+fn offer_output(state: &mut State, ram: &mut Ram, link: u8, offer: Offer)
     requires link { link < 4 }
-    requires agrees { Agrees (M.claims ram.old) state.old }
-    requires quiet { (link_end state.old link).output ≡ None }
-    requires touched { span_break (length (M.cells ram.old)) (M.claims ram.old) Reads (buffer_of offer) ≡ None }
+    requires agrees { Agrees ram.old.marks state.old }
     ensures done { state.new ≡ with_link link (record (link_end state.old link) { output = Some offer }) state.old }
-    ensures cells { M.cells ram.new ≡ M.cells ram.old }
-    ensures agrees { Agrees (M.claims ram.new) state.new }
+    ensures cells { ram.new.memory ≡ ram.old.memory }
+    ensures agrees { Agrees ram.new.marks state.new }
 {
     ram.claim_output(link, offer.buffer, offer.length);
     state.set_link(
@@ -94,14 +91,12 @@ fn offer_output<M: Ram>(state: &mut State, ram: &mut M, link: u8, offer: Offer)
 }
 
 /// The offer of a pending input stands at its link: it ends the enabling of the link, and a byte that waits is no longer noticed.
-fn offer_input<M: Ram>(state: &mut State, ram: &mut M, link: u8, offer: Offer)
+fn offer_input(state: &mut State, ram: &mut Ram, link: u8, offer: Offer)
     requires link { link < 4 }
-    requires agrees { Agrees (M.claims ram.old) state.old }
-    requires quiet { (link_end state.old link).input ≡ None }
-    requires touched { span_break (length (M.cells ram.old)) (M.claims ram.old) Writes (buffer_of offer) ≡ None }
+    requires agrees { Agrees ram.old.marks state.old }
     ensures done { state.new ≡ with_link link (record (link_end state.old link) { input = Some offer; noticed = false; remembered = None }) state.old }
-    ensures cells { M.cells ram.new ≡ M.cells ram.old }
-    ensures agrees { Agrees (M.claims ram.new) state.new }
+    ensures cells { ram.new.memory ≡ ram.old.memory }
+    ensures agrees { Agrees ram.new.marks state.new }
 {
     ram.claim_input(link, offer.buffer, offer.length);
     state.set_link(
@@ -117,15 +112,15 @@ fn offer_input<M: Ram>(state: &mut State, ram: &mut M, link: u8, offer: Offer)
 
 /// A process sends on a link, and waits until the whole message has gone over.
 #[tactic(auto, using(crate::proofs::Places::place_own, crate::proofs::Places::room_own, crate::proofs::Agreeing::agrees_but, crate::proofs::Agreeing::saved_itself))]
-fn send_on_link<M: Ram>(state: &mut State, ram: &mut M, q: &Request) -> Result<Ran, Break>
+fn send_on_link(state: &mut State, ram: &mut Ram, q: &Request) -> Result<Ran, Break>
     requires side { (request q.now).side ≡ Output }
     requires link { names_link q.now.channel ≡ true }
     requires own { IsOwn q.now.process state.old }
     requires plain { IsPlain state.old }
-    requires agrees { Agrees (M.claims ram.old) state.old }
-    requires free { IfSome q.now.first (λ _. word_break (length (M.cells ram.old)) (M.claims ram.old) Writes state.old.registers.wptr ≡ None) }
-    ensures done { Does (run_from (messaging (request q.now) state.old) (M.cells ram.old) (M.claims ram.old) (laid q.now.first state.old.registers.wptr (M.cells ram.old))) state.old (M.cells ram.old) result state.new (M.cells ram.new) }
-    ensures agrees { Agrees (M.claims ram.new) state.new }
+    requires agrees { Agrees ram.old.marks state.old }
+    requires free { IfSome q.now.first (λ _. word_break (length ram.old.memory) ram.old.marks Writes state.old.registers.wptr ≡ None) }
+    ensures done { Does (run_from (messaging (request q.now) state.old) ram.old.memory ram.old.marks (laid q.now.first state.old.registers.wptr ram.old.memory)) state.old ram.old.memory result state.new ram.new.memory }
+    ensures agrees { Agrees ram.new.marks state.new }
 {
     let own = state.registers.wptr;
     let link = link_at(Side::Output, q.channel)?;
@@ -152,15 +147,15 @@ fn send_on_link<M: Ram>(state: &mut State, ram: &mut M, q: &Request) -> Result<R
 
 /// A process receives on a link, and waits until the whole message has gone over.
 #[tactic(auto, using(crate::proofs::Places::place_own, crate::proofs::Places::room_own, crate::proofs::Agreeing::agrees_but, crate::proofs::Agreeing::saved_itself))]
-fn receive_on_link<M: Ram>(state: &mut State, ram: &mut M, q: &Request) -> Result<Ran, Break>
+fn receive_on_link(state: &mut State, ram: &mut Ram, q: &Request) -> Result<Ran, Break>
     requires side { (request q.now).side ≡ Input }
     requires link { names_link q.now.channel ≡ true }
     requires own { IsOwn q.now.process state.old }
     requires plain { IsPlain state.old }
-    requires agrees { Agrees (M.claims ram.old) state.old }
-    requires free { IfSome q.now.first (λ _. word_break (length (M.cells ram.old)) (M.claims ram.old) Writes state.old.registers.wptr ≡ None) }
-    ensures done { Does (run_from (messaging (request q.now) state.old) (M.cells ram.old) (M.claims ram.old) (laid q.now.first state.old.registers.wptr (M.cells ram.old))) state.old (M.cells ram.old) result state.new (M.cells ram.new) }
-    ensures agrees { Agrees (M.claims ram.new) state.new }
+    requires agrees { Agrees ram.old.marks state.old }
+    requires free { IfSome q.now.first (λ _. word_break (length ram.old.memory) ram.old.marks Writes state.old.registers.wptr ≡ None) }
+    ensures done { Does (run_from (messaging (request q.now) state.old) ram.old.memory ram.old.marks (laid q.now.first state.old.registers.wptr ram.old.memory)) state.old ram.old.memory result state.new ram.new.memory }
+    ensures agrees { Agrees ram.new.marks state.new }
 {
     let own = state.registers.wptr;
     let link = link_at(Side::Input, q.channel)?;
@@ -186,14 +181,14 @@ fn receive_on_link<M: Ram>(state: &mut State, ram: &mut M, q: &Request) -> Resul
 }
 
 /// A message on a link.
-pub fn link_message<M: Ram>(state: &mut State, ram: &mut M, q: &Request) -> Result<Ran, Break>
+pub fn link_message(state: &mut State, ram: &mut Ram, q: &Request) -> Result<Ran, Break>
     requires link { names_link q.now.channel ≡ true }
     requires own { IsOwn q.now.process state.old }
     requires plain { IsPlain state.old }
-    requires agrees { Agrees (M.claims ram.old) state.old }
-    requires free { IfSome q.now.first (λ _. word_break (length (M.cells ram.old)) (M.claims ram.old) Writes state.old.registers.wptr ≡ None) }
-    ensures done { Does (run_from (messaging (request q.now) state.old) (M.cells ram.old) (M.claims ram.old) (laid q.now.first state.old.registers.wptr (M.cells ram.old))) state.old (M.cells ram.old) result state.new (M.cells ram.new) }
-    ensures agrees { Agrees (M.claims ram.new) state.new }
+    requires agrees { Agrees ram.old.marks state.old }
+    requires free { IfSome q.now.first (λ _. word_break (length ram.old.memory) ram.old.marks Writes state.old.registers.wptr ≡ None) }
+    ensures done { Does (run_from (messaging (request q.now) state.old) ram.old.memory ram.old.marks (laid q.now.first state.old.registers.wptr ram.old.memory)) state.old ram.old.memory result state.new ram.new.memory }
+    ensures agrees { Agrees ram.new.marks state.new }
 {
     match q.side {
         Side::Output => send_on_link(state, ram, q),

@@ -9,22 +9,23 @@ ghost use Rattle.tproc.specs.Links.{wakes, readies_queued, readies_running, noti
 ghost use Rattle.tproc.specs.Agreement.{Agrees, AgreesWith, IsPlain};
 ghost use Rattle.tproc.specs.Doing.{Does, as_step};
 
-use crate::channels::{ENABLING, READY, below};
+use crate::channels::{ENABLING, READY};
 use crate::offer::Ran;
 use crate::queues::{IPTR_WORD, STATE_WORD, admit, enqueue, release};
 use crate::ram::Ram;
 use crate::standing::Standing;
 use crate::state::{State, workspace_of};
 use crate::waiting::{LinkEnd, Reason};
+use crate::words::below;
 use tword::{Break, Word};
 
 /// A process from outside is let in, with its first address.
 #[tactic(auto, using(crate::proofs::Saved::itself_saved, crate::proofs::Saved::are_saved))]
-pub fn add<M: Ram>(state: &mut State, ram: &mut M, process: Word, iptr: Word) -> Result<Ran, Break>
+pub fn add(state: &mut State, ram: &mut Ram, process: Word, iptr: Word) -> Result<Ran, Break>
     requires plain { IsPlain state.old }
-    requires agrees { Agrees (M.claims ram.old) state.old }
-    ensures done { Does (run (as_step (add_process process iptr state.old)) (M.cells ram.old) (M.claims ram.old)) state.old (M.cells ram.old) result state.new (M.cells ram.new) }
-    ensures agrees { Agrees (M.claims ram.new) state.new }
+    requires agrees { Agrees ram.old.marks state.old }
+    ensures done { Does (run (as_step (add_process process iptr state.old)) ram.old.memory ram.old.marks) state.old ram.old.memory result state.new ram.new.memory }
+    ensures agrees { Agrees ram.new.marks state.new }
 {
     admit(state, ram, process)?;
     ram.set_saved_word(workspace_of(process), IPTR_WORD, iptr);
@@ -34,12 +35,12 @@ pub fn add<M: Ram>(state: &mut State, ram: &mut M, process: Word, iptr: Word) ->
 
 /// A process that waits for its alternative is told that it is ready.
 #[tactic(auto, using(crate::proofs::Saved::are_saved, crate::proofs::Saved::waiter_saved))]
-fn wake<M: Ram>(state: &mut State, ram: &mut M, process: Word) -> Ran
+fn wake(state: &mut State, ram: &mut Ram, process: Word) -> Ran
     requires plain { IsPlain state.old }
-    requires agrees { Agrees (M.claims ram.old) state.old }
+    requires agrees { Agrees ram.old.marks state.old }
     requires waits { IsSome (reason_of state.old process) }
-    ensures done { Does (run (as_step (wakes process state.old)) (M.cells ram.old) (M.claims ram.old)) state.old (M.cells ram.old) (Ok result) state.new (M.cells ram.new) }
-    ensures agrees { Agrees (M.claims ram.new) state.new }
+    ensures done { Does (run (as_step (wakes process state.old)) ram.old.memory ram.old.marks) state.old ram.old.memory (Ok result) state.new ram.new.memory }
+    ensures agrees { Agrees ram.new.marks state.new }
 {
     ram.set_saved_word(workspace_of(process), STATE_WORD, Word::new(READY));
     release(state, ram, process);
@@ -48,11 +49,11 @@ fn wake<M: Ram>(state: &mut State, ram: &mut M, process: Word) -> Ran
 
 /// A queued process is told, where it is enabling.
 #[tactic(auto, using(crate::proofs::Saved::are_saved, crate::proofs::Saved::queued_saved))]
-fn ready_queued<M: Ram>(state: &State, ram: &mut M, process: Word) -> Ran
-    requires agrees { Agrees (M.claims ram.old) state.now }
+fn ready_queued(state: &State, ram: &mut Ram, process: Word) -> Ran
+    requires agrees { Agrees ram.old.marks state.now }
     requires queued { is_queued state.now process ≡ true }
-    ensures done { Does (run (as_step (readies_queued process state.now)) (M.cells ram.old) (M.claims ram.old)) state.now (M.cells ram.old) (Ok result) state.now (M.cells ram.new) }
-    ensures claims { M.claims ram.new ≡ M.claims ram.old }
+    ensures done { Does (run (as_step (readies_queued process state.now)) ram.old.memory ram.old.marks) state.now ram.old.memory (Ok result) state.now ram.new.memory }
+    ensures claims { ram.new.marks ≡ ram.old.marks }
 {
     let workspace = workspace_of(process);
     if ram.saved_word(workspace, STATE_WORD).get() == ENABLING {
@@ -62,9 +63,9 @@ fn ready_queued<M: Ram>(state: &State, ram: &mut M, process: Word) -> Ran
 }
 
 /// A process that runs or was interrupted is told, where it is enabling.
-fn ready_running<M: Ram>(state: &State, ram: &mut M, process: Word) -> Result<Ran, Break>
-    ensures done { Does (run (as_step (readies_running process state.now)) (M.cells ram.old) (M.claims ram.old)) state.now (M.cells ram.old) result state.now (M.cells ram.new) }
-    ensures claims { M.claims ram.new ≡ M.claims ram.old }
+fn ready_running(state: &State, ram: &mut Ram, process: Word) -> Result<Ran, Break>
+    ensures done { Does (run (as_step (readies_running process state.now)) ram.old.memory ram.old.marks) state.now ram.old.memory result state.now ram.new.memory }
+    ensures claims { ram.new.marks ≡ ram.old.marks }
 {
     let address = below(workspace_of(process), STATE_WORD);
     if ram.take_word(address)?.get() == ENABLING {
@@ -74,11 +75,11 @@ fn ready_running<M: Ram>(state: &State, ram: &mut M, process: Word) -> Result<Ra
 }
 
 /// The process that enabled a link is told that a byte waits there.
-fn tell<M: Ram>(state: &mut State, ram: &mut M, process: Word)
+fn tell(state: &mut State, ram: &mut Ram, process: Word)
     requires plain { IsPlain state.old }
-    requires agrees { Agrees (M.claims ram.old) state.old }
-    ensures done { record { control = state.new; store = M.cells ram.new } ≡ notify_at (standing state.old process) process (record { control = state.old; store = M.cells ram.old }) }
-    ensures agrees { Agrees (M.claims ram.new) state.new }
+    requires agrees { Agrees ram.old.marks state.old }
+    ensures done { record { control = state.new; store = ram.new.memory } ≡ notify_at (standing state.old process) process (record { control = state.old; store = ram.old.memory }) }
+    ensures agrees { Agrees ram.new.marks state.new }
 {
     match &state.standing(process) {
         Standing::Waits(Reason::Chooses) => {
@@ -96,12 +97,12 @@ fn tell<M: Ram>(state: &mut State, ram: &mut M, process: Word)
 
 /// A byte waits at a link and no input is pending.
 #[tactic(auto, unfolding(crate::specs::Links::notice))]
-pub fn notice<M: Ram>(state: &mut State, ram: &mut M, link: u8)
+pub fn notice(state: &mut State, ram: &mut Ram, link: u8)
     requires link { link < 4 }
     requires plain { IsPlain state.old }
-    requires agrees { Agrees (M.claims ram.old) state.old }
-    ensures done { record { control = state.new; store = M.cells ram.new } ≡ noticing link (record { control = state.old; store = M.cells ram.old }) }
-    ensures agrees { Agrees (M.claims ram.new) state.new }
+    requires agrees { Agrees ram.old.marks state.old }
+    ensures done { record { control = state.new; store = ram.new.memory } ≡ noticing link (record { control = state.old; store = ram.old.memory }) }
+    ensures agrees { Agrees ram.new.marks state.new }
 {
     let end = state.link(link);
     state.set_link(
@@ -118,13 +119,13 @@ pub fn notice<M: Ram>(state: &mut State, ram: &mut M, link: u8)
 }
 
 /// The pending output of a link is over: its process is queued.
-pub fn finish_output<M: Ram>(state: &mut State, ram: &mut M, link: u8) -> Ran
+pub fn finish_output(state: &mut State, ram: &mut Ram, link: u8) -> Ran
     requires link { link < 4 }
     requires plain { IsPlain state.old }
-    requires agrees { Agrees (M.claims ram.old) state.old }
+    requires agrees { Agrees ram.old.marks state.old }
     requires waits { IfSome (link_end state.old link).output (λ o. IsSome (reason_of state.old o.wdesc)) }
-    ensures done { Does (run (as_step (finished (link_end state.old link).output (with_link link (record (link_end state.old link) { output = None }) state.old))) (M.cells ram.old) (M.claims ram.old)) state.old (M.cells ram.old) (Ok result) state.new (M.cells ram.new) }
-    ensures agrees { Agrees (M.claims ram.new) state.new }
+    ensures done { Does (run (as_step (finished (link_end state.old link).output (with_link link (record (link_end state.old link) { output = None }) state.old))) ram.old.memory ram.old.marks) state.old ram.old.memory (Ok result) state.new ram.new.memory }
+    ensures agrees { Agrees ram.new.marks state.new }
 {
     let end = state.link(link);
     state.set_link(
@@ -142,13 +143,13 @@ pub fn finish_output<M: Ram>(state: &mut State, ram: &mut M, link: u8) -> Ran
 }
 
 /// The pending input of a link is over: its process is queued.
-pub fn finish_input<M: Ram>(state: &mut State, ram: &mut M, link: u8) -> Ran
+pub fn finish_input(state: &mut State, ram: &mut Ram, link: u8) -> Ran
     requires link { link < 4 }
     requires plain { IsPlain state.old }
-    requires agrees { Agrees (M.claims ram.old) state.old }
+    requires agrees { Agrees ram.old.marks state.old }
     requires waits { IfSome (link_end state.old link).input (λ o. IsSome (reason_of state.old o.wdesc)) }
-    ensures done { Does (run (as_step (finished (link_end state.old link).input (with_link link (record (link_end state.old link) { input = None }) state.old))) (M.cells ram.old) (M.claims ram.old)) state.old (M.cells ram.old) (Ok result) state.new (M.cells ram.new) }
-    ensures agrees { Agrees (M.claims ram.new) state.new }
+    ensures done { Does (run (as_step (finished (link_end state.old link).input (with_link link (record (link_end state.old link) { input = None }) state.old))) ram.old.memory ram.old.marks) state.old ram.old.memory (Ok result) state.new ram.new.memory }
+    ensures agrees { Agrees ram.new.marks state.new }
 {
     let end = state.link(link);
     state.set_link(

@@ -14,30 +14,31 @@ ghost use Rattle.tproc.specs.Agreement.{Agrees, AgreesWith, IsOwn, IsPlain};
 ghost use Rattle.tproc.specs.Doing.{Does, Part, RefusesAfter, laid};
 ghost use Rattle.tproc.specs.Requests.{request, MayLeave, is_own_word as own_word};
 
-use crate::channels::{NOT_PROCESS, READY, Request, Side, below, is_choosing, lay, leave, may_leave, wait_on_channel};
+use crate::channels::{NOT_PROCESS, READY, Request, Side, is_choosing, lay, leave, may_leave, wait_on_channel};
 use crate::offer::Ran;
 use crate::queues::{STATE_WORD, release, require, wait};
 use crate::ram::Ram;
 use crate::standing::Standing;
 use crate::state::{State, workspace_of};
 use crate::waiting::Reason;
+use crate::words::below;
 use tword::{Break, Word};
 
 /// The whole message is copied and the other process is queued; then the registers of the request go on.
-fn exchange<M: Ram>(
+fn exchange(
     state: &mut State,
-    ram: &mut M,
+    ram: &mut Ram,
     q: &Request,
     other: Word,
     from: Word,
     to: Word,
 ) -> Result<Ran, Break>
     requires plain { IsPlain state.old }
-    requires agrees { Agrees (M.claims ram.old) state.old }
+    requires agrees { Agrees ram.old.marks state.old }
     requires waits { IsSome (reason_of state.old other) }
-    requires free { IfSome q.now.first (λ _. word_break (length (M.cells ram.old)) (M.claims ram.old) Writes state.old.registers.wptr ≡ None) }
-    ensures done { Does (run_from (exchanged q.now.after (request q.now) other from to state.old) (M.cells ram.old) (M.claims ram.old) (laid q.now.first state.old.registers.wptr (M.cells ram.old))) state.old (M.cells ram.old) result state.new (M.cells ram.new) }
-    ensures agrees { Agrees (M.claims ram.new) state.new }
+    requires free { IfSome q.now.first (λ _. word_break (length ram.old.memory) ram.old.marks Writes state.old.registers.wptr ≡ None) }
+    ensures done { Does (run_from (exchanged q.now.after (request q.now) other from to state.old) ram.old.memory ram.old.marks (laid q.now.first state.old.registers.wptr ram.old.memory)) state.old ram.old.memory result state.new ram.new.memory }
+    ensures agrees { Agrees ram.new.marks state.new }
 {
     ram.may_write_word(q.channel)?;
     ram.may_copy(from, to, q.length)?;
@@ -50,13 +51,13 @@ fn exchange<M: Ram>(
 }
 
 /// An input finds a process in its channel.
-fn receive<M: Ram>(state: &mut State, ram: &mut M, q: &Request, other: Word) -> Result<Ran, Break>
+fn receive(state: &mut State, ram: &mut Ram, q: &Request, other: Word) -> Result<Ran, Break>
     requires side { (request q.now).side ≡ Input }
     requires plain { IsPlain state.old }
-    requires agrees { Agrees (M.claims ram.old) state.old }
-    requires free { IfSome q.now.first (λ _. word_break (length (M.cells ram.old)) (M.claims ram.old) Writes state.old.registers.wptr ≡ None) }
-    ensures done { Does (run_from (input_meets q.now.after (request q.now) other (standing state.old other) state.old) (M.cells ram.old) (M.claims ram.old) (laid q.now.first state.old.registers.wptr (M.cells ram.old))) state.old (M.cells ram.old) result state.new (M.cells ram.new) }
-    ensures agrees { Agrees (M.claims ram.new) state.new }
+    requires agrees { Agrees ram.old.marks state.old }
+    requires free { IfSome q.now.first (λ _. word_break (length ram.old.memory) ram.old.marks Writes state.old.registers.wptr ≡ None) }
+    ensures done { Does (run_from (input_meets q.now.after (request q.now) other (standing state.old other) state.old) ram.old.memory ram.old.marks (laid q.now.first state.old.registers.wptr ram.old.memory)) state.old ram.old.memory result state.new ram.new.memory }
+    ensures agrees { Agrees ram.new.marks state.new }
 {
     match &state.reason(other) {
         Some(
@@ -77,9 +78,9 @@ fn receive<M: Ram>(state: &mut State, ram: &mut M, q: &Request, other: Word) -> 
 }
 
 /// An output finds a process that waits to receive with this channel, buffer and length.
-fn deliver<M: Ram>(
+fn deliver(
     state: &mut State,
-    ram: &mut M,
+    ram: &mut Ram,
     q: &Request,
     other: Word,
     channel: Word,
@@ -88,11 +89,11 @@ fn deliver<M: Ram>(
 ) -> Result<Ran, Break>
     requires side { (request q.now).side ≡ Output }
     requires plain { IsPlain state.old }
-    requires agrees { Agrees (M.claims ram.old) state.old }
+    requires agrees { Agrees ram.old.marks state.old }
     requires waits { IsSome (reason_of state.old other) }
-    requires free { IfSome q.now.first (λ _. word_break (length (M.cells ram.old)) (M.claims ram.old) Writes state.old.registers.wptr ≡ None) }
-    ensures done { Does (run_from (met q.now.after (request q.now) other Output channel buffer size state.old) (M.cells ram.old) (M.claims ram.old) (laid q.now.first state.old.registers.wptr (M.cells ram.old))) state.old (M.cells ram.old) result state.new (M.cells ram.new) }
-    ensures agrees { Agrees (M.claims ram.new) state.new }
+    requires free { IfSome q.now.first (λ _. word_break (length ram.old.memory) ram.old.marks Writes state.old.registers.wptr ≡ None) }
+    ensures done { Does (run_from (met q.now.after (request q.now) other Output channel buffer size state.old) ram.old.memory ram.old.marks (laid q.now.first state.old.registers.wptr ram.old.memory)) state.old ram.old.memory result state.new ram.new.memory }
+    ensures agrees { Agrees ram.new.marks state.new }
 {
     require(channel == q.channel, Break::ChannelMisuse)?;
     require(size == q.length, Break::LengthMismatch)?;
@@ -103,15 +104,15 @@ fn deliver<M: Ram>(
 
 /// An output finds a process that waits for its alternative: that becomes ready.
 #[tactic(auto, using(crate::proofs::Places::place_own, crate::proofs::Places::room_own, crate::proofs::Agreeing::agrees_but, crate::proofs::Saved::are_saved_beside))]
-fn wake_choice<M: Ram>(state: &mut State, ram: &mut M, q: &Request, other: Word) -> Result<Ran, Break>
+fn wake_choice(state: &mut State, ram: &mut Ram, q: &Request, other: Word) -> Result<Ran, Break>
     requires own { IsOwn q.now.process state.old }
     requires plain { IsPlain state.old }
-    requires agrees { Agrees (M.claims ram.old) state.old }
+    requires agrees { Agrees ram.old.marks state.old }
     requires waits { IsSome (reason_of state.old other) }
-    requires saved { has_saved (M.claims ram.old) (the_workspace other) ≡ true }
-    requires free { IfSome q.now.first (λ _. word_break (length (M.cells ram.old)) (M.claims ram.old) Writes state.old.registers.wptr ≡ None) }
-    ensures done { Does (run_from (wakes_choice (request q.now) other state.old) (M.cells ram.old) (M.claims ram.old) (laid q.now.first state.old.registers.wptr (M.cells ram.old))) state.old (M.cells ram.old) result state.new (M.cells ram.new) }
-    ensures agrees { Agrees (M.claims ram.new) state.new }
+    requires saved { has_saved ram.old.marks (the_workspace other) ≡ true }
+    requires free { IfSome q.now.first (λ _. word_break (length ram.old.memory) ram.old.marks Writes state.old.registers.wptr ≡ None) }
+    ensures done { Does (run_from (wakes_choice (request q.now) other state.old) ram.old.memory ram.old.marks (laid q.now.first state.old.registers.wptr ram.old.memory)) state.old ram.old.memory result state.new ram.new.memory }
+    ensures agrees { Agrees ram.new.marks state.new }
 {
     may_leave(state, ram, q)?;
     leave(state, ram, q);
@@ -123,14 +124,14 @@ fn wake_choice<M: Ram>(state: &mut State, ram: &mut M, q: &Request, other: Word)
 
 /// An output finds a queued process that has enabled the channel: its alternative becomes ready.
 #[tactic(auto, using(crate::proofs::Places::place_own, crate::proofs::Places::room_own, crate::proofs::Agreeing::agrees_but))]
-fn ready_queued<M: Ram>(state: &mut State, ram: &mut M, q: &Request, other: Word) -> Result<Ran, Break>
+fn ready_queued(state: &mut State, ram: &mut Ram, q: &Request, other: Word) -> Result<Ran, Break>
     requires own { IsOwn q.now.process state.old }
     requires plain { IsPlain state.old }
-    requires agrees { Agrees (M.claims ram.old) state.old }
-    requires saved { has_saved (M.claims ram.old) (the_workspace other) ≡ true }
-    requires free { IfSome q.now.first (λ _. word_break (length (M.cells ram.old)) (M.claims ram.old) Writes state.old.registers.wptr ≡ None) }
-    ensures done { Does (run_from (output_meets q.now.after (request q.now) other Queued state.old) (M.cells ram.old) (M.claims ram.old) (laid q.now.first state.old.registers.wptr (M.cells ram.old))) state.old (M.cells ram.old) result state.new (M.cells ram.new) }
-    ensures agrees { Agrees (M.claims ram.new) state.new }
+    requires agrees { Agrees ram.old.marks state.old }
+    requires saved { has_saved ram.old.marks (the_workspace other) ≡ true }
+    requires free { IfSome q.now.first (λ _. word_break (length ram.old.memory) ram.old.marks Writes state.old.registers.wptr ≡ None) }
+    ensures done { Does (run_from (output_meets q.now.after (request q.now) other Queued state.old) ram.old.memory ram.old.marks (laid q.now.first state.old.registers.wptr ram.old.memory)) state.old ram.old.memory result state.new ram.new.memory }
+    ensures agrees { Agrees ram.new.marks state.new }
 {
     let workspace = workspace_of(other);
     let chosen = ram.saved_word(workspace, STATE_WORD);
@@ -153,10 +154,10 @@ fn is_own_word(workspace: Word, address: Word) -> bool
 
 /// The checks of a process that leaves its side of a message, and then sets the state word of another, which was touched before.
 #[tactic(auto, unfolding(crate::specs::Channels::own_side))]
-fn may_leave_and_set<M: Ram>(state: &State, ram: &M, q: &Request, other: Word) -> Result<(), Break>
-    ensures refused { IfErr result (λ b. RefusesAfter (own_side (request q.now) state.now) (setting_touched state.now.registers.wptr (word_below (the_workspace other) 3) ready) (M.claims ram.now) (M.cells ram.now) b) }
-    ensures free { OnOk result (MayLeave (length (M.cells ram.now)) (M.claims ram.now) state.now.registers.wptr (request q.now)) }
-    ensures touched { OnOk result (own_word state.now.registers.wptr (word_below (the_workspace other) 3) ≡ false → word_break (length (M.cells ram.now)) (saving state.now.registers.wptr (M.claims ram.now)) Writes (word_below (the_workspace other) 3) ≡ None) }
+fn may_leave_and_set(state: &State, ram: &Ram, q: &Request, other: Word) -> Result<(), Break>
+    ensures refused { IfErr result (λ b. RefusesAfter (own_side (request q.now) state.now) (setting_touched state.now.registers.wptr (word_below (the_workspace other) 3) ready) ram.now.marks ram.now.memory b) }
+    ensures free { OnOk result (MayLeave (length ram.now.memory) ram.now.marks state.now.registers.wptr (request q.now)) }
+    ensures touched { OnOk result (own_word state.now.registers.wptr (word_below (the_workspace other) 3) ≡ false → word_break (length ram.now.memory) (saving state.now.registers.wptr ram.now.marks) Writes (word_below (the_workspace other) 3) ≡ None) }
 {
     may_leave(state, ram, q)?;
     let address = below(workspace_of(other), STATE_WORD);
@@ -167,12 +168,12 @@ fn may_leave_and_set<M: Ram>(state: &State, ram: &M, q: &Request, other: Word) -
 }
 
 /// Sets a word that was touched before the words of a workspace were saved; it may be one of them.
-fn set_touched_word<M: Ram>(ram: &mut M, workspace: Word, address: Word, value: Word)
-    requires saved { has_saved (M.claims ram.old) workspace ≡ true }
-    requires free { own_word workspace address ≡ false → word_break (length (M.cells ram.old)) (M.claims ram.old) Writes address ≡ None }
-    ensures done { Part (setting_touched workspace address value) (M.claims ram.old) (M.cells ram.old) (Ok tt) (M.claims ram.new) (M.cells ram.new) }
-    ensures claims { M.claims ram.new ≡ M.claims ram.old }
-    ensures size { length (M.cells ram.new) ≡ length (M.cells ram.old) }
+fn set_touched_word(ram: &mut Ram, workspace: Word, address: Word, value: Word)
+    requires saved { has_saved ram.old.marks workspace ≡ true }
+    requires free { own_word workspace address ≡ false → word_break (length ram.old.memory) ram.old.marks Writes address ≡ None }
+    ensures done { Part (setting_touched workspace address value) ram.old.marks ram.old.memory (Ok tt) ram.new.marks ram.new.memory }
+    ensures claims { ram.new.marks ≡ ram.old.marks }
+    ensures size { length ram.new.memory ≡ length ram.old.memory }
 {
     if address == below(workspace, 1) {
         ram.set_saved_word(workspace, 1, value);
@@ -187,13 +188,13 @@ fn set_touched_word<M: Ram>(ram: &mut M, workspace: Word, address: Word, value: 
 
 /// A process waits on the channel, and the alternative of another that does not becomes ready.
 #[tactic(auto, using(crate::proofs::Places::place_own, crate::proofs::Places::room_own, crate::proofs::Agreeing::agrees_but))]
-fn wait_and_set<M: Ram>(state: &mut State, ram: &mut M, q: &Request, other: Word) -> Result<Ran, Break>
+fn wait_and_set(state: &mut State, ram: &mut Ram, q: &Request, other: Word) -> Result<Ran, Break>
     requires own { IsOwn q.now.process state.old }
     requires plain { IsPlain state.old }
-    requires agrees { Agrees (M.claims ram.old) state.old }
-    requires free { IfSome q.now.first (λ _. word_break (length (M.cells ram.old)) (M.claims ram.old) Writes state.old.registers.wptr ≡ None) }
-    ensures done { Does (run_from (own_side (request q.now) state.old >>= (λ _. setting_touched state.old.registers.wptr (word_below (the_workspace other) 3) ready >>= (λ _. answer (waiting_for q.now.process (reason_for (request q.now) (request q.now).side) state.old, ran.Instruction)))) (M.cells ram.old) (M.claims ram.old) (laid q.now.first state.old.registers.wptr (M.cells ram.old))) state.old (M.cells ram.old) result state.new (M.cells ram.new) }
-    ensures agrees { Agrees (M.claims ram.new) state.new }
+    requires agrees { Agrees ram.old.marks state.old }
+    requires free { IfSome q.now.first (λ _. word_break (length ram.old.memory) ram.old.marks Writes state.old.registers.wptr ≡ None) }
+    ensures done { Does (run_from (own_side (request q.now) state.old >>= (λ _. setting_touched state.old.registers.wptr (word_below (the_workspace other) 3) ready >>= (λ _. answer (waiting_for q.now.process (reason_for (request q.now) (request q.now).side) state.old, ran.Instruction)))) ram.old.memory ram.old.marks (laid q.now.first state.old.registers.wptr ram.old.memory)) state.old ram.old.memory result state.new ram.new.memory }
+    ensures agrees { Agrees ram.new.marks state.new }
 {
     let own = state.registers.wptr;
     may_leave_and_set(state, ram, q, other)?;
@@ -209,13 +210,13 @@ fn wait_and_set<M: Ram>(state: &mut State, ram: &mut M, q: &Request, other: Word
 }
 
 /// An output finds the interrupted process, which has enabled the channel: its alternative becomes ready.
-fn ready_interrupted<M: Ram>(state: &mut State, ram: &mut M, q: &Request, other: Word) -> Result<Ran, Break>
+fn ready_interrupted(state: &mut State, ram: &mut Ram, q: &Request, other: Word) -> Result<Ran, Break>
     requires own { IsOwn q.now.process state.old }
     requires plain { IsPlain state.old }
-    requires agrees { Agrees (M.claims ram.old) state.old }
-    requires free { IfSome q.now.first (λ _. word_break (length (M.cells ram.old)) (M.claims ram.old) Writes state.old.registers.wptr ≡ None) }
-    ensures done { Does (run_from (output_meets q.now.after (request q.now) other Interrupted state.old) (M.cells ram.old) (M.claims ram.old) (laid q.now.first state.old.registers.wptr (M.cells ram.old))) state.old (M.cells ram.old) result state.new (M.cells ram.new) }
-    ensures agrees { Agrees (M.claims ram.new) state.new }
+    requires agrees { Agrees ram.old.marks state.old }
+    requires free { IfSome q.now.first (λ _. word_break (length ram.old.memory) ram.old.marks Writes state.old.registers.wptr ≡ None) }
+    ensures done { Does (run_from (output_meets q.now.after (request q.now) other Interrupted state.old) ram.old.memory ram.old.marks (laid q.now.first state.old.registers.wptr ram.old.memory)) state.old ram.old.memory result state.new ram.new.memory }
+    ensures agrees { Agrees ram.new.marks state.new }
 {
     let chosen = ram.take_word(below(workspace_of(other), STATE_WORD))?;
     require(is_choosing(chosen), Break::ChannelMisuse)?;
@@ -224,14 +225,14 @@ fn ready_interrupted<M: Ram>(state: &mut State, ram: &mut M, q: &Request, other:
 
 /// An output finds a process in its channel.
 #[tactic(auto, using(crate::proofs::Saved::waiter_saved_now, crate::proofs::Saved::queued_saved_now))]
-fn send<M: Ram>(state: &mut State, ram: &mut M, q: &Request, other: Word) -> Result<Ran, Break>
+fn send(state: &mut State, ram: &mut Ram, q: &Request, other: Word) -> Result<Ran, Break>
     requires side { (request q.now).side ≡ Output }
     requires own { IsOwn q.now.process state.old }
     requires plain { IsPlain state.old }
-    requires agrees { Agrees (M.claims ram.old) state.old }
-    requires free { IfSome q.now.first (λ _. word_break (length (M.cells ram.old)) (M.claims ram.old) Writes state.old.registers.wptr ≡ None) }
-    ensures done { Does (run_from (output_meets q.now.after (request q.now) other (standing state.old other) state.old) (M.cells ram.old) (M.claims ram.old) (laid q.now.first state.old.registers.wptr (M.cells ram.old))) state.old (M.cells ram.old) result state.new (M.cells ram.new) }
-    ensures agrees { Agrees (M.claims ram.new) state.new }
+    requires agrees { Agrees ram.old.marks state.old }
+    requires free { IfSome q.now.first (λ _. word_break (length ram.old.memory) ram.old.marks Writes state.old.registers.wptr ≡ None) }
+    ensures done { Does (run_from (output_meets q.now.after (request q.now) other (standing state.old other) state.old) ram.old.memory ram.old.marks (laid q.now.first state.old.registers.wptr ram.old.memory)) state.old ram.old.memory result state.new ram.new.memory }
+    ensures agrees { Agrees ram.new.marks state.new }
 {
     match &state.standing(other) {
         Standing::Waits(
@@ -249,13 +250,13 @@ fn send<M: Ram>(state: &mut State, ram: &mut M, q: &Request, other: Word) -> Res
 }
 
 /// A process finds another in its channel.
-fn meet<M: Ram>(state: &mut State, ram: &mut M, q: &Request, other: Word) -> Result<Ran, Break>
+fn meet(state: &mut State, ram: &mut Ram, q: &Request, other: Word) -> Result<Ran, Break>
     requires own { IsOwn q.now.process state.old }
     requires plain { IsPlain state.old }
-    requires agrees { Agrees (M.claims ram.old) state.old }
-    requires free { IfSome q.now.first (λ _. word_break (length (M.cells ram.old)) (M.claims ram.old) Writes state.old.registers.wptr ≡ None) }
-    ensures done { Does (run_from (meets (request q.now).side q.now.after (request q.now) other state.old) (M.cells ram.old) (M.claims ram.old) (laid q.now.first state.old.registers.wptr (M.cells ram.old))) state.old (M.cells ram.old) result state.new (M.cells ram.new) }
-    ensures agrees { Agrees (M.claims ram.new) state.new }
+    requires agrees { Agrees ram.old.marks state.old }
+    requires free { IfSome q.now.first (λ _. word_break (length ram.old.memory) ram.old.marks Writes state.old.registers.wptr ≡ None) }
+    ensures done { Does (run_from (meets (request q.now).side q.now.after (request q.now) other state.old) ram.old.memory ram.old.marks (laid q.now.first state.old.registers.wptr ram.old.memory)) state.old ram.old.memory result state.new ram.new.memory }
+    ensures agrees { Agrees ram.new.marks state.new }
 {
     match q.side {
         Side::Input => receive(state, ram, q, other),
@@ -264,13 +265,13 @@ fn meet<M: Ram>(state: &mut State, ram: &mut M, q: &Request, other: Word) -> Res
 }
 
 /// A message on an internal channel: the first of two processes waits, and the second one meets it.
-pub fn internal_message<M: Ram>(state: &mut State, ram: &mut M, q: &Request) -> Result<Ran, Break>
+pub fn internal_message(state: &mut State, ram: &mut Ram, q: &Request) -> Result<Ran, Break>
     requires own { IsOwn q.now.process state.old }
     requires plain { IsPlain state.old }
-    requires agrees { Agrees (M.claims ram.old) state.old }
-    requires free { IfSome q.now.first (λ _. word_break (length (M.cells ram.old)) (M.claims ram.old) Writes state.old.registers.wptr ≡ None) }
-    ensures done { Does (run_from (meeting q.now.after (request q.now) state.old) (M.cells ram.old) (M.claims ram.old) (laid q.now.first state.old.registers.wptr (M.cells ram.old))) state.old (M.cells ram.old) result state.new (M.cells ram.new) }
-    ensures agrees { Agrees (M.claims ram.new) state.new }
+    requires agrees { Agrees ram.old.marks state.old }
+    requires free { IfSome q.now.first (λ _. word_break (length ram.old.memory) ram.old.marks Writes state.old.registers.wptr ≡ None) }
+    ensures done { Does (run_from (meeting q.now.after (request q.now) state.old) ram.old.memory ram.old.marks (laid q.now.first state.old.registers.wptr ram.old.memory)) state.old ram.old.memory result state.new ram.new.memory }
+    ensures agrees { Agrees ram.new.marks state.new }
 {
     let found = ram.take_word(q.channel)?;
     if found.get() == NOT_PROCESS {

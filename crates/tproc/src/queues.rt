@@ -91,10 +91,10 @@ impl State {
     }
 
     /// The last of the queue of a process, whose words are saved.
-    fn last_saved<M: Ram>(&self, ram: &M, process: Word) -> Option<Word>
-        requires saved { AreSaved (M.claims ram.now) self.now }
+    fn last_saved(&self, ram: &Ram, process: Word) -> Option<Word>
+        requires saved { AreSaved ram.now.marks self.now }
         ensures last { result ≡ last_of (queue self.now (priority_of process)) }
-        ensures saved { IfSome result (λ last. has_saved (M.claims ram.now) last ≡ true) }
+        ensures saved { IfSome result (λ last. has_saved ram.now.marks last ≡ true) }
     {
         let _claims = ram;
         self.last(process)
@@ -130,14 +130,14 @@ impl State {
 /// # Errors
 /// `Unaligned`, `AlreadyLive`, `TooManyProcesses`, or the first failing check of the words below the workspace.
 #[tactic(auto, using(crate::proofs::Places::place_admitted, crate::proofs::Places::room_admitted, crate::proofs::Agreeing::agrees_but), unfolding(crate::specs::Queues::admit))]
-pub fn admit<M: Ram>(state: &State, ram: &mut M, process: Word) -> Result<(), Break>
+pub fn admit(state: &State, ram: &mut Ram, process: Word) -> Result<(), Break>
     requires plain { IsPlain state.now }
-    requires agrees { Agrees (M.claims ram.old) state.now }
-    ensures done { Part (admission process state.now) (M.claims ram.old) (M.cells ram.old) result (M.claims ram.new) (M.cells ram.new) }
-    ensures agrees { IfOk result (λ _. AgreesWith (the_workspace process ∷ []) (M.claims ram.new) state.now) }
-    ensures kept { OnErr result (M.claims ram.new ≡ M.claims ram.old) }
+    requires agrees { Agrees ram.old.marks state.now }
+    ensures done { Part (admission process state.now) ram.old.marks ram.old.memory result ram.new.marks ram.new.memory }
+    ensures agrees { IfOk result (λ _. AgreesWith (the_workspace process ∷ []) ram.new.marks state.now) }
+    ensures kept { OnErr result (ram.new.marks ≡ ram.old.marks) }
     ensures place { IfOk result (λ _. HasPlace state.now) }
-    ensures cells { M.cells ram.new ≡ M.cells ram.old }
+    ensures cells { ram.new.memory ≡ ram.old.memory }
 {
     let workspace = workspace_of(process);
     require(workspace.get() % 4 == 0, Break::Unaligned)?;
@@ -150,14 +150,14 @@ pub fn admit<M: Ram>(state: &State, ram: &mut M, process: Word) -> Result<(), Br
 
 /// Puts a process whose words are saved behind the others of its queue, and links the one before it.
 #[tactic(auto, unfolding(crate::specs::Queues::enqueue))]
-pub fn enqueue<M: Ram>(state: &mut State, ram: &mut M, process: Word)
+pub fn enqueue(state: &mut State, ram: &mut Ram, process: Word)
     requires place { HasPlace state.old }
-    requires saved { AreSaved (M.claims ram.old) state.old }
-    ensures done { Part (queueing process state.old) (M.claims ram.old) (M.cells ram.old) (Ok state.new) (M.claims ram.new) (M.cells ram.new) }
+    requires saved { AreSaved ram.old.marks state.old }
+    ensures done { Part (queueing process state.old) ram.old.marks ram.old.memory (Ok state.new) ram.new.marks ram.new.memory }
     ensures settles { Settles (the_workspace process) state.old state.new }
     ensures more { taken state.new ≡ taken state.old + 1 }
-    ensures claims { M.claims ram.new ≡ M.claims ram.old }
-    ensures size { length (M.cells ram.new) ≡ length (M.cells ram.old) }
+    ensures claims { ram.new.marks ≡ ram.old.marks }
+    ensures size { length ram.new.memory ≡ length ram.old.memory }
 {
     let workspace = workspace_of(process);
     if let Some(last) = state.last_saved(ram, process) {
@@ -167,11 +167,11 @@ pub fn enqueue<M: Ram>(state: &mut State, ram: &mut M, process: Word)
 }
 
 /// A process whose words are saved waits from now on, and none runs.
-pub fn wait<M: Ram>(state: &mut State, ram: &M, process: Word, reason: Reason)
+pub fn wait(state: &mut State, ram: &Ram, process: Word, reason: Reason)
     requires place { HasPlace state.old }
-    requires agrees { AgreesWith (the_workspace process ∷ []) (M.claims ram.now) state.old }
+    requires agrees { AgreesWith (the_workspace process ∷ []) ram.now.marks state.old }
     ensures done { state.new ≡ waiting_for process reason state.old }
-    ensures agrees { Agrees (M.claims ram.now) state.new }
+    ensures agrees { Agrees ram.now.marks state.new }
 {
     let _claims = ram;
     state.begin_waiting(process, reason);
@@ -179,15 +179,15 @@ pub fn wait<M: Ram>(state: &mut State, ram: &M, process: Word, reason: Reason)
 
 /// A process that waits is queued.
 #[tactic(auto, unfolding(crate::specs::Queues::release))]
-pub fn release<M: Ram>(state: &mut State, ram: &mut M, process: Word)
+pub fn release(state: &mut State, ram: &mut Ram, process: Word)
     requires plain { IsPlain state.old }
     requires waits { IsSome (reason_of state.old process) }
-    requires saved { AreSaved (M.claims ram.old) state.old }
-    ensures done { Part (releasing process state.old) (M.claims ram.old) (M.cells ram.old) (Ok state.new) (M.claims ram.new) (M.cells ram.new) }
+    requires saved { AreSaved ram.old.marks state.old }
+    ensures done { Part (releasing process state.old) ram.old.marks ram.old.memory (Ok state.new) ram.new.marks ram.new.memory }
     ensures agrees { StillAgrees state.old state.new }
     ensures same { taken state.new ≡ taken state.old }
-    ensures claims { M.claims ram.new ≡ M.claims ram.old }
-    ensures size { length (M.cells ram.new) ≡ length (M.cells ram.old) }
+    ensures claims { ram.new.marks ≡ ram.old.marks }
+    ensures size { length ram.new.memory ≡ length ram.old.memory }
 {
     state.forget(process);
     enqueue(state, ram, process);

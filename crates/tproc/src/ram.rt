@@ -1,159 +1,287 @@
-ghost use Rattle.std.specs.Prelude.{◌≡◌, ◌<◌, ◌+◌, length, true, None, IfOk, OnErr, slice_index_or};
-ghost use Rattle.tword.specs.Stores.{Store, word_at, with_word, with_cells, cells as stored};
-ghost use Rattle.tword.specs.Claims.{Claims, saving, has_saved};
-ghost use Rattle.tword.specs.Touches.{Reads, Writes, word_break, span_break, copy_break, deschedule_break};
+//! The memory of a node with the claims on it.
+
+ghost use Rattle.std.specs.Prelude.{ℕ, [], ◌∷◌, ◌≡◌, ◌<◌, ◌≤◌, ◌+◌, ◌↔◌, length, not, true, None, IfOk, OnOk, Some, replicate, IsErrOf};
+ghost use Rattle.tword.specs.Accesses.{Changing, Frees, IsMemorySize, no_claims, with_output, with_input, without_output, without_input};
+ghost use Rattle.tword.specs.declared.breaks.Break.TheVariants.{SavedWord};
+ghost use Rattle.tword.specs.Stores.{word_at, with_word, with_cells, cells, as_cells, byte_at};
+ghost use Rattle.tword.specs.Claims.{saving, has_saved, saved_words, overlap};
+ghost use Rattle.tword.specs.Touches.{Reads, Writes, word_break, span_break, copy_break, deschedule_break, is_inside, byte_span};
 ghost use Rattle.tword.specs.Words.{word_below};
-ghost use Rattle.tword.specs.Actions.{or_break, is_slot, run, value_of};
-ghost use Rattle.tcode.specs.Decoding.{decode};
-ghost use Rattle.tcpu.specs.Effects.{effect};
-ghost use Rattle.tcpu.specs.Local.{would_jump, outcome_of};
-ghost use Rattle.tproc.specs.Doing.{StandsWhereLeft};
-ghost use Rattle.tproc.specs.Standins.{Changing, Frees, with_output, with_input, without_output, without_input};
+ghost use Rattle.tword.specs.Actions.{or_break, is_slot, unmet};
 
-use tcode::Instruction;
-use tcpu::{Next, Registers};
-use tword::{Break, Word};
+use crate::words::below;
+use std::alloc::Global;
+use tword::{Break, Marks, Memory, MemoryFault, Span, Word};
 
-/// The memory of a node with the claims on it. Of each change there is one call that checks it, or one for a caller that has checked it.
-pub trait Ram {
-    ghost cells: { Self → Store };
+/// The least address.
+const FIRST_ADDRESS: u32 = 0x8000_0000;
 
-    ghost claims: { Self → Claims };
+/// A memory with its claims. Of each change there is one call that checks it, or one for a caller that has checked it.
+#[derive(Drop)]
+pub struct Ram {
+    pub memory: Memory,
+    pub marks: Marks,
+    ghost size: { length memory ≤ 1048576 },
+    ghost inside: { (w : ℕ) → has_saved marks w ≡ true → is_inside (length memory) (saved_words w) ≡ true },
+}
+
+/// The three words below a workspace.
+fn words_below(workspace: Word) -> Span
+    ensures { result ≡ saved_words workspace }
+{
+    Span {
+        start: below(workspace, 3),
+        size: 12,
+    }
+}
+
+/// Whether a span keeps clear of the three words below a workspace.
+#[inline]
+fn keep_clear(workspace: Word, start: Word, size: u32) -> Result<(), Break>
+    ensures { result ≡ or_break (unmet (not (overlap (record { start = start; size = size }) (saved_words workspace))) SavedWord) tt }
+{
+    let span = Span { start, size };
+    if span.overlaps(&words_below(workspace)) {
+        Err(Break::SavedWord)
+    } else {
+        Ok(())
+    }
+}
+
+impl Ram {
+    /// A memory of this many bytes, all 0, and no claims: no other call takes memory.
+    ///
+    /// # Errors
+    /// `BadSize` for a size that no memory has, else `OutOfMemory` where the allocator refuses.
+    pub fn new(alloc: Global, size: u32) -> Result<Ram, MemoryFault>
+        ensures zeros { IfOk result (λ ram. ram.memory ≡ replicate size (Some 0)) }
+        ensures free { IfOk result (λ ram. ram.marks ≡ no_claims) }
+        ensures sized { OnOk result (IsMemorySize size) }
+        ensures bad_size { IsErrOf result MemoryFault.BadSize ↔ ¬ IsMemorySize size }
+    {
+        let memory = Memory::new(alloc, size)?;
+        let marks = Marks::new(alloc)?;
+        Ok(Ram { memory, marks })
+    }
 
     /// Whether the words of a workspace are saved.
-    fn has_saved(&self, workspace: Word) -> bool
-        ensures { result ≡ has_saved (claims self.now) workspace };
+    #[inline]
+    pub fn has_saved(&self, workspace: Word) -> bool
+        ensures { result ≡ has_saved self.now.marks workspace }
+    {
+        self.marks.has_saved(workspace)
+    }
 
     /// The word at an address.
-    fn read_word(&self, address: Word) -> Result<Word, Break>
-        ensures { result ≡ or_break (word_break (length (cells self.now)) (claims self.now) Reads address) (word_at (cells self.now) address) };
+    pub fn read_word(&self, address: Word) -> Result<Word, Break>
+        ensures { result ≡ or_break (word_break (length self.now.memory) self.now.marks Reads address) (word_at self.now.memory address) }
+    {
+        self.memory.read_word(&self.marks, address)
+    }
 
     /// The word at an address that may be written later.
-    fn take_word(&self, address: Word) -> Result<Word, Break>
-        ensures { result ≡ or_break (word_break (length (cells self.now)) (claims self.now) Writes address) (word_at (cells self.now) address) };
+    pub fn take_word(&self, address: Word) -> Result<Word, Break>
+        ensures { result ≡ or_break (word_break (length self.now.memory) self.now.marks Writes address) (word_at self.now.memory address) }
+    {
+        self.memory.take_word(&self.marks, address)
+    }
 
     /// Sets the word at an address.
-    fn write_word(&mut self, address: Word, value: Word) -> Result<(), Break>
-        ensures change { Changing (word_break (length (cells self.old)) (claims self.old) Writes address) (cells self.old) (with_word (cells self.old) address value) result (cells self.new) }
-        ensures size { length (cells self.new) ≡ length (cells self.old) }
-        ensures claims { claims self.new ≡ claims self.old };
+    pub fn write_word(&mut self, address: Word, value: Word) -> Result<(), Break>
+        ensures change { Changing (word_break (length self.old.memory) self.old.marks Writes address) self.old.memory (with_word self.old.memory address value) result self.new.memory }
+        ensures size { length self.new.memory ≡ length self.old.memory }
+        ensures claims { self.new.marks ≡ self.old.marks }
+    {
+        self.memory.write_word(&self.marks, address, value)
+    }
 
     /// Whether the word at an address may be written.
-    fn may_write_word(&self, address: Word) -> Result<(), Break>
-        ensures { result ≡ or_break (word_break (length (cells self.now)) (claims self.now) Writes address) tt };
+    pub fn may_write_word(&self, address: Word) -> Result<(), Break>
+        ensures { result ≡ or_break (word_break (length self.now.memory) self.now.marks Writes address) tt }
+    {
+        self.memory.may_write_word(&self.marks, address)
+    }
 
     /// The same, once the words of a workspace are saved.
-    fn may_write_word_beside(&self, workspace: Word, address: Word) -> Result<(), Break>
-        ensures { result ≡ or_break (word_break (length (cells self.now)) (saving workspace (claims self.now)) Writes address) tt };
+    pub fn may_write_word_beside(&self, workspace: Word, address: Word) -> Result<(), Break>
+        ensures { result ≡ or_break (word_break (length self.now.memory) (saving workspace self.now.marks) Writes address) tt }
+    {
+        self.memory.may_write_word(&self.marks, address)?;
+        keep_clear(workspace, address, 4)
+    }
 
     /// Sets a word that may be written.
-    fn set_word(&mut self, address: Word, value: Word)
-        requires { word_break (length (cells self.old)) (claims self.old) Writes address ≡ None }
-        ensures cells { cells self.new ≡ with_word (cells self.old) address value }
-        ensures size { length (cells self.new) ≡ length (cells self.old) }
-        ensures claims { claims self.new ≡ claims self.old };
+    #[tactic(auto, using(crate::proofs::Touching::word_inside))]
+    pub fn set_word(&mut self, address: Word, value: Word)
+        requires { word_break (length self.old.memory) self.old.marks Writes address ≡ None }
+        ensures cells { self.new.memory ≡ with_word self.old.memory address value }
+        ensures size { length self.new.memory ≡ length self.old.memory }
+        ensures claims { self.new.marks ≡ self.old.marks }
+    {
+        self.memory.set_word(address, value);
+    }
 
     /// Whether some bytes may be read.
-    fn may_read(&self, start: Word, size: u32) -> Result<(), Break>
-        ensures { result ≡ or_break (span_break (length (cells self.now)) (claims self.now) Reads (record { start = start; size = size })) tt };
+    pub fn may_read(&self, start: Word, size: u32) -> Result<(), Break>
+        ensures { result ≡ or_break (span_break (length self.now.memory) self.now.marks Reads (record { start = start; size = size })) tt }
+    {
+        self.memory.may_read(&self.marks, start, size)
+    }
 
     /// The same, once the words of a workspace are saved.
-    fn may_read_beside(&self, workspace: Word, start: Word, size: u32) -> Result<(), Break>
-        ensures { result ≡ or_break (span_break (length (cells self.now)) (saving workspace (claims self.now)) Reads (record { start = start; size = size })) tt };
+    pub fn may_read_beside(&self, workspace: Word, start: Word, size: u32) -> Result<(), Break>
+        ensures { result ≡ or_break (span_break (length self.now.memory) (saving workspace self.now.marks) Reads (record { start = start; size = size })) tt }
+    {
+        self.memory.may_read(&self.marks, start, size)?;
+        keep_clear(workspace, start, size)
+    }
 
     /// Whether some bytes may be written.
-    fn may_write(&self, start: Word, size: u32) -> Result<(), Break>
-        ensures { result ≡ or_break (span_break (length (cells self.now)) (claims self.now) Writes (record { start = start; size = size })) tt };
+    pub fn may_write(&self, start: Word, size: u32) -> Result<(), Break>
+        ensures { result ≡ or_break (span_break (length self.now.memory) self.now.marks Writes (record { start = start; size = size })) tt }
+    {
+        self.memory.may_write(&self.marks, start, size)
+    }
 
     /// The same, once the words of a workspace are saved.
-    fn may_write_beside(&self, workspace: Word, start: Word, size: u32) -> Result<(), Break>
-        ensures { result ≡ or_break (span_break (length (cells self.now)) (saving workspace (claims self.now)) Writes (record { start = start; size = size })) tt };
+    pub fn may_write_beside(&self, workspace: Word, start: Word, size: u32) -> Result<(), Break>
+        ensures { result ≡ or_break (span_break (length self.now.memory) (saving workspace self.now.marks) Writes (record { start = start; size = size })) tt }
+    {
+        self.memory.may_write(&self.marks, start, size)?;
+        keep_clear(workspace, start, size)
+    }
 
     /// Whether some bytes may be copied.
-    fn may_copy(&self, from: Word, to: Word, count: u32) -> Result<(), Break>
-        ensures { result ≡ or_break (copy_break (length (cells self.now)) (claims self.now) from to count) tt };
+    pub fn may_copy(&self, from: Word, to: Word, count: u32) -> Result<(), Break>
+        ensures { result ≡ or_break (copy_break (length self.now.memory) self.now.marks from to count) tt }
+    {
+        self.memory.may_copy(&self.marks, from, to, count)
+    }
 
     /// Copies bytes that may be.
-    fn copy(&mut self, from: Word, to: Word, count: u32)
-        requires { copy_break (length (cells self.old)) (claims self.old) from to count ≡ None }
-        ensures cells { cells self.new ≡ with_cells (cells self.old) to (stored (cells self.old) from count) }
-        ensures size { length (cells self.new) ≡ length (cells self.old) }
-        ensures claims { claims self.new ≡ claims self.old };
+    #[tactic(auto, using(crate::proofs::Touching::source_inside, crate::proofs::Touching::target_inside))]
+    pub fn copy(&mut self, from: Word, to: Word, count: u32)
+        requires { copy_break (length self.old.memory) self.old.marks from to count ≡ None }
+        ensures cells { self.new.memory ≡ with_cells self.old.memory to (cells self.old.memory from count) }
+        ensures size { length self.new.memory ≡ length self.old.memory }
+        ensures claims { self.new.marks ≡ self.old.marks }
+    {
+        self.memory.copy(from, to, count);
+    }
 
     /// Whether a workspace may be descheduled.
-    fn may_deschedule(&self, workspace: Word) -> Result<(), Break>
-        ensures { result ≡ or_break (deschedule_break (length (cells self.now)) (claims self.now) workspace) tt };
+    pub fn may_deschedule(&self, workspace: Word) -> Result<(), Break>
+        ensures { result ≡ or_break (deschedule_break (length self.now.memory) self.now.marks workspace) tt }
+    {
+        self.memory.may_deschedule(&self.marks, workspace)
+    }
 
     /// Saves the words of a workspace that may be descheduled.
-    fn deschedule(&mut self, workspace: Word)
-        requires free { deschedule_break (length (cells self.old)) (claims self.old) workspace ≡ None }
-        requires room { length (claims self.old).saved < 512 }
-        ensures cells { cells self.new ≡ cells self.old }
-        ensures claims { claims self.new ≡ saving workspace (claims self.old) };
+    #[tactic(auto, using(crate::proofs::Touching::claimable, crate::proofs::Touching::unclaimed))]
+    pub fn deschedule(&mut self, workspace: Word)
+        requires free { deschedule_break (length self.old.memory) self.old.marks workspace ≡ None }
+        requires room { length self.old.marks.saved < 512 }
+        ensures cells { self.new.memory ≡ self.old.memory }
+        ensures claims { self.new.marks ≡ saving workspace self.old.marks }
+    {
+        self.marks.claim_saved_known(workspace);
+    }
 
     /// The words of a workspace are free again.
-    fn free(&mut self, workspace: Word)
-        requires { has_saved (claims self.old) workspace ≡ true }
-        ensures frees { Frees workspace (claims self.old) (claims self.new) }
-        ensures counts { length (claims self.new).saved + 1 ≡ length (claims self.old).saved }
-        ensures same { ((claims self.new).inputs ≡ (claims self.old).inputs) × ((claims self.new).outputs ≡ (claims self.old).outputs) }
-        ensures cells { cells self.new ≡ cells self.old };
+    pub fn free(&mut self, workspace: Word)
+        requires { has_saved self.old.marks workspace ≡ true }
+        ensures frees { Frees workspace self.old.marks self.new.marks }
+        ensures counts { length self.new.marks.saved + 1 ≡ length self.old.marks.saved }
+        ensures same { (self.new.marks.inputs ≡ self.old.marks.inputs) × (self.new.marks.outputs ≡ self.old.marks.outputs) }
+        ensures cells { self.new.memory ≡ self.old.memory }
+    {
+        self.marks.release_saved(workspace);
+    }
 
     /// Word `-k` of a workspace whose words are saved.
-    fn saved_word(&self, workspace: Word, k: u32) -> Word
+    #[tactic(auto, using(crate::proofs::Touching::saved_word_inside))]
+    pub fn saved_word(&self, workspace: Word, k: u32) -> Word
         requires slot { is_slot k ≡ true }
-        requires saved { has_saved (claims self.now) workspace ≡ true }
-        ensures { result ≡ word_at (cells self.now) (word_below workspace k) };
+        requires saved { has_saved self.now.marks workspace ≡ true }
+        ensures { result ≡ word_at self.now.memory (word_below workspace k) }
+    {
+        self.memory.word(below(workspace, k))
+    }
 
     /// Sets word `-k` of a workspace whose words are saved.
-    fn set_saved_word(&mut self, workspace: Word, k: u32, value: Word)
+    #[tactic(auto, using(crate::proofs::Touching::saved_word_inside))]
+    pub fn set_saved_word(&mut self, workspace: Word, k: u32, value: Word)
         requires slot { is_slot k ≡ true }
-        requires saved { has_saved (claims self.old) workspace ≡ true }
-        ensures cells { cells self.new ≡ with_word (cells self.old) (word_below workspace k) value }
-        ensures size { length (cells self.new) ≡ length (cells self.old) }
-        ensures claims { claims self.new ≡ claims self.old };
+        requires saved { has_saved self.old.marks workspace ≡ true }
+        ensures cells { self.new.memory ≡ with_word self.old.memory (word_below workspace k) value }
+        ensures size { length self.new.memory ≡ length self.old.memory }
+        ensures claims { self.new.marks ≡ self.old.marks }
+    {
+        self.memory.set_word(below(workspace, k), value);
+    }
 
     /// A link claims the buffer of its pending output.
-    fn claim_output(&mut self, link: u8, buffer: Word, size: u32)
-        requires link { link < 4 }
-        requires free { slice_index_or (claims self.old).outputs link None ≡ None }
-        requires touched { span_break (length (cells self.old)) (claims self.old) Reads (record { start = buffer; size = size }) ≡ None }
-        ensures cells { cells self.new ≡ cells self.old }
-        ensures claims { claims self.new ≡ with_output link (record { start = buffer; size = size }) (claims self.old) };
+    pub fn claim_output(&mut self, link: u8, buffer: Word, size: u32)
+        requires { link < 4 }
+        ensures cells { self.new.memory ≡ self.old.memory }
+        ensures claims { self.new.marks ≡ with_output link (record { start = buffer; size = size }) self.old.marks }
+    {
+        self.marks.claim_out_known(link, buffer, size);
+    }
 
     /// A link claims the buffer of its pending input.
-    fn claim_input(&mut self, link: u8, buffer: Word, size: u32)
-        requires link { link < 4 }
-        requires free { slice_index_or (claims self.old).inputs link None ≡ None }
-        requires touched { span_break (length (cells self.old)) (claims self.old) Writes (record { start = buffer; size = size }) ≡ None }
-        ensures cells { cells self.new ≡ cells self.old }
-        ensures claims { claims self.new ≡ with_input link (record { start = buffer; size = size }) (claims self.old) };
+    pub fn claim_input(&mut self, link: u8, buffer: Word, size: u32)
+        requires { link < 4 }
+        ensures cells { self.new.memory ≡ self.old.memory }
+        ensures claims { self.new.marks ≡ with_input link (record { start = buffer; size = size }) self.old.marks }
+    {
+        self.marks.claim_in_known(link, buffer, size);
+    }
 
     /// The output of a link claims nothing any more.
-    fn release_output(&mut self, link: u8)
+    pub fn release_output(&mut self, link: u8)
         requires { link < 4 }
-        ensures cells { cells self.new ≡ cells self.old }
-        ensures claims { claims self.new ≡ without_output link (claims self.old) };
+        ensures cells { self.new.memory ≡ self.old.memory }
+        ensures claims { self.new.marks ≡ without_output link self.old.marks }
+    {
+        self.marks.release_out(link);
+    }
 
     /// The input of a link claims nothing any more.
-    fn release_input(&mut self, link: u8)
+    pub fn release_input(&mut self, link: u8)
         requires { link < 4 }
-        ensures cells { cells self.new ≡ cells self.old }
-        ensures claims { claims self.new ≡ without_input link (claims self.old) };
+        ensures cells { self.new.memory ≡ self.old.memory }
+        ensures claims { self.new.marks ≡ without_input link self.old.marks }
+    {
+        self.marks.release_in(link);
+    }
 
-    /// The instruction at an address.
-    fn decode(&self, iptr: Word) -> Result<Instruction, Break>
-        ensures { result ≡ value_of (run (decode iptr) (cells self.now) (claims self.now)) };
+    /// Puts bytes into the memory.
+    pub fn load(&mut self, start: Word, bytes: &[u8])
+        requires { is_inside (length self.old.memory) (record { start = start; size = length bytes.now }) ≡ true }
+        ensures cells { self.new.memory ≡ with_cells self.old.memory start (as_cells bytes.now) }
+        ensures claims { self.new.marks ≡ self.old.marks }
+    {
+        self.memory.load(start, bytes);
+    }
 
-    /// Whether an instruction would jump.
-    fn jumps(&self, instruction: &Instruction, registers: &Registers) -> Result<bool, Break>
-        ensures { result ≡ would_jump (run (effect instruction.now registers.now) (cells self.now) (claims self.now)) };
+    /// Sets a byte of the memory.
+    pub fn set_byte(&mut self, address: Word, byte: u8)
+        requires { is_inside (length self.old.memory) (byte_span address) ≡ true }
+        ensures cells { self.new.memory ≡ with_cells self.old.memory address (as_cells (byte ∷ [])) }
+        ensures claims { self.new.marks ≡ self.old.marks }
+    {
+        self.memory.set_byte(address, byte);
+    }
 
-    /// The effect of an instruction.
-    fn local(&mut self, instruction: &Instruction, registers: &mut Registers) -> Result<Next, Break>
-        ensures done { run (effect instruction.now registers.old) (cells self.old) (claims self.old) ≡ outcome_of result registers.new (cells self.new) }
-        ensures kept { OnErr result ((cells self.new ≡ cells self.old) × (registers.new ≡ registers.old)) }
-        ensures left { IfOk result (λ next. StandsWhereLeft next (cells self.old) registers.old (cells self.new) registers.new) }
-        ensures size { length (cells self.new) ≡ length (cells self.old) }
-        ensures claims { claims self.new ≡ claims self.old };
+    /// The byte at an address, and `None` outside the memory.
+    pub fn byte_at(&self, address: Word) -> Option<u8>
+        ensures { result ≡ byte_at self.now.memory address }
+    {
+        if FIRST_ADDRESS <= address.get() && address.get() - FIRST_ADDRESS < self.memory.size() {
+            Some(self.memory.byte(address))
+        } else {
+            None
+        }
+    }
 }

@@ -12,7 +12,7 @@ ghost use Rattle.tproc.specs.Agreement.{Agrees, AgreesWith, IsOwn, IsPlain, Stil
 ghost use Rattle.tproc.specs.Doing.{Does};
 ghost use Rattle.tproc.specs.Requests.{side_of};
 
-use crate::channels::{Request, Side, below};
+use crate::channels::{Request, Side};
 use crate::link_channels::{is_link, link_message};
 use crate::meetings::internal_message;
 use crate::offer::Ran;
@@ -20,13 +20,14 @@ use crate::queues::{IPTR_WORD, admit, enqueue, require};
 use crate::ram::Ram;
 use crate::state::State;
 use tcpu::Registers;
+use crate::words::below;
 use tword::{Break, Word};
 
 /// The current process is no longer live.
-pub fn stop<M: Ram>(state: &mut State, ram: &mut M) -> Result<Ran, Break>
-    requires agrees { Agrees (M.claims ram.old) state.old }
-    ensures done { Does (run (stops state.old) (M.cells ram.old) (M.claims ram.old)) state.old (M.cells ram.old) result state.new (M.cells ram.new) }
-    ensures agrees { Agrees (M.claims ram.new) state.new }
+pub fn stop(state: &mut State, ram: &mut Ram) -> Result<Ran, Break>
+    requires agrees { Agrees ram.old.marks state.old }
+    ensures done { Does (run (stops state.old) ram.old.memory ram.old.marks) state.old ram.old.memory result state.new ram.new.memory }
+    ensures agrees { Agrees ram.new.marks state.new }
 {
     ram.write_word(
         below(state.registers.wptr, IPTR_WORD),
@@ -37,10 +38,10 @@ pub fn stop<M: Ram>(state: &mut State, ram: &mut M) -> Result<Ran, Break>
 }
 
 /// The current process ends if Error is set.
-pub fn stop_on_error<M: Ram>(state: &mut State, ram: &mut M) -> Result<Ran, Break>
-    requires agrees { Agrees (M.claims ram.old) state.old }
-    ensures done { Does (run (if state.old.registers.error then stops state.old else goes_on state.old.registers state.old) (M.cells ram.old) (M.claims ram.old)) state.old (M.cells ram.old) result state.new (M.cells ram.new) }
-    ensures agrees { Agrees (M.claims ram.new) state.new }
+pub fn stop_on_error(state: &mut State, ram: &mut Ram) -> Result<Ran, Break>
+    requires agrees { Agrees ram.old.marks state.old }
+    ensures done { Does (run (if state.old.registers.error then stops state.old else goes_on state.old.registers state.old) ram.old.memory ram.old.marks) state.old ram.old.memory result state.new ram.new.memory }
+    ensures agrees { Agrees ram.new.marks state.new }
 {
     if state.registers.error {
         return stop(state, ram);
@@ -66,12 +67,12 @@ pub fn load_priority(state: &mut State, priority: u8) -> Ran
 
 /// A new process starts, at an address relative to the next instruction.
 #[tactic(auto, using(crate::proofs::Saved::itself_saved, crate::proofs::Saved::are_saved, crate::proofs::Agreeing::own_workspace))]
-pub fn start<M: Ram>(state: &mut State, ram: &mut M, priority: u8) -> Result<Ran, Break>
+pub fn start(state: &mut State, ram: &mut Ram, priority: u8) -> Result<Ran, Break>
     requires priority { priority < 2 }
     requires plain { IsPlain state.old }
-    requires agrees { Agrees (M.claims ram.old) state.old }
-    ensures done { Does (run (starts priority state.old) (M.cells ram.old) (M.claims ram.old)) state.old (M.cells ram.old) result state.new (M.cells ram.new) }
-    ensures agrees { Agrees (M.claims ram.new) state.new }
+    requires agrees { Agrees ram.old.marks state.old }
+    ensures done { Does (run (starts priority state.old) ram.old.memory ram.old.marks) state.old ram.old.memory result state.new ram.new.memory }
+    ensures agrees { Agrees ram.new.marks state.new }
 {
     let r = state.registers;
     require(r.a.get() % 4 == 0, Break::Unaligned)?;
@@ -89,11 +90,11 @@ pub fn start<M: Ram>(state: &mut State, ram: &mut M, priority: u8) -> Result<Ran
 
 /// A process that was stopped runs again.
 #[tactic(auto, using(crate::proofs::Saved::are_saved))]
-pub fn run_process<M: Ram>(state: &mut State, ram: &mut M) -> Result<Ran, Break>
+pub fn run_process(state: &mut State, ram: &mut Ram) -> Result<Ran, Break>
     requires plain { IsPlain state.old }
-    requires agrees { Agrees (M.claims ram.old) state.old }
-    ensures done { Does (run (runs state.old) (M.cells ram.old) (M.claims ram.old)) state.old (M.cells ram.old) result state.new (M.cells ram.new) }
-    ensures agrees { Agrees (M.claims ram.new) state.new }
+    requires agrees { Agrees ram.old.marks state.old }
+    ensures done { Does (run (runs state.old) ram.old.memory ram.old.marks) state.old ram.old.memory result state.new ram.new.memory }
+    ensures agrees { Agrees ram.new.marks state.new }
 {
     let r = state.registers;
     admit(state, ram, r.a)?;
@@ -107,11 +108,11 @@ pub fn run_process<M: Ram>(state: &mut State, ram: &mut M) -> Result<Ran, Break>
 }
 
 /// One of several processes ends, and the last one goes on as their successor.
-pub fn end<M: Ram>(state: &mut State, ram: &mut M) -> Result<Ran, Break>
+pub fn end(state: &mut State, ram: &mut Ram) -> Result<Ran, Break>
     requires plain { IsPlain state.old }
-    requires agrees { Agrees (M.claims ram.old) state.old }
-    ensures done { Does (run (ends state.old) (M.cells ram.old) (M.claims ram.old)) state.old (M.cells ram.old) result state.new (M.cells ram.new) }
-    ensures agrees { Agrees (M.claims ram.new) state.new }
+    requires agrees { Agrees ram.old.marks state.old }
+    ensures done { Does (run (ends state.old) ram.old.memory ram.old.marks) state.old ram.old.memory result state.new ram.new.memory }
+    ensures agrees { Agrees ram.new.marks state.new }
 {
     let r = state.registers;
     let zero = Word::new(0);
@@ -141,13 +142,13 @@ pub fn end<M: Ram>(state: &mut State, ram: &mut M) -> Result<Ran, Break>
 
 /// The low process that runs goes behind the others of its queue.
 #[tactic(auto, using(crate::proofs::Places::place_running, crate::proofs::Places::room_running, crate::proofs::Agreeing::agrees_but, crate::proofs::Agreeing::saved_itself, crate::proofs::Agreeing::own_workspace, crate::proofs::Saved::are_saved))]
-fn yield_now<M: Ram>(state: &mut State, ram: &mut M)
+fn yield_now(state: &mut State, ram: &mut Ram)
     requires running { state.old.current ≡ Some 1 }
     requires plain { IsPlain state.old }
-    requires agrees { Agrees (M.claims ram.old) state.old }
-    requires free { deschedule_break (length (M.cells ram.old)) (M.claims ram.old) state.old.registers.wptr ≡ None }
-    ensures done { (old : Store) → length old ≡ length (M.cells ram.old) → run_from (yields (state.old.registers.wptr + 1) state.old) old (M.claims ram.old) (M.cells ram.old) ≡ Ok ((state.new, ran.Instruction), M.cells ram.new) }
-    ensures agrees { Agrees (M.claims ram.new) state.new }
+    requires agrees { Agrees ram.old.marks state.old }
+    requires free { deschedule_break (length ram.old.memory) ram.old.marks state.old.registers.wptr ≡ None }
+    ensures done { (old : Store) → length old ≡ length ram.old.memory → run_from (yields (state.old.registers.wptr + 1) state.old) old ram.old.marks ram.old.memory ≡ Ok ((state.new, ran.Instruction), ram.new.memory) }
+    ensures agrees { Agrees ram.new.marks state.new }
 {
     let r = state.registers;
     ram.deschedule(r.wptr);
@@ -157,13 +158,13 @@ fn yield_now<M: Ram>(state: &mut State, ram: &mut M)
 }
 
 /// What follows a jump: a low process whose timeslice is over yields, or its timeslice begins again.
-pub fn jumped<M: Ram>(state: &mut State, ram: &mut M, priority: u8)
+pub fn jumped(state: &mut State, ram: &mut Ram, priority: u8)
     requires running { state.old.current ≡ Some priority }
     requires plain { IsPlain state.old }
-    requires agrees { Agrees (M.claims ram.old) state.old }
-    requires free { is_over priority state.old ≡ true → deschedule_break (length (M.cells ram.old)) (M.claims ram.old) state.old.registers.wptr ≡ None }
-    ensures done { (old : Store) → length old ≡ length (M.cells ram.old) → run_from (jumping priority state.old) old (M.claims ram.old) (M.cells ram.old) ≡ Ok ((state.new, ran.Instruction), M.cells ram.new) }
-    ensures agrees { Agrees (M.claims ram.new) state.new }
+    requires agrees { Agrees ram.old.marks state.old }
+    requires free { is_over priority state.old ≡ true → deschedule_break (length ram.old.memory) ram.old.marks state.old.registers.wptr ≡ None }
+    ensures done { (old : Store) → length old ≡ length ram.old.memory → run_from (jumping priority state.old) old ram.old.marks ram.old.memory ≡ Ok ((state.new, ran.Instruction), ram.new.memory) }
+    ensures agrees { Agrees ram.new.marks state.new }
 {
     if priority == 0 {
         return;
@@ -178,12 +179,12 @@ pub fn jumped<M: Ram>(state: &mut State, ram: &mut M, priority: u8)
 }
 
 /// A process asks for a message, or offers one, with length, channel and buffer on its stack.
-pub fn communicate<M: Ram>(state: &mut State, ram: &mut M, side: Side, priority: u8) -> Result<Ran, Break>
+pub fn communicate(state: &mut State, ram: &mut Ram, side: Side, priority: u8) -> Result<Ran, Break>
     requires running { state.old.current ≡ Some priority }
     requires plain { IsPlain state.old }
-    requires agrees { Agrees (M.claims ram.old) state.old }
-    ensures done { Does (run (communicates (side_of side) (state.old.registers.wptr + priority) state.old) (M.cells ram.old) (M.claims ram.old)) state.old (M.cells ram.old) result state.new (M.cells ram.new) }
-    ensures agrees { Agrees (M.claims ram.new) state.new }
+    requires agrees { Agrees ram.old.marks state.old }
+    ensures done { Does (run (communicates (side_of side) (state.old.registers.wptr + priority) state.old) ram.old.memory ram.old.marks) state.old ram.old.memory result state.new ram.new.memory }
+    ensures agrees { Agrees ram.new.marks state.new }
 {
     let r = state.registers;
     let q = Request {
@@ -203,12 +204,12 @@ pub fn communicate<M: Ram>(state: &mut State, ram: &mut M, side: Side, priority:
 }
 
 /// A process lays a message of this length down at its workspace and offers it.
-pub fn send_from_workspace<M: Ram>(state: &mut State, ram: &mut M, size: u32, priority: u8) -> Result<Ran, Break>
+pub fn send_from_workspace(state: &mut State, ram: &mut Ram, size: u32, priority: u8) -> Result<Ran, Break>
     requires running { state.old.current ≡ Some priority }
     requires plain { IsPlain state.old }
-    requires agrees { Agrees (M.claims ram.old) state.old }
-    ensures done { Does (run (sends_from_workspace size (state.old.registers.wptr + priority) state.old) (M.cells ram.old) (M.claims ram.old)) state.old (M.cells ram.old) result state.new (M.cells ram.new) }
-    ensures agrees { Agrees (M.claims ram.new) state.new }
+    requires agrees { Agrees ram.old.marks state.old }
+    ensures done { Does (run (sends_from_workspace size (state.old.registers.wptr + priority) state.old) ram.old.memory ram.old.marks) state.old ram.old.memory result state.new ram.new.memory }
+    ensures agrees { Agrees ram.new.marks state.new }
 {
     let r = state.registers;
     ram.may_write_word(r.wptr)?;

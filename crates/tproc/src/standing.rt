@@ -28,9 +28,9 @@ pub enum Standing {
 
 impl State {
     /// Whether the workspace belongs to a live process.
-    pub fn is_live<M: Ram>(&self, ram: &M, workspace: Word) -> bool
+    pub fn is_live(&self, ram: &Ram, workspace: Word) -> bool
         requires plain { IsPlain self.now }
-        requires agrees { Agrees (M.claims ram.now) self.now }
+        requires agrees { Agrees ram.now.marks self.now }
         ensures { result ≡ is_live self.now workspace }
     {
         ram.has_saved(workspace)

@@ -1,13 +1,17 @@
 //! All of a processor but its memory.
 
-ghost use Rattle.std.specs.Prelude.{◌≡◌, ◌+◌, Some, ◌<◌};
+ghost use Rattle.std.specs.Prelude.{◌≡◌, ◌+◌, ◌<◌, ◌||◌, not, Some, IfOk};
 ghost use Rattle.tproc.specs.LinkChannels.{link_end, with_link};
 ghost use Rattle.tproc.specs.Machine.{workspace_of as the_workspace};
 ghost use Rattle.tproc.specs.Queues.{at_rest, suspended, resumed};
 ghost use Rattle.tproc.specs.Scheduler.{counted, counted_by};
+ghost use Rattle.tproc.specs.Opening.{no_processes};
+ghost use Rattle.tproc.specs.Resting.{is_idle};
 ghost use Rattle.tproc.specs.Agreement.{IsPlain, IsOwn, StillAgrees, is_over};
 
+use crate::offer::Offer;
 use crate::waiting::{LinkEnd, Suspended, Waiter};
+use std::alloc::{AllocError, Global};
 use std::collections::VecDeque;
 use std::marker::Model;
 use tcode::Operation;
@@ -67,6 +71,45 @@ pub fn workspace_of(process: Word) -> Word
 }
 
 impl State {
+    /// No process, nothing pending and both flags clear, with room for all processes that may live.
+    ///
+    /// # Errors
+    /// Where the allocator refuses.
+    pub fn new(alloc: Global, timeslice: u32) -> Result<State, AllocError>
+        ensures { IfOk result (λ s. s ≡ no_processes timeslice) }
+    {
+        let zero = Word::new(0);
+        let high = VecDeque::with_capacity(alloc, MOST_PROCESSES)?;
+        let low = VecDeque::with_capacity(alloc, MOST_PROCESSES)?;
+        let waiting = Vec::with_capacity(alloc, MOST_PROCESSES)?;
+        let quiet = LinkEnd {
+            output: None,
+            input: None,
+            noticed: false,
+            remembered: None,
+        };
+        Ok(State {
+            registers: Registers {
+                a: zero,
+                b: zero,
+                c: zero,
+                iptr: zero,
+                wptr: zero,
+                error: false,
+                halt_on_error: false,
+            },
+            current: None,
+            count: 0,
+            interrupted: None,
+            high,
+            low,
+            waiting,
+            links: [quiet; 4],
+            timeslice,
+            halted: false,
+        })
+    }
+
     /// The descriptor of the process that runs.
     #[tactic(auto, using(crate::proofs::Agreeing::own_workspace))]
     #[inline]
@@ -161,6 +204,36 @@ impl State {
         ensures { result ≡ link_end self.now link }
     {
         self.links[usize::from(link)]
+    }
+
+    /// The pending output of a link, if the link is there and has one.
+    #[inline]
+    pub fn output(&self, link: u8) -> Option<Offer>
+        ensures { result ≡ (link_end self.now link).output }
+    {
+        let link = usize::from(link);
+        if link < 4 { self.links[link].output } else { None }
+    }
+
+    /// The pending input of a link, if the link is there and has one.
+    #[inline]
+    pub fn input(&self, link: u8) -> Option<Offer>
+        ensures { result ≡ (link_end self.now link).input }
+    {
+        let link = usize::from(link);
+        if link < 4 { self.links[link].input } else { None }
+    }
+
+    /// Whether a process runs or can be dispatched, and the processor has not halted.
+    #[inline]
+    pub fn can_run(&self) -> bool
+        ensures { result ≡ not (self.now.halted || is_idle self.now) }
+    {
+        let is_idle = self.current.is_none()
+            && self.high.is_empty()
+            && self.interrupted.is_none()
+            && self.low.is_empty();
+        !(self.halted || is_idle)
     }
 
     /// A link is set.

@@ -1,11 +1,11 @@
 //! One step of a processor.
 
 ghost use Rattle.std.specs.Prelude.{◌≡◌, ◌<◌, [], true, Some, None, Ok, IfOk, IfErr, OnErr, Err, length};
-ghost use Rattle.tword.specs.Actions.{run};
+ghost use Rattle.tword.specs.Actions.{run, value_of};
 ghost use Rattle.tword.specs.Touches.{deschedule_break};
 ghost use Rattle.tcode.specs.Decoding.{decode};
 ghost use Rattle.tcpu.specs.Effects.{effect};
-ghost use Rattle.tcpu.specs.Local.{would_jump};
+ghost use Rattle.tcpu.specs.Local.{would_jump, outcome_of};
 ghost use Rattle.tproc.specs.Scheduler.{operation_step, counted, counted_by};
 ghost use Rattle.tproc.specs.Steps.{instruction_step, control_step, low_step};
 ghost use Rattle.tproc.specs.Agreement.{Agrees, IsPlain, is_over};
@@ -20,55 +20,70 @@ use crate::scheduler::{communicate, end, jumped, load_priority, run_process, sen
 use crate::state::State;
 use tcode::{Instruction, Operation};
 use tcpu::{Next, Registers};
-use tword::{Break, Word};
+use tword::{Break, Marks, Memory, Word};
+
+/// The calls of the crates below that are still being written.
+pub trait Local {
+    fn decode(memory: &Memory, marks: &Marks, iptr: Word) -> Result<Instruction, Break>
+        ensures { result ≡ value_of (run (decode iptr) memory.now marks.now) };
+
+    fn jumps(registers: &Registers, memory: &Memory, marks: &Marks, instruction: &Instruction) -> Result<bool, Break>
+        ensures { result ≡ would_jump (run (effect instruction.now registers.now) memory.now marks.now) };
+
+    fn local(registers: &mut Registers, memory: &mut Memory, marks: &Marks, instruction: &Instruction) -> Result<Next, Break>
+        ensures done { run (effect instruction.now registers.old) memory.old marks.now ≡ outcome_of result registers.new memory.new }
+        ensures kept { OnErr result ((memory.new ≡ memory.old) × (registers.new ≡ registers.old)) }
+        ensures left { IfOk result (λ next. StandsWhereLeft next memory.old registers.old memory.new registers.new) }
+        ensures sized { length memory.new ≡ length memory.old };
+}
 
 /// The instruction with which a step begins.
 #[inline(always)]
-fn fetch<M: Ram>(ram: &M, iptr: Word) -> Result<Instruction, Break>
-    ensures { Begins (decode iptr) (M.claims ram.now) (M.cells ram.now) result (M.cells ram.now) }
+fn fetch<L: Local>(ram: &Ram, iptr: Word) -> Result<Instruction, Break>
+    ensures { Begins (decode iptr) ram.now.marks ram.now.memory result ram.now.memory }
 {
-    ram.decode(iptr)
+    L::decode(&ram.memory, &ram.marks, iptr)
 }
 
 /// Whether the instruction of a step jumps.
-fn jumps<M: Ram>(ram: &M, i: &Instruction, registers: &Registers) -> Result<bool, Break>
-    ensures told { result ≡ would_jump (run (effect i.now registers.now) (M.cells ram.now) (M.claims ram.now)) }
-    ensures foreseen { Foresees (effect i.now registers.now) (M.claims ram.now) (M.cells ram.now) registers.now result }
+fn jumps<L: Local>(ram: &Ram, i: &Instruction, registers: &Registers) -> Result<bool, Break>
+    ensures told { result ≡ would_jump (run (effect i.now registers.now) ram.now.memory ram.now.marks) }
+    ensures foreseen { Foresees (effect i.now registers.now) ram.now.marks ram.now.memory registers.now result }
 {
-    ram.jumps(i, registers)
+    L::jumps(registers, &ram.memory, &ram.marks, i)
 }
 
 /// The effect of the instruction of a step.
 #[inline(always)]
-fn perform<M: Ram>(
-    ram: &mut M,
+fn perform<L: Local>(
+    ram: &mut Ram,
     i: &Instruction,
     registers: &mut Registers,
 ) -> Result<Next, Break>
-    ensures begins { Begins (effect i.now registers.old) (M.claims ram.old) (M.cells ram.old) (with_registers result registers.new) (M.cells ram.new) }
-    ensures kept { OnErr result ((M.cells ram.new ≡ M.cells ram.old) × (registers.new ≡ registers.old)) }
-    ensures left { IfOk result (λ next. StandsWhereLeft next (M.cells ram.old) registers.old (M.cells ram.new) registers.new) }
-    ensures told { would_jump (run (effect i.now registers.old) (M.cells ram.old) (M.claims ram.old)) ≡ jumps_as result }
+    ensures begins { Begins (effect i.now registers.old) ram.old.marks ram.old.memory (with_registers result registers.new) ram.new.memory }
+    ensures kept { OnErr result ((ram.new.memory ≡ ram.old.memory) × (registers.new ≡ registers.old)) }
+    ensures left { IfOk result (λ next. StandsWhereLeft next ram.old.memory registers.old ram.new.memory registers.new) }
+    ensures told { would_jump (run (effect i.now registers.old) ram.old.memory ram.old.marks) ≡ jumps_as result }
     ensures stays { IfOk result (λ next. StaysWhereJumped next registers.old registers.new) }
-    ensures size { length (M.cells ram.new) ≡ length (M.cells ram.old) }
-    ensures claims { M.claims ram.new ≡ M.claims ram.old }
+    ensures size { length ram.new.memory ≡ length ram.old.memory }
+    ensures claims { ram.new.marks ≡ ram.old.marks }
 {
-    ram.local(i, registers)
+    L::local(registers, &mut ram.memory, &ram.marks, i)
 }
 
 /// An operation of the scheduler.
 #[tactic(auto, unfolding(crate::specs::Scheduler::operation_step))]
-fn operation<M: Ram>(
+fn operation(
     state: &mut State,
-    ram: &mut M,
+    ram: &mut Ram,
     operation: Operation,
     priority: u8,
 ) -> Result<Ran, Break>
     requires running { state.old.current ≡ Some priority }
     requires plain { IsPlain state.old }
-    requires agrees { Agrees (M.claims ram.old) state.old }
-    ensures done { Does (run (operation_step operation priority state.old) (M.cells ram.old) (M.claims ram.old)) state.old (M.cells ram.old) result state.new (M.cells ram.new) }
-    ensures agrees { Agrees (M.claims ram.new) state.new }
+    requires agrees { Agrees ram.old.marks state.old }
+    ensures done { Does (run (operation_step operation priority state.old) ram.old.memory ram.old.marks) state.old ram.old.memory result state.new ram.new.memory }
+    ensures agrees { Agrees ram.new.marks state.new }
 {
     match operation {
         Operation::Startp => start(state, ram, priority),
@@ -99,18 +114,18 @@ fn operation<M: Ram>(
 }
 
 /// An operation of the scheduler, whose instruction has this length.
-fn scheduled<M: Ram>(
+fn scheduled(
     state: &mut State,
-    ram: &mut M,
+    ram: &mut Ram,
     o: Operation,
     priority: u8,
     size: u8,
 ) -> Result<Ran, Break>
     requires running { state.old.current ≡ Some priority }
     requires plain { IsPlain state.old }
-    requires agrees { Agrees (M.claims ram.old) state.old }
-    ensures done { Does (run (operation_step o priority (counted_by o priority (moved_on size state.old))) (M.cells ram.old) (M.claims ram.old)) state.old (M.cells ram.old) result state.new (M.cells ram.new) }
-    ensures agrees { Agrees (M.claims ram.new) state.new }
+    requires agrees { Agrees ram.old.marks state.old }
+    ensures done { Does (run (operation_step o priority (counted_by o priority (moved_on size state.old))) ram.old.memory ram.old.marks) state.old ram.old.memory result state.new ram.new.memory }
+    ensures agrees { Agrees ram.new.marks state.new }
 {
     let before = state.registers;
     let count = state.count;
@@ -130,11 +145,11 @@ fn scheduled<M: Ram>(
 
 /// The checks of a yield that may follow an instruction.
 #[inline(always)]
-fn foresee<M: Ram>(state: &State, ram: &M, i: &Instruction, priority: u8) -> Result<(), Break>
-    ensures ends { IfErr result (λ b. run (rest_of i.now priority state.now) (M.cells ram.now) (M.claims ram.now) ≡ Err b) }
-    ensures free { IfOk result (λ _. is_over priority (counted priority state.now) ≡ true → would_jump (run (effect i.now state.now.registers) (M.cells ram.now) (M.claims ram.now)) ≡ Ok true → deschedule_break (length (M.cells ram.now)) (M.claims ram.now) state.now.registers.wptr ≡ None) }
+fn foresee<L: Local>(state: &State, ram: &Ram, i: &Instruction, priority: u8) -> Result<(), Break>
+    ensures ends { IfErr result (λ b. run (rest_of i.now priority state.now) ram.now.memory ram.now.marks ≡ Err b) }
+    ensures free { IfOk result (λ _. is_over priority (counted priority state.now) ≡ true → would_jump (run (effect i.now state.now.registers) ram.now.memory ram.now.marks) ≡ Ok true → deschedule_break (length ram.now.memory) ram.now.marks state.now.registers.wptr ≡ None) }
 {
-    if state.will_be_over(priority) && jumps(ram, i, &state.registers)? {
+    if state.will_be_over(priority) && jumps::<L>(ram, i, &state.registers)? {
         ram.may_deschedule(state.registers.wptr)?;
     }
     Ok(())
@@ -143,18 +158,18 @@ fn foresee<M: Ram>(state: &State, ram: &M, i: &Instruction, priority: u8) -> Res
 /// One instruction of the current process.
 #[tactic(auto, unfolding(crate::specs::Steps::instruction_step))]
 #[inline]
-fn instruction<M: Ram>(state: &mut State, ram: &mut M, priority: u8) -> Result<Ran, Break>
+fn instruction<L: Local>(state: &mut State, ram: &mut Ram, priority: u8) -> Result<Ran, Break>
     requires running { state.old.current ≡ Some priority }
     requires plain { IsPlain state.old }
-    requires agrees { Agrees (M.claims ram.old) state.old }
-    ensures done { Does (run (instruction_step priority state.old) (M.cells ram.old) (M.claims ram.old)) state.old (M.cells ram.old) result state.new (M.cells ram.new) }
-    ensures agrees { Agrees (M.claims ram.new) state.new }
+    requires agrees { Agrees ram.old.marks state.old }
+    ensures done { Does (run (instruction_step priority state.old) ram.old.memory ram.old.marks) state.old ram.old.memory result state.new ram.new.memory }
+    ensures agrees { Agrees ram.new.marks state.new }
 {
     let before = state.registers;
-    let i = fetch(ram, before.iptr)?;
-    foresee(state, ram, &i, priority)?;
+    let i = fetch::<L>(ram, before.iptr)?;
+    foresee::<L>(state, ram, &i, priority)?;
     let mut r = before;
-    match perform(ram, &i, &mut r)? {
+    match perform::<L>(ram, &i, &mut r)? {
         Next::Go => {
             state.go(r);
             state.count_one(priority);
@@ -178,12 +193,12 @@ fn instruction<M: Ram>(state: &mut State, ram: &mut M, priority: u8) -> Result<R
 
 /// One step while a low process runs.
 #[inline]
-fn step_low<M: Ram>(state: &mut State, ram: &mut M) -> Result<Ran, Break>
+fn step_low<L: Local>(state: &mut State, ram: &mut Ram) -> Result<Ran, Break>
     requires running { state.old.current ≡ Some 1 }
     requires plain { IsPlain state.old }
-    requires agrees { Agrees (M.claims ram.old) state.old }
-    ensures done { Does (run (low_step state.old.high state.old) (M.cells ram.old) (M.claims ram.old)) state.old (M.cells ram.old) result state.new (M.cells ram.new) }
-    ensures agrees { Agrees (M.claims ram.new) state.new }
+    requires agrees { Agrees ram.old.marks state.old }
+    ensures done { Does (run (low_step state.old.high state.old) ram.old.memory ram.old.marks) state.old ram.old.memory result state.new ram.new.memory }
+    ensures agrees { Agrees ram.new.marks state.new }
 {
     match state.take_high() {
         Some(workspace) => {
@@ -191,24 +206,24 @@ fn step_low<M: Ram>(state: &mut State, ram: &mut M) -> Result<Ran, Break>
             start_queued(state, ram, workspace, 0);
             Ok(Ran::Dispatch)
         }
-        None => instruction(state, ram, 1),
+        None => instruction::<L>(state, ram, 1),
     }
 }
 
 /// One step by the process that runs, or a dispatch, unless the processor has halted.
 #[inline]
-pub fn step<M: Ram>(state: &mut State, ram: &mut M) -> Result<Ran, Break>
+pub fn step<L: Local>(state: &mut State, ram: &mut Ram) -> Result<Ran, Break>
     requires plain { IsPlain state.old }
-    requires agrees { Agrees (M.claims ram.old) state.old }
-    ensures done { Does (run (control_step state.old.halted state.old) (M.cells ram.old) (M.claims ram.old)) state.old (M.cells ram.old) result state.new (M.cells ram.new) }
-    ensures agrees { Agrees (M.claims ram.new) state.new }
+    requires agrees { Agrees ram.old.marks state.old }
+    ensures done { Does (run (control_step state.old.halted state.old) ram.old.memory ram.old.marks) state.old ram.old.memory result state.new ram.new.memory }
+    ensures agrees { Agrees ram.new.marks state.new }
 {
     if state.halted {
         return Ok(Ran::Halted);
     }
     match state.current {
         None => Ok(dispatch(state, ram)),
-        Some(0) => instruction(state, ram, 0),
-        Some(_) => step_low(state, ram),
+        Some(0) => instruction::<L>(state, ram, 0),
+        Some(_) => step_low::<L>(state, ram),
     }
 }

@@ -1,11 +1,6 @@
-use Rattle.std.proofs.Common.{◌∙◌, ap, refl, rules}
-use Rattle.std.specs.Prelude.{option_map}
-use Rattle.tproc.specs.Machine.{buffer_of}
-use Rattle.tproc.proofs.Agreeing.{agrees_output, output_at}
+use Rattle.std.proofs.Common.{rules}
+use Rattle.tproc.proofs.Agreeing.{agrees_output}
 use Rattle.tproc.proofs.link_channels.offer_output.Goals as goal
 
-pub claim_output-requires-clause-free : goal.claim_output-requires-clause-free
-claim_output-requires-clause-free g c = output_at _ _ _ _ c.requires.agrees ∙ ap (option_map buffer_of) c.requires.quiet
-
 pub returns-clause-agrees : goal.returns-clause-agrees
-returns-clause-agrees g c = agrees_output _ c.args.offer _ _ _ c.args.state.now _ c.requires.agrees c.claim_output.ensures.claims (search rules)
+returns-clause-agrees c = agrees_output _ c.args.offer _ _ _ c.args.state.now _ c.requires.agrees c.claim_output.ensures.claims (search rules)

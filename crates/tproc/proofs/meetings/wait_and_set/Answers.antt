@@ -8,7 +8,7 @@ use Rattle.tproc.specs.Requests.{request}
 use Rattle.tproc.proofs.meetings.wait_and_set.Goals as goal
 
 pub returns-in_err-may_leave_and_set-clause-done : goal.returns-in_err-may_leave_and_set-clause-done
-returns-in_err-may_leave_and_set-clause-done g c =
+returns-in_err-may_leave_and_set-clause-done c =
     let p = err_from_is_err_and c.from_residual.result c.from_residual.ensures.1 in
     rw (p.1, p.2, c.in_err-may_leave_and_set.ensures.refused (λ _. answer (waiting_for c.args.q.now.process (reason_for (request c.args.q.now) (request c.args.q.now).side) c.args.state.now, ran.Instruction)) _ _ refl)
     (refl, refl, refl)
