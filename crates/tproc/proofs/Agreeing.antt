@@ -15,7 +15,7 @@ use Rattle.tproc.specs.Queues.{appended, waiting_for, without_waiter}
 use Rattle.tproc.specs.declared.offer.Offer.{Offer}
 use Rattle.tproc.specs.LinkChannels.{link_end, with_link, quiet_end}
 use Rattle.tproc.specs.Agreement.{AgreesOn, AgreesWith, Agrees, Settles, Unsettles, Leaves, AreSaved, IsPlain, StillSaved, StillAgrees}
-use Rattle.tword.specs.Accesses.{Frees, with_input, with_output}
+use Rattle.tword.specs.Accesses.{Frees, with_input, with_output, without_input, without_output}
 use Rattle.tproc.proofs.Occurs.{occurs, hits, occurs-append, occurring_once, found-occurs, occurs-found, same_once}
 use Rattle.tproc.proofs.ClaimState.{workspaces_of, HasWaiter}
 use Rattle.tproc.proofs.Waiters.{without, without_none, waiter_occurs, found_waiter, filter_step}
@@ -337,3 +337,10 @@ agrees_freed w c d m h f frees count same =
     only : (v : ℕ) (b : Bool) → (v == w) ≡ b → (not b && ((w == v) || is_among v (descheduled m))) ≡ is_among v (descheduled m)
     only v true k = rw (eqb-true v w k, f) refl
     only v false k = rw (ne_eqb w v (λ q. eqb-false v w k (sym q))) refl
+
+-- an output is over at a link, or an input
+pub agrees_without_output : (l : ℕ) (others : List ℕ) (c d : Claims) (m m' : Control) → AgreesWith others c m → d ≡ without_output l c → m' ≡ with_link l (record (link_end m l) { output = None }) m → AgreesWith others d m'
+agrees_without_output l others c d m m' h e k = rw (e, k) (agrees_linked l (record (link_end m l) { output = None }) others c (without_output l c) m h (input_stays others c m l h) refl refl)
+
+pub agrees_without_input : (l : ℕ) (others : List ℕ) (c d : Claims) (m m' : Control) → AgreesWith others c m → d ≡ without_input l c → m' ≡ with_link l (record (link_end m l) { input = None }) m → AgreesWith others d m'
+agrees_without_input l others c d m m' h e k = rw (e, k) (agrees_linked l (record (link_end m l) { input = None }) others c (without_input l c) m h refl (output_stays others c m l h) refl)

@@ -1,14 +1,15 @@
 -- What a placement gives to the code of a step, and what the code's step is to the machine.
 use Rattle.std.proofs.Common.{◌≡◌, ◌∙◌, ℕ, zero, suc, ◌+◌, ◌-◌, ◌<◌, ◌≤◌, ◌%◌, refl, sym, ap, subst, cond, List, [], ◌∷◌, ◌||◌, ◌==◌, Bool, true, false, Result, Ok, Err, Option, Some, None, length, get_or, arith}
-use Rattle.std.specs.Prelude.{IfSome, IfOk, IsSome, MatchResult, find, option_map, nat_le}
+use Rattle.std.specs.Prelude.{IfSome, IfOk, IsSome, MatchResult, find, option_map, nat_le, unwrap_or}
 use Rattle.std.specs.List.{list_any}
 use Rattle.std.proofs.lemmas.Bool.{eqb-true, eq-eqb, or_right, leb-true, leb-false}
 use Rattle.tword.specs.declared.breaks.Break.{Break}
 use Rattle.tword.specs.Words.{most_neg}
-use Rattle.tword.specs.Stores.{Store, place}
-use Rattle.tword.specs.Claims.{Claims, overlap, saved_words}
+use Rattle.tword.specs.Stores.{Store, place, word_at, byte_at, with_word, with_cells, as_cells, cells}
+use Rattle.tword.specs.Claims.{Claims, overlap, saved_words, saving}
 use Rattle.tword.specs.Accesses.{no_claims}
-use Rattle.tword.specs.Actions.{Action, run}
+use Rattle.tword.specs.Touches.{Writes, span_break, word_break, byte_span, deschedule_break, copy_break}
+use Rattle.tword.specs.Actions.{Action, answer, breaks, requiring, unmet, touching_word, touching_byte, touching, writing_word, writing_byte, copying, descheduling, reading_saved, setting_saved, unless, run, run_from, saved_word_at, with_saved_word, set_saved_word, ◌>>=◌}
 use Rattle.tword.proofs.Answering.{answering, run_from-answering}
 use Rattle.tword.proofs.SameClaims.{SameClaims, run_from-same}
 use Rattle.tcpu.specs.declared.registers.Registers.{Registers}
@@ -20,9 +21,9 @@ use Rattle.tproc.specs.declared.waiting.Reason.{Reason}
 use Rattle.tproc.specs.declared.waiting.Reason.TheVariants.{LinkInput, LinkOutput}
 use Rattle.tproc.specs.declared.waiting.Suspended.{Suspended}
 use Rattle.tproc.specs.declared.waiting.Waiter.{Waiter}
-use Rattle.tproc.specs.Machine.{Control, Machine, descheduled, claims_of}
+use Rattle.tproc.specs.Machine.{Control, Machine, workspace_of, descheduled, claims_of}
 use Rattle.tproc.specs.Standing.{is_among, reason_of}
-use Rattle.tproc.specs.Queues.{add_process}
+use Rattle.tproc.specs.Queues.{iptr_word, admit, enqueue, add_process}
 use Rattle.tproc.specs.LinkChannels.{link_end, quiet_end}
 use Rattle.tproc.specs.Placement.{IsPlaced, AreWords, WaitsFor, IsBuffer}
 use Rattle.tproc.specs.Steps.{step, control_step, step_left_by, step_answered, acted}
@@ -31,7 +32,7 @@ use Rattle.tproc.specs.Links.{act_or_unchanged, or_unchanged}
 use Rattle.tproc.specs.Messages.{output_of, input_of}
 use Rattle.tproc.specs.Opening.{added, only_machine, no_processes}
 use Rattle.tproc.specs.Agreement.{Agrees, IsPlain}
-use Rattle.tproc.specs.Doing.{Does, Stepped, as_step}
+use Rattle.tproc.specs.Doing.{Does, Stepped, as_step, adding}
 use Rattle.tproc.proofs.ClaimState.{HasWaiter}
 use Rattle.tproc.proofs.Pending.{at_some}
 use Rattle.tproc.proofs.Placed.{step_keeps_placed}
@@ -119,12 +120,12 @@ placed_after n n' p h = by (step n) refl h
 pub acted_or_unchanged : (action : Control → Action Control) (c : Claims) (n n' : Machine) (r : Result Ran Break) → Agrees c n.control
     → Does (run (as_step (action n.control)) n.store c) n.control n.store r n'.control n'.store → n' ≡ act_or_unchanged action n
 acted_or_unchanged action c n n' r a h =
-    rw (run_from-answering (λ (m : Control). (m, tt)) (action n.control) n.store (claims_of n.control) n.store)
+    rw (run_from-answering {B = Control × Unit {0}} (λ (m : Control). (m, tt)) (action n.control) n.store (claims_of n.control) n.store)
     (by (run (action n.control) n.store (claims_of n.control))
-    (rw (run_from-answering (λ (m : Control). (m, ran.Instruction)) (action n.control) n.store c n.store, run_from-same (action n.control) n.store n.store c (claims_of n.control) (same_from c n.control a)) at h))
+    (rw (run_from-answering {B = Control × Ran} (λ (m : Control). (m, ran.Instruction)) (action n.control) n.store c n.store, run_from-same (action n.control) n.store n.store c (claims_of n.control) (same_from c n.control a)) at h))
   where
-    by : (y : Result (Control × Store) Break) → Does (answering (λ (m : Control). (m, ran.Instruction)) y) n.control n.store r n'.control n'.store
-        → n' ≡ or_unchanged n (acted n.store (answering (λ (m : Control). (m, tt)) y))
+    by : (y : Result (Control × Store) Break) → Does (answering {B = Control × Ran} (λ (m : Control). (m, ran.Instruction)) y) n.control n.store r n'.control n'.store
+        → n' ≡ or_unchanged n (acted n.store (answering {B = Control × Unit {0}} (λ (m : Control). (m, tt)) y))
     by (Ok (m1, s1)) d = rw (← d.1, ← d.2) refl
     by (Err b) d = rw (d.1, d.2) refl
 
@@ -162,7 +163,7 @@ input_waits n l p = by (link_end n.control l).input (p.claimed.inputs l)
     by (Some o) h = reason_found n.control.waiting o.wdesc (LinkInput l) h.0
 
 -- a link where something is pending is there
-past_the_end : (ls : List LinkEnd) (l : ℕ) → length ls ≤ l → get_or ls l quiet_end ≡ quiet_end
+pub past_the_end : (ls : List LinkEnd) (l : ℕ) → length ls ≤ l → get_or ls l quiet_end ≡ quiet_end
 past_the_end [] l h = refl
 past_the_end (x ∷ xs) zero h = absurd (omega arith)
 past_the_end (x ∷ xs) (suc l) h = past_the_end xs l (omega arith)
@@ -198,16 +199,36 @@ input_byte n l k o p e h =
 pub agrees_empty : (timeslice : ℕ) → Agrees no_claims (no_processes timeslice)
 agrees_empty timeslice = record { on = record { saved = λ w. refl; count = refl; inputs = refl; outputs = refl } }
 
+-- parts of an action may be joined in any way
+module _ {A B C : Type 0} (f : A → Action B) (g : B → Action C) where
+  pub run_from-assoc : (x : Action A) (old : Store) (c : Claims) (new : Store) → run_from ((x >>= f) >>= g) old c new ≡ run_from (x >>= (λ a. f a >>= g)) old c new
+  run_from-assoc (answer x) old c new = refl
+  run_from-assoc (breaks b) old c new = refl
+  run_from-assoc (requiring t b next) old c new = ap (unless (unmet t b)) (run_from-assoc next old c new)
+  run_from-assoc (touching_word mode a next) old c new = ap (unless (word_break (length old) c mode a)) (run_from-assoc (next (word_at old a)) old c new)
+  run_from-assoc (touching_byte mode a next) old c new = ap (unless (span_break (length old) c mode (byte_span a))) (run_from-assoc (next (unwrap_or (byte_at old a) 0)) old c new)
+  run_from-assoc (touching mode span next) old c new = ap (unless (span_break (length old) c mode span)) (run_from-assoc next old c new)
+  run_from-assoc (writing_word a v next) old c new = ap (unless (word_break (length old) c Writes a)) (run_from-assoc next old c (with_word new a v))
+  run_from-assoc (writing_byte a v next) old c new = ap (unless (span_break (length old) c Writes (byte_span a))) (run_from-assoc next old c (with_cells new a (as_cells (v % 256 ∷ []))))
+  run_from-assoc (copying from to count next) old c new = ap (unless (copy_break (length old) c from to count)) (run_from-assoc next old c (with_cells new to (cells new from count)))
+  run_from-assoc (descheduling w next) old c new = ap (unless (deschedule_break (length old) c w)) (run_from-assoc next old (saving w c) new)
+  run_from-assoc (reading_saved w k next) old c new = run_from-assoc (next (saved_word_at old c w k)) old c new
+  run_from-assoc (setting_saved w k v next) old c new = run_from-assoc next old c (with_saved_word new c w k v)
+
 -- a process is added
 pub adds : (process iptr : ℕ) (c : Claims) (n n' : Machine) (r : Result Ran Break) → Agrees c n.control
-    → Does (run (as_step (add_process process iptr n.control)) n.store c) n.control n.store r n'.control n'.store
+    → Does (run (adding process iptr n.control) n.store c) n.control n.store r n'.control n'.store
     → MatchResult r (λ x. added process iptr n ≡ Ok n') (λ b. (added process iptr n ≡ Err b) × (n' ≡ n))
 adds process iptr c n n' r a h =
-    rw (run_from-answering (λ (m : Control). (m, tt)) (add_process process iptr n.control) n.store (claims_of n.control) n.store)
+    rw (run_from-answering {B = Control × Unit {0}} (λ (m : Control). (m, tt)) (add_process process iptr n.control) n.store (claims_of n.control) n.store)
     (by (run (add_process process iptr n.control) n.store (claims_of n.control))
-    (rw (run_from-answering (λ (m : Control). (m, ran.Instruction)) (add_process process iptr n.control) n.store c n.store, run_from-same (add_process process iptr n.control) n.store n.store c (claims_of n.control) (same_from c n.control a)) at h))
+    (rw (
+      sym (run_from-assoc (λ _. set_saved_word (workspace_of process) iptr_word iptr >>= (λ _. enqueue process n.control)) (λ m'. answer (m', ran.Instruction)) (admit process n.control) n.store c n.store),
+      run_from-answering {B = Control × Ran} (λ (m : Control). (m, ran.Instruction)) (add_process process iptr n.control) n.store c n.store,
+      run_from-same (add_process process iptr n.control) n.store n.store c (claims_of n.control) (same_from c n.control a),
+    ) at h))
   where
-    by : (y : Result (Control × Store) Break) → Does (answering (λ (m : Control). (m, ran.Instruction)) y) n.control n.store r n'.control n'.store
-        → MatchResult r (λ x. only_machine (acted n.store (answering (λ (m : Control). (m, tt)) y)) ≡ Ok n') (λ b. (only_machine (acted n.store (answering (λ (m : Control). (m, tt)) y)) ≡ Err b) × (n' ≡ n))
+    by : (y : Result (Control × Store) Break) → Does (answering {B = Control × Ran} (λ (m : Control). (m, ran.Instruction)) y) n.control n.store r n'.control n'.store
+        → MatchResult r (λ x. only_machine (acted n.store (answering {B = Control × Unit {0}} (λ (m : Control). (m, tt)) y)) ≡ Ok n') (λ b. (only_machine (acted n.store (answering {B = Control × Unit {0}} (λ (m : Control). (m, tt)) y)) ≡ Err b) × (n' ≡ n))
     by (Ok (m1, s1)) d = rw (d.0, ← d.1, ← d.2) refl
     by (Err b) d = rw (d.0, d.1, d.2) (refl, refl)

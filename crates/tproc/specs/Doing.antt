@@ -4,7 +4,7 @@ use Rattle.tword.specs.declared.breaks.Break.{Break}
 use Rattle.tword.specs.Words.{plus}
 use Rattle.tword.specs.Stores.{Store, with_word}
 use Rattle.tword.specs.Claims.{Claims}
-use Rattle.tword.specs.Actions.{Action, answer, run_from, ◌>>=◌}
+use Rattle.tword.specs.Actions.{Action, Deed, answer, set_saved_word, run_from, ◌>>=◌}
 use Rattle.tcode.specs.declared.instruction.Instruction.{Instruction}
 use Rattle.tcpu.specs.declared.registers.Registers.{Registers}
 use Rattle.tcpu.specs.declared.registers.Next.{Next}
@@ -14,7 +14,8 @@ use Rattle.tcpu.specs.Local.{is_jump}
 use Rattle.tcpu.specs.Effects.{effect}
 use Rattle.tproc.specs.declared.offer.Ran.{Ran}
 use Rattle.tproc.specs.declared.offer.Ran.TheVariants as ran
-use Rattle.tproc.specs.Machine.{Control, Machine}
+use Rattle.tproc.specs.Machine.{Control, Machine, workspace_of}
+use Rattle.tproc.specs.Queues.{iptr_word, admit, enqueue}
 use Rattle.tproc.specs.Channels.{StepAction}
 use Rattle.tproc.specs.Steps.{after, step, step_left_by, step_answered}
 
@@ -26,6 +27,15 @@ Does (Err b) old cells result new cells' = (result ≡ Err b) × (new ≡ old) �
 -- an action of the control alone, as a step
 abbrev pub as_step : Action Control → StepAction
 as_step x = x >>= (λ m. answer (m, ran.Instruction))
+
+-- two deeds in turn, and then the rest of a step
+abbrev pub in_turn : Deed → Deed → StepAction → StepAction
+in_turn x y z = x >>= (λ _. y >>= (λ _. z))
+
+-- a process from outside is let in, as a step
+abbrev pub adding : ℕ → ℕ → Control → StepAction
+adding process iptr m =
+    admit process m >>= (λ _. set_saved_word (workspace_of process) iptr_word iptr >>= (λ _. enqueue process m >>= (λ m'. answer (m', ran.Instruction))))
 
 -- what follows a part of an action: the rest from where the part ended, or the part's break
 abbrev pub onward : {A B : Type 0} → Result A Break → (A → Result B Break) → Result B Break

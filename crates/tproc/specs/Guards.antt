@@ -5,9 +5,11 @@ use Rattle.tword.specs.Stores.{Store, with_word}
 use Rattle.tword.specs.Claims.{Claims}
 use Rattle.tword.specs.Touches.{Writes, word_break}
 use Rattle.tword.specs.Actions.{Action, run_from, ◌>>=◌}
+use Rattle.tcpu.specs.declared.registers.Registers.{Registers}
+use Rattle.tcpu.specs.Outcomes.{all_to}
 use Rattle.tproc.specs.Machine.{Control}
 use Rattle.tproc.specs.Queues.{not_process}
-use Rattle.tproc.specs.Channels.{StepAction}
+use Rattle.tproc.specs.Channels.{StepAction, goes_on}
 use Rattle.tproc.specs.LinkChannels.{link_end, with_link}
 use Rattle.tproc.specs.Doing.{onward}
 use Rattle.tproc.specs.declared.alternatives.Guard.{Guard}
@@ -34,6 +36,10 @@ abbrev pub MayDisable : ℕ → Claims → Guard → Type 0
 MayDisable size claims (Link l noticed) = l < 4
 MayDisable size claims (Enabled channel) = word_break size claims Writes channel ≡ None
 MayDisable size claims _ = Unit {0}
+
+-- a guard is enabled, and kept
+abbrev pub kept_after : Action Control → Registers → StepAction
+kept_after x r = x >>= (λ m. goes_on (all_to r.a r) m)
 
 -- a channel would be disabled as this guard is, or the break is named
 abbrev pub Disables : Action (Control × Bool) → Claims → Store → Control → Result Guard Break → Type 0

@@ -1,16 +1,15 @@
 //! Alternatives: enabling, waiting and disabling.
 
-ghost use Rattle.std.specs.Prelude.{◌≡◌, ◌∷◌, Some, None, Ok, true, IfOk, IfErr, OnOk, OnErr, length};
-ghost use Rattle.tword.specs.Actions.{run, run_from, or_break};
-ghost use Rattle.tword.specs.Touches.{Writes, word_break, first_break};
+ghost use Rattle.std.specs.Prelude.{◌≡◌, ◌==◌, ◌∷◌, if◌then◌else◌, Some, None, Ok, true, false, IfOk, OnErr, length};
+ghost use Rattle.tword.specs.Actions.{answer, run, run_from};
+ghost use Rattle.tword.specs.Touches.{Writes, word_break};
 ghost use Rattle.tword.specs.Words.{word_below};
-ghost use Rattle.tword.specs.Stores.{word_at};
-ghost use Rattle.tproc.specs.Standing.{standing};
+ghost use Rattle.tword.specs.Stores.{with_word};
 ghost use Rattle.tproc.specs.LinkChannels.{is_link as names_link};
 ghost use Rattle.tproc.specs.Alternatives.{begins_choice, enable as enabling, enable_internal as enabling_internal, enables_channel, enables_skip, awaits_choice, disable as disabling, disable_internal as disabling_internal, disables_channel, disables_skip, selects, ends_choice};
 ghost use Rattle.tproc.specs.Agreement.{Agrees, AgreesWith, IsOwn, IsPlain, StillAgrees};
 ghost use Rattle.tproc.specs.Doing.{Begins, Does, with_control};
-ghost use Rattle.tproc.specs.Guards.{Disables, MayDisable, control_after, store_after, ready_as};
+ghost use Rattle.tproc.specs.Guards.{Disables, MayDisable, kept_after, control_after, store_after, ready_as};
 
 use crate::channels::{ENABLING, NOT_PROCESS, READY, Side, WAITING, is_choosing};
 use crate::link_channels::{is_link, link_at};
@@ -113,6 +112,37 @@ fn enable(state: &mut State, ram: &mut Ram, process: Word, channel: Word) -> Res
     }
 }
 
+/// The channel of the guard that `enbc` names is enabled, unless the guard is false.
+fn enable_guard(state: &mut State, ram: &mut Ram, process: Word) -> Result<(), Break>
+    requires plain { IsPlain state.old }
+    requires touched { word_break (length ram.old.memory) ram.old.marks Writes (word_below state.old.registers.wptr 3) ≡ None }
+    ensures done { Begins (if state.old.registers.a == 0 then answer state.old else enabling state.old.registers.b process state.old) ram.old.marks ram.old.memory (with_control result state.new) ram.new.memory }
+    ensures kept { OnErr result ((ram.new.memory ≡ ram.old.memory) × (state.new ≡ state.old)) }
+    ensures claims { ram.new.marks ≡ ram.old.marks }
+    ensures agrees { StillAgrees state.old state.new }
+{
+    let channel = state.registers.b;
+    if state.registers.a.get() == 0 {
+        Ok(())
+    } else {
+        enable(state, ram, process, channel)
+    }
+}
+
+/// The channel of the guard is enabled, and the guard is kept.
+fn enable_and_go(state: &mut State, ram: &mut Ram, process: Word) -> Result<Ran, Break>
+    requires plain { IsPlain state.old }
+    requires agrees { Agrees ram.old.marks state.old }
+    requires touched { word_break (length ram.old.memory) ram.old.marks Writes (word_below state.old.registers.wptr 3) ≡ None }
+    ensures done { Does (run (kept_after (if state.old.registers.a == 0 then answer state.old else enabling state.old.registers.b process state.old) state.old.registers) ram.old.memory ram.old.marks) state.old ram.old.memory result state.new ram.new.memory }
+    ensures agrees { Agrees ram.new.marks state.new }
+{
+    let r = state.registers;
+    enable_guard(state, ram, process)?;
+    state.go(Registers { b: r.c, ..r });
+    Ok(Ran::Instruction)
+}
+
 /// A guard on a channel is enabled, and kept.
 pub fn enable_channel(state: &mut State, ram: &mut Ram, process: Word) -> Result<Ran, Break>
     requires plain { IsPlain state.old }
@@ -120,14 +150,9 @@ pub fn enable_channel(state: &mut State, ram: &mut Ram, process: Word) -> Result
     ensures done { Does (run (enables_channel process state.old) ram.old.memory ram.old.marks) state.old ram.old.memory result state.new ram.new.memory }
     ensures agrees { Agrees ram.new.marks state.new }
 {
-    let r = state.registers;
     let chosen = ram.take_word(below(state.registers.wptr, STATE_WORD))?;
     require(is_choosing(chosen), Break::ChannelMisuse)?;
-    if r.a.get() != 0 {
-        enable(state, ram, process, r.b)?;
-    }
-    state.go(Registers { b: r.c, ..r });
-    Ok(Ran::Instruction)
+    enable_and_go(state, ram, process)
 }
 
 /// A guard without a channel is enabled.
@@ -230,6 +255,19 @@ fn channel_guard(state: &State, ram: &Ram, channel: Word) -> Result<Guard, Break
     }
 }
 
+/// The guard that `disc` names: one that is false is not ready.
+fn guard_of(state: &State, ram: &Ram) -> Result<Guard, Break>
+    requires plain { IsPlain state.now }
+    ensures done { Disables (if state.now.registers.b == 0 then answer (state.now, false) else disabling state.now.registers.c state.now) ram.now.marks ram.now.memory state.now result }
+    ensures may { IfOk result (λ g. MayDisable (length ram.now.memory) ram.now.marks g) }
+{
+    if state.registers.b.get() == 0 {
+        Ok(Guard::NotReady)
+    } else {
+        channel_guard(state, ram, state.registers.c)
+    }
+}
+
 /// A guard is disabled.
 fn disable(state: &mut State, ram: &mut Ram, guard: &Guard)
     requires may { MayDisable (length ram.old.memory) ram.old.marks guard.now }
@@ -266,6 +304,17 @@ fn is_ready(guard: &Guard) -> bool
     }
 }
 
+/// Sets a word where a test says so.
+fn store_if(test: bool, ram: &mut Ram, address: Word, value: Word)
+    requires { word_break (length ram.old.memory) ram.old.marks Writes address ≡ None }
+    ensures cells { ram.new.memory ≡ (if test then with_word ram.old.memory address value else ram.old.memory) }
+    ensures claims { ram.new.marks ≡ ram.old.marks }
+{
+    if test {
+        ram.set_word(address, value);
+    }
+}
+
 /// A guard is disabled, and selected where it is ready and none was before it.
 fn select(state: &mut State, ram: &mut Ram, guard: &Guard) -> Result<Ran, Break>
     requires agrees { Agrees ram.old.marks state.old }
@@ -277,9 +326,7 @@ fn select(state: &mut State, ram: &mut Ram, guard: &Guard) -> Result<Ran, Break>
     let selected = ram.take_word(r.wptr)?;
     let chosen = is_ready(guard) && selected.get() == NONE_SELECTED;
     disable(state, ram, guard);
-    if chosen {
-        ram.set_word(r.wptr, r.a);
-    }
+    store_if(chosen, ram, r.wptr, r.a);
     state.go(Registers {
         a: Word::new(u32::from(chosen)),
         b: r.c,
@@ -295,10 +342,7 @@ pub fn disable_channel(state: &mut State, ram: &mut Ram) -> Result<Ran, Break>
     ensures done { Does (run (disables_channel state.old) ram.old.memory ram.old.marks) state.old ram.old.memory result state.new ram.new.memory }
     ensures agrees { Agrees ram.new.marks state.new }
 {
-    if state.registers.b.get() == 0 {
-        return select(state, ram, &Guard::NotReady);
-    }
-    let guard = channel_guard(state, ram, state.registers.c)?;
+    let guard = guard_of(state, ram)?;
     select(state, ram, &guard)
 }
 

@@ -3,11 +3,10 @@
 ghost use Rattle.std.specs.Prelude.{◌≡◌, ◌<◌, ◌∷◌, [], Some, None, true, IfSome, IsSome, Ok};
 ghost use Rattle.tword.specs.Actions.{run};
 ghost use Rattle.tproc.specs.Standing.{is_queued, reason_of, standing};
-ghost use Rattle.tproc.specs.Queues.{add_process};
 ghost use Rattle.tproc.specs.LinkChannels.{link_end, with_link};
-ghost use Rattle.tproc.specs.Links.{wakes, readies_queued, readies_running, notify_at, notice as noticing, finished};
+ghost use Rattle.tproc.specs.Links.{wakes, readies_queued, readies_running, act_or_unchanged, notify_at, notice as noticing, finished};
 ghost use Rattle.tproc.specs.Agreement.{Agrees, AgreesWith, IsPlain};
-ghost use Rattle.tproc.specs.Doing.{Does, as_step};
+ghost use Rattle.tproc.specs.Doing.{Does, adding, as_step};
 
 use crate::channels::{ENABLING, READY};
 use crate::offer::Ran;
@@ -24,7 +23,7 @@ use tword::{Break, Word};
 pub fn add(state: &mut State, ram: &mut Ram, process: Word, iptr: Word) -> Result<Ran, Break>
     requires plain { IsPlain state.old }
     requires agrees { Agrees ram.old.marks state.old }
-    ensures done { Does (run (as_step (add_process process iptr state.old)) ram.old.memory ram.old.marks) state.old ram.old.memory result state.new ram.new.memory }
+    ensures done { Does (run (adding process iptr state.old) ram.old.memory ram.old.marks) state.old ram.old.memory result state.new ram.new.memory }
     ensures agrees { Agrees ram.new.marks state.new }
 {
     admit(state, ram, process)?;
@@ -62,7 +61,7 @@ fn ready_queued(state: &State, ram: &mut Ram, process: Word) -> Ran
     Ran::Instruction
 }
 
-/// A process that runs or was interrupted is told, where it is enabling.
+/// A process that runs or was interrupted becomes ready, where it is enabling.
 fn ready_running(state: &State, ram: &mut Ram, process: Word) -> Result<Ran, Break>
     ensures done { Does (run (as_step (readies_running process state.now)) ram.old.memory ram.old.marks) state.now ram.old.memory result state.now ram.new.memory }
     ensures claims { ram.new.marks ≡ ram.old.marks }
@@ -74,6 +73,36 @@ fn ready_running(state: &State, ram: &mut Ram, process: Word) -> Result<Ran, Bre
     Ok(Ran::Instruction)
 }
 
+/// A process that waits for its alternative is told, and queued.
+fn tell_waiting(state: &mut State, ram: &mut Ram, process: Word)
+    requires plain { IsPlain state.old }
+    requires agrees { Agrees ram.old.marks state.old }
+    requires waits { IsSome (reason_of state.old process) }
+    ensures left { record { control = state.new; store = ram.new.memory } ≡ act_or_unchanged (wakes process) (record { control = state.old; store = ram.old.memory }) }
+    ensures agrees { Agrees ram.new.marks state.new }
+{
+    wake(state, ram, process);
+}
+
+/// A queued process is told, where it is enabling.
+fn tell_queued(state: &State, ram: &mut Ram, process: Word)
+    requires agrees { Agrees ram.old.marks state.now }
+    requires queued { is_queued state.now process ≡ true }
+    ensures left { record { control = state.now; store = ram.new.memory } ≡ act_or_unchanged (readies_queued process) (record { control = state.now; store = ram.old.memory }) }
+    ensures claims { ram.new.marks ≡ ram.old.marks }
+{
+    ready_queued(state, ram, process);
+}
+
+/// A process that runs or was interrupted is told, where it is enabling and its state word may be written.
+fn tell_running(state: &State, ram: &mut Ram, process: Word)
+    requires agrees { Agrees ram.old.marks state.now }
+    ensures left { record { control = state.now; store = ram.new.memory } ≡ act_or_unchanged (readies_running process) (record { control = state.now; store = ram.old.memory }) }
+    ensures claims { ram.new.marks ≡ ram.old.marks }
+{
+    let _broken = ready_running(state, ram, process);
+}
+
 /// The process that enabled a link is told that a byte waits there.
 fn tell(state: &mut State, ram: &mut Ram, process: Word)
     requires plain { IsPlain state.old }
@@ -83,13 +112,13 @@ fn tell(state: &mut State, ram: &mut Ram, process: Word)
 {
     match &state.standing(process) {
         Standing::Waits(Reason::Chooses) => {
-            wake(state, ram, process);
+            tell_waiting(state, ram, process);
         }
         Standing::Queued => {
-            ready_queued(state, ram, process);
+            tell_queued(state, ram, process);
         }
         Standing::Runs | Standing::Interrupted => {
-            let _ = ready_running(state, ram, process);
+            tell_running(state, ram, process);
         }
         _ => {}
     }
@@ -123,23 +152,27 @@ pub fn finish_output(state: &mut State, ram: &mut Ram, link: u8) -> Ran
     requires link { link < 4 }
     requires plain { IsPlain state.old }
     requires agrees { Agrees ram.old.marks state.old }
+    requires pending { IsSome (link_end state.old link).output }
     requires waits { IfSome (link_end state.old link).output (λ o. IsSome (reason_of state.old o.wdesc)) }
     ensures done { Does (run (as_step (finished (link_end state.old link).output (with_link link (record (link_end state.old link) { output = None }) state.old))) ram.old.memory ram.old.marks) state.old ram.old.memory (Ok result) state.new ram.new.memory }
     ensures agrees { Agrees ram.new.marks state.new }
 {
     let end = state.link(link);
-    state.set_link(
-        link,
-        LinkEnd {
-            output: None,
-            ..end
-        },
-    );
-    if let Some(offer) = end.output {
-        release(state, ram, offer.wdesc);
+    match end.output {
+        Some(offer) => {
+            state.set_link(
+                link,
+                LinkEnd {
+                    output: None,
+                    ..end
+                },
+            );
+            release(state, ram, offer.wdesc);
+            ram.release_output(link);
+            Ran::Instruction
+        }
+        None => unreachable!(),
     }
-    ram.release_output(link);
-    Ran::Instruction
 }
 
 /// The pending input of a link is over: its process is queued.
@@ -147,21 +180,25 @@ pub fn finish_input(state: &mut State, ram: &mut Ram, link: u8) -> Ran
     requires link { link < 4 }
     requires plain { IsPlain state.old }
     requires agrees { Agrees ram.old.marks state.old }
+    requires pending { IsSome (link_end state.old link).input }
     requires waits { IfSome (link_end state.old link).input (λ o. IsSome (reason_of state.old o.wdesc)) }
     ensures done { Does (run (as_step (finished (link_end state.old link).input (with_link link (record (link_end state.old link) { input = None }) state.old))) ram.old.memory ram.old.marks) state.old ram.old.memory (Ok result) state.new ram.new.memory }
     ensures agrees { Agrees ram.new.marks state.new }
 {
     let end = state.link(link);
-    state.set_link(
-        link,
-        LinkEnd {
-            input: None,
-            ..end
-        },
-    );
-    if let Some(offer) = end.input {
-        release(state, ram, offer.wdesc);
+    match end.input {
+        Some(offer) => {
+            state.set_link(
+                link,
+                LinkEnd {
+                    input: None,
+                    ..end
+                },
+            );
+            release(state, ram, offer.wdesc);
+            ram.release_input(link);
+            Ran::Instruction
+        }
+        None => unreachable!(),
     }
-    ram.release_input(link);
-    Ran::Instruction
 }

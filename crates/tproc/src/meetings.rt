@@ -2,7 +2,7 @@
 
 ghost use Rattle.std.specs.Prelude.{◌≡◌, ◌∷◌, [], Ok, Some, None, true, false, IfErr, IfSome, IsSome, OnOk, length};
 ghost use Rattle.tword.specs.Claims.{has_saved, saving};
-ghost use Rattle.tword.specs.Actions.{answer, run_from, ◌>>=◌};
+ghost use Rattle.tword.specs.Actions.{answer, run_from};
 ghost use Rattle.tword.specs.Touches.{Writes, word_break};
 ghost use Rattle.tword.specs.Words.{word_below};
 ghost use Rattle.tproc.specs.Machine.{workspace_of as the_workspace};
@@ -11,7 +11,7 @@ ghost use Rattle.tproc.specs.Channels.{Input, Output, own_side, reason_for, set_
 ghost use Rattle.tproc.specs.Queues.{waiting_for};
 ghost use Rattle.tproc.specs.declared.offer.Ran.TheVariants as ran;
 ghost use Rattle.tproc.specs.Agreement.{Agrees, AgreesWith, IsOwn, IsPlain};
-ghost use Rattle.tproc.specs.Doing.{Does, Part, RefusesAfter, laid};
+ghost use Rattle.tproc.specs.Doing.{Does, Part, RefusesAfter, in_turn, laid};
 ghost use Rattle.tproc.specs.Requests.{request, MayLeave, is_own_word as own_word};
 
 use crate::channels::{NOT_PROCESS, READY, Request, Side, is_choosing, lay, leave, may_leave, wait_on_channel};
@@ -193,7 +193,7 @@ fn wait_and_set(state: &mut State, ram: &mut Ram, q: &Request, other: Word) -> R
     requires plain { IsPlain state.old }
     requires agrees { Agrees ram.old.marks state.old }
     requires free { IfSome q.now.first (λ _. word_break (length ram.old.memory) ram.old.marks Writes state.old.registers.wptr ≡ None) }
-    ensures done { Does (run_from (own_side (request q.now) state.old >>= (λ _. setting_touched state.old.registers.wptr (word_below (the_workspace other) 3) ready >>= (λ _. answer (waiting_for q.now.process (reason_for (request q.now) (request q.now).side) state.old, ran.Instruction)))) ram.old.memory ram.old.marks (laid q.now.first state.old.registers.wptr ram.old.memory)) state.old ram.old.memory result state.new ram.new.memory }
+    ensures done { Does (run_from (in_turn (own_side (request q.now) state.old) (setting_touched state.old.registers.wptr (word_below (the_workspace other) 3) ready) (answer (waiting_for q.now.process (reason_for (request q.now) (request q.now).side) state.old, ran.Instruction))) ram.old.memory ram.old.marks (laid q.now.first state.old.registers.wptr ram.old.memory)) state.old ram.old.memory result state.new ram.new.memory }
     ensures agrees { Agrees ram.new.marks state.new }
 {
     let own = state.registers.wptr;

@@ -151,10 +151,11 @@ fn yield_now(state: &mut State, ram: &mut Ram)
     ensures agrees { Agrees ram.new.marks state.new }
 {
     let r = state.registers;
+    let process = state.own(1);
     ram.deschedule(r.wptr);
     ram.set_saved_word(r.wptr, IPTR_WORD, r.iptr);
     state.rest();
-    enqueue(state, ram, Word::new(r.wptr.get() + 1));
+    enqueue(state, ram, process);
 }
 
 /// What follows a jump: a low process whose timeslice is over yields, or its timeslice begins again.
