@@ -1,6 +1,6 @@
 -- What a placement gives to the code of a step, and what the code's step is to the machine.
-use Rattle.std.proofs.Common.{◌≡◌, ◌∙◌, ℕ, zero, suc, ◌+◌, ◌-◌, ◌<◌, ◌≤◌, ◌%◌, refl, sym, ap, subst, cond, List, [], ◌∷◌, ◌||◌, ◌==◌, Bool, true, false, Result, Ok, Err, Option, Some, None, length, get_or, arith}
-use Rattle.std.specs.Prelude.{IfSome, IfOk, IsSome, MatchResult, find, option_map, nat_le, unwrap_or}
+use Rattle.std.proofs.Common.{◌≡◌, ◌∙◌, ℕ, zero, suc, ◌+◌, ◌-◌, ◌<◌, ◌≤◌, ◌%◌, ◌^◌, refl, sym, ap, subst, cond, List, [], ◌∷◌, ◌||◌, ◌==◌, Bool, true, false, Result, Ok, Err, Option, Some, None, length, get_or, arith}
+use Rattle.std.specs.Prelude.{IfSome, IfOk, IsSome, All, find, option_map, nat_le, unwrap_or}
 use Rattle.std.specs.List.{list_any}
 use Rattle.std.proofs.lemmas.Bool.{eqb-true, eq-eqb, or_right, leb-true, leb-false}
 use Rattle.tword.specs.declared.breaks.Break.{Break}
@@ -8,7 +8,7 @@ use Rattle.tword.specs.Words.{most_neg}
 use Rattle.tword.specs.Stores.{Store, place, word_at, byte_at, with_word, with_cells, as_cells, cells}
 use Rattle.tword.specs.Claims.{Claims, overlap, saved_words, saving}
 use Rattle.tword.specs.Accesses.{no_claims}
-use Rattle.tword.specs.Touches.{Writes, span_break, word_break, byte_span, deschedule_break, copy_break}
+use Rattle.tword.specs.Touches.{Writes, is_inside, span_break, word_break, byte_span, deschedule_break, copy_break}
 use Rattle.tword.specs.Actions.{Action, answer, breaks, requiring, unmet, touching_word, touching_byte, touching, writing_word, writing_byte, copying, descheduling, reading_saved, setting_saved, unless, run, run_from, saved_word_at, with_saved_word, set_saved_word, ◌>>=◌}
 use Rattle.tword.proofs.Answering.{answering, run_from-answering}
 use Rattle.tword.proofs.SameClaims.{SameClaims, run_from-same}
@@ -30,11 +30,12 @@ use Rattle.tproc.specs.Steps.{step, control_step, step_left_by, step_answered, a
 use Rattle.tproc.specs.Resting.{IfRests}
 use Rattle.tproc.specs.Links.{act_or_unchanged, or_unchanged}
 use Rattle.tproc.specs.Messages.{output_of, input_of}
-use Rattle.tproc.specs.Opening.{added, only_machine, no_processes}
+use Rattle.tproc.specs.Opening.{Adds, added, only_machine, no_processes}
 use Rattle.tproc.specs.Agreement.{Agrees, IsPlain}
 use Rattle.tproc.specs.Doing.{Does, Stepped, as_step, adding}
 use Rattle.tproc.proofs.ClaimState.{HasWaiter}
 use Rattle.tproc.proofs.Pending.{at_some}
+use Rattle.tproc.proofs.Opening.{added_keeps_placed, loaded_keeps_placed}
 use Rattle.tproc.proofs.Placed.{step_keeps_placed}
 use Rattle.tproc.proofs.Resting.{rest_changes_nothing}
 use Rattle.tproc.proofs.Storing.{buffer_inside}
@@ -140,11 +141,11 @@ rests n n' r l a = by (step n) refl l a
 -- a process that waits has a reason
 reason_found : (ws : List Waiter) (p : ℕ) (r : Reason) → HasWaiter ws p r → IsSome (option_map (λ (w : Waiter). w.reason) (find (λ (w : Waiter). w.process == p) ws))
 reason_found [] p r h = absurd (omega (arith, h.1))
-reason_found (x ∷ xs) p r (zero, b, e) = let f : (x.process == p) ≡ true = eq-eqb _ _ (ap (λ (w : Waiter). w.process) e) in rw f tt
+reason_found (x ∷ xs) p r (zero, b, e) = let f : (x.process == p) ≡ true = eq-eqb _ _ (ap (λ (w : Waiter). w.process) e) in rw f refl
 reason_found (x ∷ xs) p r (suc k, b, e) = by (x.process == p) (reason_found xs p r (k, (omega arith), e))
   where
     by : (b : Bool) → IsSome (option_map (λ (w : Waiter). w.reason) (find (λ (w : Waiter). w.process == p) xs)) → IsSome (option_map (λ (w : Waiter). w.reason) (cond b (Some x) (find (λ (w : Waiter). w.process == p) xs)))
-    by true h = tt
+    by true h = refl
     by false h = h
 
 -- so has that of a pending message
@@ -168,19 +169,23 @@ past_the_end [] l h = refl
 past_the_end (x ∷ xs) zero h = absurd (omega arith)
 past_the_end (x ∷ xs) (suc l) h = past_the_end xs l (omega arith)
 
+bad : (o : Option Offer) → o ≡ None → IsSome o → ⊥
+bad None e h = cc
+bad (Some x) e h = cc
+
 pub output_within : (n : Machine) (l : ℕ) → IsPlaced n → IsSome (output_of n l) → l < 4
 output_within n l p h = by (nat_le 4 l) refl
   where
     by : (b : Bool) → nat_le 4 l ≡ b → l < 4
     by false e = leb-false _ _ e
-    by true e = let f : link_end n.control l ≡ quiet_end = past_the_end n.control.links l (omega (arith, p.claimed.links, leb-true 4 l e)) in absurd (rw f at h)
+    by true e = let f : link_end n.control l ≡ quiet_end = past_the_end n.control.links l (omega (arith, p.claimed.links, leb-true 4 l e)) in absurd (bad (link_end n.control l).output (ap (λ (e : LinkEnd). e.output) f) h)
 
 pub input_within : (n : Machine) (l : ℕ) → IsPlaced n → IsSome (input_of n l) → l < 4
 input_within n l p h = by (nat_le 4 l) refl
   where
     by : (b : Bool) → nat_le 4 l ≡ b → l < 4
     by false e = leb-false _ _ e
-    by true e = let f : link_end n.control l ≡ quiet_end = past_the_end n.control.links l (omega (arith, p.claimed.links, leb-true 4 l e)) in absurd (rw f at h)
+    by true e = let f : link_end n.control l ≡ quiet_end = past_the_end n.control.links l (omega (arith, p.claimed.links, leb-true 4 l e)) in absurd (bad (link_end n.control l).input (ap (λ (e : LinkEnd). e.input) f) h)
 
 -- the byte of a pending message lies in the memory
 pub output_byte : (n : Machine) (l k : ℕ) (o : Offer) → IsPlaced n → output_of n l ≡ Some o → k < o.length → (most_neg ≤ o.buffer + k) × (o.buffer + k - most_neg + 1 ≤ length n.store)
@@ -215,20 +220,41 @@ module _ {A B C : Type 0} (f : A → Action B) (g : B → Action C) where
   run_from-assoc (reading_saved w k next) old c new = run_from-assoc (next (saved_word_at old c w k)) old c new
   run_from-assoc (setting_saved w k v next) old c new = run_from-assoc next old c (with_saved_word new c w k v)
 
+-- what a caller is told who adds a process
+abbrev told : Result Ran Break → Result (Unit {0}) Break
+told (Ok x) = Ok tt
+told (Err b) = Err b
+
 -- a process is added
 pub adds : (process iptr : ℕ) (c : Claims) (n n' : Machine) (r : Result Ran Break) → Agrees c n.control
-    → Does (run (adding process iptr n.control) n.store c) n.control n.store r n'.control n'.store
-    → MatchResult r (λ x. added process iptr n ≡ Ok n') (λ b. (added process iptr n ≡ Err b) × (n' ≡ n))
+    → Does (run (adding process iptr n.control) n.store c) n.control n.store r n'.control n'.store → Adds (added process iptr n) n (told r) n'
 adds process iptr c n n' r a h =
     rw (run_from-answering {B = Control × Unit {0}} (λ (m : Control). (m, tt)) (add_process process iptr n.control) n.store (claims_of n.control) n.store)
-    (by (run (add_process process iptr n.control) n.store (claims_of n.control))
-    (rw (
-      sym (run_from-assoc (λ _. set_saved_word (workspace_of process) iptr_word iptr >>= (λ _. enqueue process n.control)) (λ m'. answer (m', ran.Instruction)) (admit process n.control) n.store c n.store),
-      run_from-answering {B = Control × Ran} (λ (m : Control). (m, ran.Instruction)) (add_process process iptr n.control) n.store c n.store,
-      run_from-same (add_process process iptr n.control) n.store n.store c (claims_of n.control) (same_from c n.control a),
-    ) at h))
+    (by (run (add_process process iptr n.control) n.store (claims_of n.control)) (same (run (adding process iptr n.control) n.store c) _ one h))
   where
+    one : run (adding process iptr n.control) n.store c ≡ answering {B = Control × Ran} (λ (m : Control). (m, ran.Instruction)) (run (add_process process iptr n.control) n.store (claims_of n.control))
+    one =
+        sym (run_from-assoc {C = Control × Ran} (λ _. set_saved_word (workspace_of process) iptr_word iptr >>= (λ _. enqueue process n.control)) (λ m'. answer (m', ran.Instruction)) (admit process n.control) n.store c n.store)
+        ∙ run_from-answering {B = Control × Ran} (λ (m : Control). (m, ran.Instruction)) (add_process process iptr n.control) n.store c n.store
+        ∙ ap (answering {B = Control × Ran} (λ (m : Control). (m, ran.Instruction))) (run_from-same (add_process process iptr n.control) n.store n.store c (claims_of n.control) (same_from c n.control a))
+
+    same : (x y : Result ((Control × Ran) × Store) Break) → x ≡ y → Does x n.control n.store r n'.control n'.store → Does y n.control n.store r n'.control n'.store
+    same x y e d = rw (← e) d
+
     by : (y : Result (Control × Store) Break) → Does (answering {B = Control × Ran} (λ (m : Control). (m, ran.Instruction)) y) n.control n.store r n'.control n'.store
-        → MatchResult r (λ x. only_machine (acted n.store (answering {B = Control × Unit {0}} (λ (m : Control). (m, tt)) y)) ≡ Ok n') (λ b. (only_machine (acted n.store (answering {B = Control × Unit {0}} (λ (m : Control). (m, tt)) y)) ≡ Err b) × (n' ≡ n))
-    by (Ok (m1, s1)) d = rw (d.0, ← d.1, ← d.2) refl
+        → Adds (only_machine (acted n.store (answering {B = Control × Unit {0}} (λ (m : Control). (m, tt)) y))) n (told r) n'
+    by (Ok (m1, s1)) d = rw (d.0, ← d.1, ← d.2) (refl, refl)
     by (Err b) d = rw (d.0, d.1, d.2) (refl, refl)
+
+-- and the placement stays
+pub placed_added : (process iptr : ℕ) (n n' : Machine) (r : Result (Unit {0}) Break) → process < 2 ^ 32 → IsPlaced n → Adds (added process iptr n) n r n' → IsPlaced n'
+placed_added process iptr n n' r w p h = by (added process iptr n) refl h
+  where
+    by : (y : Result Machine Break) → added process iptr n ≡ y → Adds y n r n' → IsPlaced n'
+    by (Ok m) e k = added_keeps_placed process iptr n n' w p (rw k.1 e)
+    by (Err b) e k = subst IsPlaced (sym k.1) p
+
+-- bytes are put into the memory
+pub placed_loaded : (start : ℕ) (bytes : List ℕ) (n : Machine) (s : Store) → IsPlaced n → All (λ b. b < 256) bytes → is_inside (length n.store) (record { start = start; size = length bytes }) ≡ true
+    → s ≡ with_cells n.store start (as_cells bytes) → IsPlaced (record { control = n.control; store = s })
+placed_loaded start bytes n s p small inside e = subst (λ (t : Store). IsPlaced (record { control = n.control; store = t })) (sym e) (loaded_keeps_placed start bytes n p small inside)

@@ -7,7 +7,9 @@ use Rattle.tword.specs.Claims.{Claims, saving}
 use Rattle.tword.specs.Touches.{Writes, is_aligned, first_break, span_break, word_break, deschedule_break}
 use Rattle.tword.specs.Actions.{unmet}
 use Rattle.tproc.specs.Channels as channels
-use Rattle.tproc.specs.LinkChannels.{is_right_end}
+use Rattle.tproc.specs.LinkChannels.{is_right_end, message}
+use Rattle.tcpu.specs.Outcomes.{pop}
+use Rattle.tproc.specs.Machine.{Control}
 use Rattle.tproc.specs.Standing as standing
 use Rattle.tproc.specs.declared.waiting.Reason.{Reason}
 use Rattle.tproc.specs.declared.channels.Side.{Side}
@@ -42,6 +44,12 @@ pub record MayLeave (size : ℕ) (claims : Claims) (workspace : ℕ) (q : channe
 -- the address is that of a saved word of the workspace
 abbrev pub is_own_word : (workspace address : ℕ) → Bool
 is_own_word w address = (address == word_below w 1) || (address == word_below w 2) || (address == word_below w 3)
+
+-- a message that was laid down at the workspace is offered
+abbrev pub offers_at_workspace : ℕ → ℕ → Control → channels.StepAction
+offers_at_workspace length process m =
+    let r = m.registers in
+    message (pop (pop r)) (record { process = process; side = channels.Output; channel = r.b; buffer = r.wptr; length = length }) m
 
 -- what a process waits for that stands so
 abbrev pub reason_in : Standing → Option Reason

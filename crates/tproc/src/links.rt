@@ -4,6 +4,7 @@ ghost use Rattle.std.specs.Prelude.{◌≡◌, ◌<◌, ◌∷◌, [], Some, Non
 ghost use Rattle.tword.specs.Actions.{run};
 ghost use Rattle.tproc.specs.Standing.{is_queued, reason_of, standing};
 ghost use Rattle.tproc.specs.LinkChannels.{link_end, with_link};
+ghost use Rattle.tproc.specs.Opening.{Adds, added};
 ghost use Rattle.tproc.specs.Links.{wakes, readies_queued, readies_running, act_or_unchanged, notify_at, notice as noticing, finished};
 ghost use Rattle.tproc.specs.Agreement.{Agrees, AgreesWith, IsPlain};
 ghost use Rattle.tproc.specs.Doing.{Does, adding, as_step};
@@ -20,7 +21,7 @@ use tword::{Break, Word};
 
 /// A process from outside is let in, with its first address.
 #[tactic(auto, using(crate::proofs::Saved::itself_saved, crate::proofs::Saved::are_saved))]
-pub fn add(state: &mut State, ram: &mut Ram, process: Word, iptr: Word) -> Result<Ran, Break>
+fn add(state: &mut State, ram: &mut Ram, process: Word, iptr: Word) -> Result<Ran, Break>
     requires plain { IsPlain state.old }
     requires agrees { Agrees ram.old.marks state.old }
     ensures done { Does (run (adding process iptr state.old) ram.old.memory ram.old.marks) state.old ram.old.memory result state.new ram.new.memory }
@@ -30,6 +31,17 @@ pub fn add(state: &mut State, ram: &mut Ram, process: Word, iptr: Word) -> Resul
     ram.set_saved_word(workspace_of(process), IPTR_WORD, iptr);
     enqueue(state, ram, process);
     Ok(Ran::Instruction)
+}
+
+/// A process from outside is added, behind the others of its queue.
+pub fn add_process(state: &mut State, ram: &mut Ram, process: Word, iptr: Word) -> Result<(), Break>
+    requires plain { IsPlain state.old }
+    requires agrees { Agrees ram.old.marks state.old }
+    ensures left { Adds (added process iptr (record { control = state.old; store = ram.old.memory })) (record { control = state.old; store = ram.old.memory }) result (record { control = state.new; store = ram.new.memory }) }
+    ensures agrees { Agrees ram.new.marks state.new }
+{
+    add(state, ram, process, iptr)?;
+    Ok(())
 }
 
 /// A process that waits for its alternative is told that it is ready.
@@ -158,7 +170,7 @@ pub fn finish_output(state: &mut State, ram: &mut Ram, link: u8) -> Ran
     ensures agrees { Agrees ram.new.marks state.new }
 {
     let end = state.link(link);
-    match end.output {
+    match state.output(link) {
         Some(offer) => {
             state.set_link(
                 link,
@@ -186,7 +198,7 @@ pub fn finish_input(state: &mut State, ram: &mut Ram, link: u8) -> Ran
     ensures agrees { Agrees ram.new.marks state.new }
 {
     let end = state.link(link);
-    match end.input {
+    match state.input(link) {
         Some(offer) => {
             state.set_link(
                 link,

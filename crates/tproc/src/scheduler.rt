@@ -1,16 +1,17 @@
 //! The operations of the scheduler, and the end of a timeslice.
 
-ghost use Rattle.std.specs.Prelude.{◌≡◌, ◌<◌, ◌+◌, ◌∷◌, [], if◌then◌else◌, true, None, Some, Ok, length};
-ghost use Rattle.tword.specs.Stores.{Store};
-ghost use Rattle.tword.specs.Touches.{deschedule_break};
+ghost use Rattle.std.specs.Prelude.{◌≡◌, ◌<◌, ◌+◌, ◌∷◌, [], if◌then◌else◌, true, None, Some, Ok, IfSome, length};
+ghost use Rattle.tword.specs.Stores.{Store, with_word};
+ghost use Rattle.tword.specs.Touches.{Writes, deschedule_break, word_break};
 ghost use Rattle.tword.specs.Actions.{run, run_from};
 ghost use Rattle.tcpu.specs.Outcomes.{push};
 ghost use Rattle.tproc.specs.Channels.{goes_on};
+ghost use Rattle.tproc.specs.LinkChannels.{message as messaging};
 ghost use Rattle.tproc.specs.Scheduler.{stops, starts, runs, ends, yields, jumped as jumping, communicates, sends_from_workspace};
 ghost use Rattle.tproc.specs.declared.offer.Ran.TheVariants as ran;
 ghost use Rattle.tproc.specs.Agreement.{Agrees, AgreesWith, IsOwn, IsPlain, StillAgrees, is_over};
-ghost use Rattle.tproc.specs.Doing.{Does};
-ghost use Rattle.tproc.specs.Requests.{side_of};
+ghost use Rattle.tproc.specs.Doing.{Does, laid};
+ghost use Rattle.tproc.specs.Requests.{offers_at_workspace, request, side_of};
 
 use crate::channels::{Request, Side};
 use crate::link_channels::{is_link, link_message};
@@ -179,6 +180,22 @@ pub fn jumped(state: &mut State, ram: &mut Ram, priority: u8)
     }
 }
 
+/// A message on any channel.
+fn message(state: &mut State, ram: &mut Ram, q: &Request) -> Result<Ran, Break>
+    requires own { IsOwn q.now.process state.old }
+    requires plain { IsPlain state.old }
+    requires agrees { Agrees ram.old.marks state.old }
+    requires free { IfSome q.now.first (λ _. word_break (length ram.old.memory) ram.old.marks Writes state.old.registers.wptr ≡ None) }
+    ensures done { Does (run_from (messaging q.now.after (request q.now) state.old) ram.old.memory ram.old.marks (laid q.now.first state.old.registers.wptr ram.old.memory)) state.old ram.old.memory result state.new ram.new.memory }
+    ensures agrees { Agrees ram.new.marks state.new }
+{
+    if is_link(q.channel) {
+        link_message(state, ram, q)
+    } else {
+        internal_message(state, ram, q)
+    }
+}
+
 /// A process asks for a message, or offers one, with length, channel and buffer on its stack.
 pub fn communicate(state: &mut State, ram: &mut Ram, side: Side, priority: u8) -> Result<Ran, Break>
     requires running { state.old.current ≡ Some priority }
@@ -197,11 +214,29 @@ pub fn communicate(state: &mut State, ram: &mut Ram, side: Side, priority: u8) -
         first: None,
         after: Registers { a: r.c, b: r.c, ..r },
     };
-    if is_link(q.channel) {
-        link_message(state, ram, &q)
-    } else {
-        internal_message(state, ram, &q)
-    }
+    message(state, ram, &q)
+}
+
+/// A process offers the message of this length that it lays down at its workspace, which it may write.
+fn send_laid(state: &mut State, ram: &mut Ram, size: u32, priority: u8) -> Result<Ran, Break>
+    requires running { state.old.current ≡ Some priority }
+    requires plain { IsPlain state.old }
+    requires agrees { Agrees ram.old.marks state.old }
+    requires free { word_break (length ram.old.memory) ram.old.marks Writes state.old.registers.wptr ≡ None }
+    ensures done { Does (run_from (offers_at_workspace size (state.old.registers.wptr + priority) state.old) ram.old.memory ram.old.marks (with_word ram.old.memory state.old.registers.wptr state.old.registers.a)) state.old ram.old.memory result state.new ram.new.memory }
+    ensures agrees { Agrees ram.new.marks state.new }
+{
+    let r = state.registers;
+    let q = Request {
+        process: state.own(priority),
+        side: Side::Output,
+        channel: r.b,
+        buffer: r.wptr,
+        length: size,
+        first: Some(r.a),
+        after: Registers { a: r.c, b: r.c, ..r },
+    };
+    message(state, ram, &q)
 }
 
 /// A process lays a message of this length down at its workspace and offers it.
@@ -212,20 +247,6 @@ pub fn send_from_workspace(state: &mut State, ram: &mut Ram, size: u32, priority
     ensures done { Does (run (sends_from_workspace size (state.old.registers.wptr + priority) state.old) ram.old.memory ram.old.marks) state.old ram.old.memory result state.new ram.new.memory }
     ensures agrees { Agrees ram.new.marks state.new }
 {
-    let r = state.registers;
-    ram.may_write_word(r.wptr)?;
-    let q = Request {
-        process: state.own(priority),
-        side: Side::Output,
-        channel: r.b,
-        buffer: r.wptr,
-        length: size,
-        first: Some(r.a),
-        after: Registers { a: r.c, b: r.c, ..r },
-    };
-    if is_link(q.channel) {
-        link_message(state, ram, &q)
-    } else {
-        internal_message(state, ram, &q)
-    }
+    ram.may_write_word(state.registers.wptr)?;
+    send_laid(state, ram, size, priority)
 }

@@ -209,6 +209,7 @@ impl State {
     /// The pending output of a link, if the link is there and has one.
     #[inline]
     pub fn output(&self, link: u8) -> Option<Offer>
+        requires plain { IsPlain self.now }
         ensures { result ≡ (link_end self.now link).output }
     {
         let link = usize::from(link);
@@ -218,6 +219,7 @@ impl State {
     /// The pending input of a link, if the link is there and has one.
     #[inline]
     pub fn input(&self, link: u8) -> Option<Offer>
+        requires plain { IsPlain self.now }
         ensures { result ≡ (link_end self.now link).input }
     {
         let link = usize::from(link);

@@ -13,7 +13,7 @@ returns-in_err-enable_guard-clause-done c =
 
 pub returns-clause-done : goal.returns-clause-done
 returns-clause-done c =
-    rw (c.in_ok-enable_guard.ensures.done (λ (m : Control). goes_on (all_to c.args.state.now.registers.a c.args.state.now.registers) m)) (refl, c.go.ensures.done, refl)
+    rw (c.in_ok-enable_guard.ensures.done (λ (m : Control). goes_on (all_to c.args.state.now.registers.a c.args.state.now.registers) m)) (refl, (rw (← c.state.view_is) c.go.ensures.done), refl)
 
 pub returns-clause-agrees : goal.returns-clause-agrees
 returns-clause-agrees c = rw c.enable_guard.ensures.claims (c.go.ensures.agrees [] _ (c.enable_guard.ensures.agrees [] _ c.requires.agrees))
