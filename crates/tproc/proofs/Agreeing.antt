@@ -231,19 +231,21 @@ among_low v w xs ys zs = simp list_any-append (shuffle_first (w == v) (is_among 
 pub leaves_high : (o : Option ℕ) (m : Control) (hs : List ℕ) → m.high ≡ option_to_list o ++ hs → IsPlain m → IfSome o (λ w. Leaves w m (record m { high = hs }))
 leaves_high None m hs e p = tt
 leaves_high (Some w) m hs e p =
-    let d : AllPairs (λ v w. v ≢ w) (w ∷ ((hs ++ m.low) ++ workspaces_of m.waiting)) = rw e at p.distinct in
-    (fresh_high w _ d,
-    (λ others c h. unsettled w others c m (record m { high = hs }) h (λ v. rw e refl) (rw e (omega arith)) refl))
+    let d : AllPairs (λ v w. v ≢ w) (w ∷ ((hs ++ m.low) ++ workspaces_of m.waiting)) = rw e at p.distinct in (
+      fresh_high w _ d,
+      (λ others c h. unsettled w others c m (record m { high = hs }) h (λ v. rw e refl) (rw e (omega arith)) refl),
+    )
 
 pub leaves_low : (o : Option ℕ) (m : Control) (ls : List ℕ) → m.low ≡ option_to_list o ++ ls → IsPlain m → IfSome o (λ w. Leaves w m (record m { low = ls }))
 leaves_low None m ls e p = tt
 leaves_low (Some w) m ls e p =
-    let d : AllPairs (λ v w. v ≢ w) ((m.high ++ (w ∷ ls)) ++ workspaces_of m.waiting) = rw e at p.distinct in
-    (fresh_low w m.high ls _ d,
-    (λ others c h.
-    unsettled w others c m (record m { low = ls }) h
-    (λ v. rw e (among_low v w m.high ls (workspaces_of m.waiting)))
-    (rw e (simp length-append (omega arith))) refl))
+    let d : AllPairs (λ v w. v ≢ w) ((m.high ++ (w ∷ ls)) ++ workspaces_of m.waiting) = rw e at p.distinct in (
+      fresh_low w m.high ls _ d,
+      (λ others c h.
+          unsettled w others c m (record m { low = ls }) h
+          (λ v. rw e (among_low v w m.high ls (workspaces_of m.waiting)))
+          (rw e (simp length-append (omega arith))) refl),
+    )
 
 -- those that wait without a process are among those that wait
 fewer : (v p : ℕ) (ws : List Waiter) → is_among v (workspaces_of (without p ws)) ≡ true → is_among v (workspaces_of ws) ≡ true

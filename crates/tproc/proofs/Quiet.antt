@@ -23,8 +23,8 @@ use Rattle.tcpu.specs.Outcomes.{Outcome}
 use Rattle.tcpu.specs.Functions.{function_effect}
 use Rattle.tcpu.specs.Operations.{operation_effect, looped, is_positive_word}
 use Rattle.tcpu.specs.Effects.{local_or_left, selected_effect, effect_at, effect}
-use Rattle.tcpu.specs.Local.{outcome_of, would_jump}
-use Rattle.tproc.specs.Doing.{Begins, Foresees, jumps_as, StaysWhereJumped, onward, with_registers}
+use Rattle.tcpu.specs.Local.{outcome_of, would_jump, StaysWhereJumped}
+use Rattle.tproc.specs.Doing.{Begins, Foresees, jumps_as, onward, with_registers}
 
 -- no process is descheduled, and Q holds of each answer
 abbrev pub IsQuiet : {A : Type 0} → (A → Type 0) → Action A → Type 0

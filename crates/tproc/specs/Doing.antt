@@ -8,7 +8,7 @@ use Rattle.tword.specs.Actions.{Action, Deed, answer, set_saved_word, run_from, 
 use Rattle.tcode.specs.declared.instruction.Instruction.{Instruction}
 use Rattle.tcpu.specs.declared.registers.Registers.{Registers}
 use Rattle.tcpu.specs.declared.registers.Next.{Next}
-use Rattle.tcpu.specs.declared.registers.Next.TheVariants.{Jumped, Schedule}
+use Rattle.tcpu.specs.declared.registers.Next.TheVariants.{Jumped}
 use Rattle.tcpu.specs.Outcomes.{Outcome}
 use Rattle.tcpu.specs.Local.{is_jump}
 use Rattle.tcpu.specs.Effects.{effect}
@@ -94,16 +94,6 @@ rest_of i p m = effect i m.registers >>= (λ o. after i.length p m o.0 o.1)
 -- the current process has moved on by an instruction of this length
 abbrev pub moved_on : ℕ → Control → Control
 moved_on length m = record m { registers = record m.registers { iptr = plus m.registers.iptr length } }
-
--- an operation that is left to the scheduler has changed nothing yet
-abbrev pub StandsWhereLeft : Next → Store → Registers → Store → Registers → Type 0
-StandsWhereLeft (Schedule o) cells r cells' r' = (cells' ≡ cells) × (r' ≡ r)
-StandsWhereLeft _ cells r cells' r' = Unit {0}
-
--- a jump stays in its workspace
-abbrev pub StaysWhereJumped : Next → Registers → Registers → Type 0
-StaysWhereJumped Jumped r r' = r'.wptr ≡ r.wptr
-StaysWhereJumped _ r r' = Unit {0}
 
 -- whether the instruction of an answer jumped
 abbrev pub jumps_as : Result Next Break → Result Bool Break

@@ -19,8 +19,8 @@ use crate::ram::Ram;
 use crate::standing::Standing;
 use crate::state::State;
 use crate::waiting::{LinkEnd, Reason};
-use tcpu::Registers;
 use crate::words::below;
+use tcpu::Registers;
 use tword::{Break, Word};
 
 /// The offset of no guard.
@@ -32,10 +32,7 @@ pub fn begin_choice(state: &mut State, ram: &mut Ram) -> Result<Ran, Break>
     ensures done { Does (run (begins_choice state.old) ram.old.memory ram.old.marks) state.old ram.old.memory result state.new ram.new.memory }
     ensures agrees { Agrees ram.new.marks state.new }
 {
-    ram.write_word(
-        below(state.registers.wptr, STATE_WORD),
-        Word::new(ENABLING),
-    )?;
+    ram.write_word(below(state.registers.wptr, STATE_WORD), Word::new(ENABLING))?;
     Ok(Ran::Instruction)
 }
 
@@ -53,10 +50,7 @@ fn enable_link(state: &mut State, ram: &mut Ram, process: Word, channel: Word) -
     require(state.is_free(Side::Input, link), Break::LinkBusy)?;
     let end = state.link(link);
     if end.noticed {
-        ram.set_word(
-            below(state.registers.wptr, STATE_WORD),
-            Word::new(READY),
-        );
+        ram.set_word(below(state.registers.wptr, STATE_WORD), Word::new(READY));
     } else {
         state.set_link(
             link,
@@ -85,10 +79,7 @@ fn enable_internal(state: &State, ram: &mut Ram, process: Word, channel: Word) -
     match &state.standing(found) {
         Standing::Waits(Reason::Sends { channel: other, .. }) => {
             require(*other == channel, Break::ChannelMisuse)?;
-            ram.set_word(
-                below(state.registers.wptr, STATE_WORD),
-                Word::new(READY),
-            );
+            ram.set_word(below(state.registers.wptr, STATE_WORD), Word::new(READY));
             Ok(())
         }
         Standing::Runs => Ok(()),
@@ -164,10 +155,7 @@ pub fn enable_skip(state: &mut State, ram: &mut Ram) -> Result<Ran, Break>
     let chosen = ram.take_word(below(state.registers.wptr, STATE_WORD))?;
     require(is_choosing(chosen), Break::ChannelMisuse)?;
     if state.registers.a.get() != 0 {
-        ram.set_word(
-            below(state.registers.wptr, STATE_WORD),
-            Word::new(READY),
-        );
+        ram.set_word(below(state.registers.wptr, STATE_WORD), Word::new(READY));
     }
     Ok(Ran::Instruction)
 }

@@ -200,13 +200,7 @@ pub fn finish_input(state: &mut State, ram: &mut Ram, link: u8) -> Ran
     let end = state.link(link);
     match state.input(link) {
         Some(offer) => {
-            state.set_link(
-                link,
-                LinkEnd {
-                    input: None,
-                    ..end
-                },
-            );
+            state.set_link(link, LinkEnd { input: None, ..end });
             release(state, ram, offer.wdesc);
             ram.release_input(link);
             Ran::Instruction

@@ -14,7 +14,9 @@ ghost use Rattle.tproc.specs.Agreement.{Agrees, AgreesWith, IsOwn, IsPlain};
 ghost use Rattle.tproc.specs.Doing.{Does, Part, RefusesAfter, in_turn, laid};
 ghost use Rattle.tproc.specs.Requests.{request, MayLeave, is_own_word as own_word};
 
-use crate::channels::{NOT_PROCESS, READY, Request, Side, is_choosing, lay, leave, may_leave, wait_on_channel};
+use crate::channels::{
+    NOT_PROCESS, READY, Request, Side, is_choosing, lay, leave, may_leave, wait_on_channel,
+};
 use crate::offer::Ran;
 use crate::queues::{STATE_WORD, release, require, wait};
 use crate::ram::Ram;
@@ -210,7 +212,12 @@ fn wait_and_set(state: &mut State, ram: &mut Ram, q: &Request, other: Word) -> R
 }
 
 /// An output finds the interrupted process, which has enabled the channel: its alternative becomes ready.
-fn ready_interrupted(state: &mut State, ram: &mut Ram, q: &Request, other: Word) -> Result<Ran, Break>
+fn ready_interrupted(
+    state: &mut State,
+    ram: &mut Ram,
+    q: &Request,
+    other: Word,
+) -> Result<Ran, Break>
     requires own { IsOwn q.now.process state.old }
     requires plain { IsPlain state.old }
     requires agrees { Agrees ram.old.marks state.old }

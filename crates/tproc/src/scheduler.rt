@@ -20,8 +20,8 @@ use crate::offer::Ran;
 use crate::queues::{IPTR_WORD, admit, enqueue, require};
 use crate::ram::Ram;
 use crate::state::State;
-use tcpu::Registers;
 use crate::words::below;
+use tcpu::Registers;
 use tword::{Break, Word};
 
 /// The current process is no longer live.
@@ -30,10 +30,7 @@ pub fn stop(state: &mut State, ram: &mut Ram) -> Result<Ran, Break>
     ensures done { Does (run (stops state.old) ram.old.memory ram.old.marks) state.old ram.old.memory result state.new ram.new.memory }
     ensures agrees { Agrees ram.new.marks state.new }
 {
-    ram.write_word(
-        below(state.registers.wptr, IPTR_WORD),
-        state.registers.iptr,
-    )?;
+    ram.write_word(below(state.registers.wptr, IPTR_WORD), state.registers.iptr)?;
     state.rest();
     Ok(Ran::Instruction)
 }
@@ -212,7 +209,11 @@ pub fn communicate(state: &mut State, ram: &mut Ram, side: Side, priority: u8) -
         buffer: r.c,
         length: r.a.get(),
         first: None,
-        after: Registers { a: r.c, b: r.c, ..r },
+        after: Registers {
+            a: r.c,
+            b: r.c,
+            ..r
+        },
     };
     message(state, ram, &q)
 }
@@ -234,13 +235,22 @@ fn send_laid(state: &mut State, ram: &mut Ram, size: u32, priority: u8) -> Resul
         buffer: r.wptr,
         length: size,
         first: Some(r.a),
-        after: Registers { a: r.c, b: r.c, ..r },
+        after: Registers {
+            a: r.c,
+            b: r.c,
+            ..r
+        },
     };
     message(state, ram, &q)
 }
 
 /// A process lays a message of this length down at its workspace and offers it.
-pub fn send_from_workspace(state: &mut State, ram: &mut Ram, size: u32, priority: u8) -> Result<Ran, Break>
+pub fn send_from_workspace(
+    state: &mut State,
+    ram: &mut Ram,
+    size: u32,
+    priority: u8,
+) -> Result<Ran, Break>
     requires running { state.old.current ≡ Some priority }
     requires plain { IsPlain state.old }
     requires agrees { Agrees ram.old.marks state.old }

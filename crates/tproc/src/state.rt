@@ -213,7 +213,11 @@ impl State {
         ensures { result ≡ (link_end self.now link).output }
     {
         let link = usize::from(link);
-        if link < 4 { self.links[link].output } else { None }
+        if link < 4 {
+            self.links[link].output
+        } else {
+            None
+        }
     }
 
     /// The pending input of a link, if the link is there and has one.
@@ -223,7 +227,11 @@ impl State {
         ensures { result ≡ (link_end self.now link).input }
     {
         let link = usize::from(link);
-        if link < 4 { self.links[link].input } else { None }
+        if link < 4 {
+            self.links[link].input
+        } else {
+            None
+        }
     }
 
     /// Whether a process runs or can be dispatched, and the processor has not halted.

@@ -1,65 +1,52 @@
 //! One step of a processor.
 
 ghost use Rattle.std.specs.Prelude.{◌≡◌, ◌<◌, [], true, Some, None, Ok, IfOk, IfErr, OnErr, Err, length};
-ghost use Rattle.tword.specs.Actions.{run, value_of};
+ghost use Rattle.tword.specs.Actions.{run};
 ghost use Rattle.tword.specs.Touches.{deschedule_break};
-ghost use Rattle.tcode.specs.Decoding.{decode};
+ghost use Rattle.tcode.specs.Decoding.{decode as decoding};
 ghost use Rattle.tcpu.specs.Effects.{effect};
-ghost use Rattle.tcpu.specs.Local.{would_jump, outcome_of};
+ghost use Rattle.tcpu.specs.Local.{would_jump, StandsWhereLeft, StaysWhereJumped};
 ghost use Rattle.tproc.specs.Scheduler.{operation_step, counted, counted_by};
 ghost use Rattle.tproc.specs.Steps.{instruction_step, control_step, low_step};
 ghost use Rattle.tproc.specs.Agreement.{Agrees, IsPlain, is_over};
-ghost use Rattle.tproc.specs.Doing.{Begins, Does, Foresees, StandsWhereLeft, StaysWhereJumped, jumps_as, moved_on, rest_of, with_registers};
+ghost use Rattle.tproc.specs.Doing.{Begins, Does, Foresees, jumps_as, moved_on, rest_of, with_registers};
 
-use crate::alternatives::{await_choice, begin_choice, disable_channel, disable_skip, enable_channel, enable_skip, end_choice};
+use crate::alternatives::{
+    await_choice, begin_choice, disable_channel, disable_skip, enable_channel, enable_skip,
+    end_choice,
+};
 use crate::channels::Side;
 use crate::dispatch::{dispatch, start_queued};
 use crate::offer::Ran;
 use crate::ram::Ram;
-use crate::scheduler::{communicate, end, jumped, load_priority, run_process, send_from_workspace, start, stop, stop_on_error};
+use crate::scheduler::{
+    communicate, end, jumped, load_priority, run_process, send_from_workspace, start, stop,
+    stop_on_error,
+};
 use crate::state::State;
-use tcode::{Instruction, Operation};
-use tcpu::{Next, Registers};
-use tword::{Break, Marks, Memory, Word};
-
-/// The calls of the crates below that are still being written.
-pub trait Local {
-    fn decode(memory: &Memory, marks: &Marks, iptr: Word) -> Result<Instruction, Break>
-        ensures { result ≡ value_of (run (decode iptr) memory.now marks.now) };
-
-    fn jumps(registers: &Registers, memory: &Memory, marks: &Marks, instruction: &Instruction) -> Result<bool, Break>
-        ensures { result ≡ would_jump (run (effect instruction.now registers.now) memory.now marks.now) };
-
-    fn local(registers: &mut Registers, memory: &mut Memory, marks: &Marks, instruction: &Instruction) -> Result<Next, Break>
-        ensures done { run (effect instruction.now registers.old) memory.old marks.now ≡ outcome_of result registers.new memory.new }
-        ensures kept { OnErr result ((memory.new ≡ memory.old) × (registers.new ≡ registers.old)) }
-        ensures left { IfOk result (λ next. StandsWhereLeft next memory.old registers.old memory.new registers.new) }
-        ensures sized { length memory.new ≡ length memory.old };
-}
+use tcode::{Instruction, Operation, decode};
+use tcpu::{Next, Registers, local};
+use tword::{Break, Word};
 
 /// The instruction with which a step begins.
 #[inline(always)]
-fn fetch<L: Local>(ram: &Ram, iptr: Word) -> Result<Instruction, Break>
-    ensures { Begins (decode iptr) ram.now.marks ram.now.memory result ram.now.memory }
+fn fetch(ram: &Ram, iptr: Word) -> Result<Instruction, Break>
+    ensures { Begins (decoding iptr) ram.now.marks ram.now.memory result ram.now.memory }
 {
-    L::decode(&ram.memory, &ram.marks, iptr)
+    decode(&ram.memory, &ram.marks, iptr)
 }
 
 /// Whether the instruction of a step jumps.
-fn jumps<L: Local>(ram: &Ram, i: &Instruction, registers: &Registers) -> Result<bool, Break>
+fn jumps(ram: &Ram, i: &Instruction, registers: &Registers) -> Result<bool, Break>
     ensures told { result ≡ would_jump (run (effect i.now registers.now) ram.now.memory ram.now.marks) }
     ensures foreseen { Foresees (effect i.now registers.now) ram.now.marks ram.now.memory registers.now result }
 {
-    L::jumps(registers, &ram.memory, &ram.marks, i)
+    tcpu::jumps(registers, &ram.memory, &ram.marks, *i)
 }
 
 /// The effect of the instruction of a step.
 #[inline(always)]
-fn perform<L: Local>(
-    ram: &mut Ram,
-    i: &Instruction,
-    registers: &mut Registers,
-) -> Result<Next, Break>
+fn perform(ram: &mut Ram, i: &Instruction, registers: &mut Registers) -> Result<Next, Break>
     ensures begins { Begins (effect i.now registers.old) ram.old.marks ram.old.memory (with_registers result registers.new) ram.new.memory }
     ensures kept { OnErr result ((ram.new.memory ≡ ram.old.memory) × (registers.new ≡ registers.old)) }
     ensures left { IfOk result (λ next. StandsWhereLeft next ram.old.memory registers.old ram.new.memory registers.new) }
@@ -68,7 +55,7 @@ fn perform<L: Local>(
     ensures size { length ram.new.memory ≡ length ram.old.memory }
     ensures claims { ram.new.marks ≡ ram.old.marks }
 {
-    L::local(registers, &mut ram.memory, &ram.marks, i)
+    local(registers, &mut ram.memory, &ram.marks, *i)
 }
 
 /// An operation of the scheduler.
@@ -145,11 +132,11 @@ fn scheduled(
 
 /// The checks of a yield that may follow an instruction.
 #[inline(always)]
-fn foresee<L: Local>(state: &State, ram: &Ram, i: &Instruction, priority: u8) -> Result<(), Break>
+fn foresee(state: &State, ram: &Ram, i: &Instruction, priority: u8) -> Result<(), Break>
     ensures ends { IfErr result (λ b. run (rest_of i.now priority state.now) ram.now.memory ram.now.marks ≡ Err b) }
     ensures free { IfOk result (λ _. is_over priority (counted priority state.now) ≡ true → would_jump (run (effect i.now state.now.registers) ram.now.memory ram.now.marks) ≡ Ok true → deschedule_break (length ram.now.memory) ram.now.marks state.now.registers.wptr ≡ None) }
 {
-    if state.will_be_over(priority) && jumps::<L>(ram, i, &state.registers)? {
+    if state.will_be_over(priority) && jumps(ram, i, &state.registers)? {
         ram.may_deschedule(state.registers.wptr)?;
     }
     Ok(())
@@ -158,7 +145,7 @@ fn foresee<L: Local>(state: &State, ram: &Ram, i: &Instruction, priority: u8) ->
 /// One instruction of the current process.
 #[tactic(auto, unfolding(crate::specs::Steps::instruction_step))]
 #[inline]
-fn instruction<L: Local>(state: &mut State, ram: &mut Ram, priority: u8) -> Result<Ran, Break>
+fn instruction(state: &mut State, ram: &mut Ram, priority: u8) -> Result<Ran, Break>
     requires running { state.old.current ≡ Some priority }
     requires plain { IsPlain state.old }
     requires agrees { Agrees ram.old.marks state.old }
@@ -166,10 +153,10 @@ fn instruction<L: Local>(state: &mut State, ram: &mut Ram, priority: u8) -> Resu
     ensures agrees { Agrees ram.new.marks state.new }
 {
     let before = state.registers;
-    let i = fetch::<L>(ram, before.iptr)?;
-    foresee::<L>(state, ram, &i, priority)?;
+    let i = fetch(ram, before.iptr)?;
+    foresee(state, ram, &i, priority)?;
     let mut r = before;
-    match perform::<L>(ram, &i, &mut r)? {
+    match perform(ram, &i, &mut r)? {
         Next::Go => {
             state.go(r);
             state.count_one(priority);
@@ -193,7 +180,7 @@ fn instruction<L: Local>(state: &mut State, ram: &mut Ram, priority: u8) -> Resu
 
 /// One step while a low process runs.
 #[inline]
-fn step_low<L: Local>(state: &mut State, ram: &mut Ram) -> Result<Ran, Break>
+fn step_low(state: &mut State, ram: &mut Ram) -> Result<Ran, Break>
     requires running { state.old.current ≡ Some 1 }
     requires plain { IsPlain state.old }
     requires agrees { Agrees ram.old.marks state.old }
@@ -206,13 +193,13 @@ fn step_low<L: Local>(state: &mut State, ram: &mut Ram) -> Result<Ran, Break>
             start_queued(state, ram, workspace, 0);
             Ok(Ran::Dispatch)
         }
-        None => instruction::<L>(state, ram, 1),
+        None => instruction(state, ram, 1),
     }
 }
 
 /// One step by the process that runs, or a dispatch, unless the processor has halted.
 #[inline]
-pub fn step<L: Local>(state: &mut State, ram: &mut Ram) -> Result<Ran, Break>
+pub fn step(state: &mut State, ram: &mut Ram) -> Result<Ran, Break>
     requires plain { IsPlain state.old }
     requires agrees { Agrees ram.old.marks state.old }
     ensures done { Does (run (control_step state.old.halted state.old) ram.old.memory ram.old.marks) state.old ram.old.memory result state.new ram.new.memory }
@@ -223,7 +210,7 @@ pub fn step<L: Local>(state: &mut State, ram: &mut Ram) -> Result<Ran, Break>
     }
     match state.current {
         None => Ok(dispatch(state, ram)),
-        Some(0) => instruction::<L>(state, ram, 0),
-        Some(_) => step_low::<L>(state, ram),
+        Some(0) => instruction(state, ram, 0),
+        Some(_) => step_low(state, ram),
     }
 }
