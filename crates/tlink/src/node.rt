@@ -1,0 +1,74 @@
+ghost use Rattle.std.specs.Prelude.{◌≡◌};
+ghost use Rattle.tlink.specs.Node.{NodeState, fresh_node};
+ghost use Rattle.tlink.specs.Events.{happens, node_answered, node_left_by, is_node_enabled};
+ghost use Rattle.tlink.specs.Whole.{IsWhole};
+
+use crate::core_trait::Core;
+use crate::event::{Emitted, NodeEvent, StepFault};
+use crate::links::Links;
+use std::marker::Model;
+use tword::Break;
+
+/// A node: a processor with its links. What is claimed, what was counted and what is pending fit one another at all times.
+#[derive(Drop)]
+pub struct Node<P: Core> {
+    links: Links<P>,
+}
+
+impl<P: Core> Model for Node<P> {
+    ghost use Rattle.tlink.specs.Node.{NodeState};
+    ghost use Rattle.tlink.specs.Whole.{IsWhole};
+
+    ghost Value = { NodeState };
+
+    ghost view = { λ n. n.links };
+
+    ghost invariant = { λ n. IsWhole n.links };
+}
+
+impl<P: Core> Node<P> {
+    /// A node before its first event, and which of its links have a wire.
+    pub fn new(processor: P, wired: [bool; 4]) -> Self
+        requires { IsWhole (fresh_node (P.machine processor) wired) }
+        ensures { result ≡ fresh_node (P.machine processor) wired }
+    {
+        Node {
+            links: Links::new(processor, wired),
+        }
+    }
+
+    /// Does one event.
+    ///
+    /// # Errors
+    /// `NotEnabled` where the machine does not enable the event: nothing has changed. `Frozen` where the event breaks a rule:
+    /// the node is frozen with that break, and nothing else has changed.
+    #[inline]
+    pub fn step(&mut self, event: NodeEvent) -> Result<Emitted, StepFault>
+        ensures told { result ≡ node_answered (happens event self.old) }
+        ensures left { self.new ≡ node_left_by self.old (happens event self.old) }
+    {
+        self.links.step(event)
+    }
+
+    /// Whether `step` would do the event, a freezing one too.
+    #[inline]
+    pub fn enabled(&self, event: NodeEvent) -> bool
+        ensures { result ≡ is_node_enabled event self.now }
+    {
+        self.links.enabled(event)
+    }
+
+    /// The processor.
+    pub fn processor(&self) -> &P
+        ensures { P.machine result.now ≡ self.now.machine }
+    {
+        self.links.processor()
+    }
+
+    /// The break that froze the node, if one has.
+    pub fn broken(&self) -> Option<Break>
+        ensures { result ≡ self.now.broken }
+    {
+        self.links.broken()
+    }
+}
