@@ -1,0 +1,26 @@
+-- What a call on one net, or on one node of it, promises.
+use Rattle.std.specs.Prelude.{◌≡◌, ℕ, Bool, true, false, Option, Some, None, Result, Err}
+use Rattle.tlink.specs.declared.event.Emitted.{Emitted}
+use Rattle.tlink.specs.declared.event.NodeEvent.{NodeEvent}
+use Rattle.tlink.specs.declared.event.StepFault.{StepFault}
+use Rattle.tlink.specs.declared.event.StepFault.TheVariants.{NotEnabled}
+use Rattle.tlink.specs.Node.{NodeState}
+use Rattle.tlink.specs.Events.{happens, node_left_by, node_answered}
+use Rattle.tnet.specs.declared.event.Event.{Event}
+use Rattle.tnet.specs.Net.{NetState, with_node}
+use Rattle.tnet.specs.Packets.{NetAnswer, net_left_by, answered}
+
+-- a net does what an answer of the machine says: the caller is told it, and the net is left as it says
+pub record DoesNet (e : Event) (answer : NetAnswer) (old : NetState) (result : Result Emitted StepFault) (new : NetState) : Type 0 where
+  pub told : result ≡ answered answer
+  pub left : new ≡ net_left_by e old answer
+
+-- a node of a net does an event, and the rest of the net stands; or there is no such node
+abbrev pub DoesAt : ℕ → NodeEvent → Option NodeState → NetState → Result Emitted StepFault → NetState → Type 0
+DoesAt n e None old result new = (result ≡ Err NotEnabled) × (new ≡ old)
+DoesAt n e (Some node) old result new = (result ≡ node_answered (happens e node)) × (new ≡ with_node n (node_left_by node (happens e node)) old)
+
+-- an event is done; or it is not enabled, and nothing changes
+abbrev pub Did : Option NetState → NetState → Bool → NetState → Type 0
+Did None old result new = (result ≡ false) × (new ≡ old)
+Did (Some net) old result new = (result ≡ true) × (new ≡ net)

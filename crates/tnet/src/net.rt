@@ -1,0 +1,110 @@
+ghost use Rattle.std.specs.Prelude.{◌≡◌, ℕ, IsTrue, ◌↔◌};
+ghost use Rattle.tlink.specs.Node.{NodeState};
+ghost use Rattle.tnet.specs.Net.{NetState};
+ghost use Rattle.tnet.specs.Packets.{net_happens, answered, net_left_by, after_event, applied_from, is_enabled, IsQuiet};
+ghost use Rattle.tnet.specs.Sound.{IsSound};
+ghost use Rattle.tnet.specs.Answers.{Did};
+ghost use Rattle.tnet.specs.Runs.{IsSeenRun, refused, done, done_one};
+
+use crate::event::Event;
+use crate::parts::Parts;
+use std::marker::Model;
+use tlink::{Core, Emitted, Node, StepFault};
+
+/// A net of nodes and wires, with the packets that lie at the ends of its wires.
+///
+/// What is counted, what waits and what lies there fit one another at all times (`IsSound`).
+#[derive(Drop)]
+pub struct Net<P: Core> {
+    parts: Parts<P>,
+}
+
+impl<P: Core> Model for Net<P> {
+    ghost use Rattle.tnet.specs.Net.{NetState};
+    ghost use Rattle.tnet.specs.Sound.{IsSound};
+
+    ghost Value = { NetState };
+
+    ghost view = { λ n. n.parts };
+
+    ghost invariant = { λ n. IsSound n.parts };
+}
+
+impl<P: Core> Net<P> {
+    /// Does one event. An event on a node, a link or a packet that is not there is not enabled.
+    ///
+    /// # Errors
+    /// `NotEnabled` where the machine does not enable the event: nothing has changed. `Frozen` where the event breaks a rule:
+    /// its node is frozen with that break, and nothing else has changed.
+    #[inline]
+    pub fn step(&mut self, event: Event) -> Result<Emitted, StepFault>
+        ensures told { result ≡ answered (net_happens event self.old) }
+        ensures left { self.new ≡ net_left_by event self.old (net_happens event self.old) }
+
+        // what the net shows of it is no step, or one lawful step, of the rendezvous machine
+        ensures run { IsSeenRun self.old (done_one event result) self.new }
+    {
+        self.parts.step(event)
+    }
+
+    /// Does events in their order, up to the first that is not enabled. An event that freezes its node is done.
+    ///
+    /// # Errors
+    /// The place of the first event that is not enabled: those before it are done, it and the rest are not.
+    pub fn apply(&mut self, events: &[Event]) -> Result<(), usize>
+        ensures exact { applied_from 0 events.now self.old ≡ (self.new, refused result) }
+
+        // the headline: whatever was done, what the net shows of it is one run of the rendezvous machine, in which each
+        // message that is complete is one step that copies it whole
+        ensures run { IsSeenRun self.old (done events.now result) self.new }
+    {
+        self.know_sound();
+        for (place, event) in events.iter().enumerate() {
+            if !self.does(*event) {
+                return Err(place);
+            }
+        }
+        Ok(())
+    }
+
+    /// Whether `step` would do an event, a freezing one too.
+    #[inline]
+    pub fn enabled(&self, event: Event) -> bool
+        ensures { result ≡ is_enabled self.now event }
+    {
+        self.parts.enabled(event)
+    }
+
+    /// Whether no event at all is enabled.
+    pub fn is_quiet(&self) -> bool
+        ensures { IsTrue result ↔ IsQuiet self.now }
+    {
+        self.parts.is_quiet()
+    }
+
+    /// The nodes, by their numbers.
+    pub fn nodes(&self) -> &[Node<P>]
+        ensures { result.now ≡ self.now.nodes }
+    {
+        self.parts.nodes()
+    }
+
+    /// Does an event, if it is enabled.
+    #[inline]
+    #[tactic(auto, using(crate::proofs::Applying::event_did))]
+    fn does(&mut self, event: Event) -> bool
+        ensures { Did (after_event self.old event) self.old result self.new }
+    {
+        match self.step(event) {
+            Err(StepFault::NotEnabled) => false,
+            _ => true,
+        }
+    }
+
+    /// A net is sound between events.
+    fn know_sound(&self)
+        ensures { IsSound self.now }
+    {
+        let _parts = &self.parts;
+    }
+}

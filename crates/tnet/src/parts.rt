@@ -1,0 +1,285 @@
+ghost use Rattle.std.specs.Prelude.{◌≡◌, ◌<◌, ℕ, not, slice_set, Option, None};
+ghost use Rattle.std.specs.List.{list_all};
+ghost use Rattle.tlink.specs.Node.{NodeState};
+ghost use Rattle.tnet.specs.Rounds.{node_events, is_quiet, is_quiet_from};
+ghost use Rattle.tnet.specs.Wires.{end_at, far_end};
+ghost use Rattle.tnet.specs.Net.{NetState, node_at, inbox_at, with_inbox, empty_inbox};
+ghost use Rattle.tnet.specs.Packets.{node_event, received, delivered, sent_off, put_in, net_happens, is_enabled};
+ghost use Rattle.tnet.specs.Answers.{DoesAt, DoesNet};
+ghost use Rattle.tnet.specs.FarEnds.{IsLaidOut, box_in, with_box};
+
+use crate::event::{Act, Event};
+use crate::inbox::Inbox;
+use crate::plan::{End, Wire};
+use std::marker::Model;
+use tlink::{Arrival, Core, Emitted, Node, NodeEvent, Packet, StepFault};
+use tword::Items;
+
+/// The parts of a net, with no claim that they fit.
+#[derive(Drop)]
+pub struct Parts<P: Core> {
+    nodes: Vec<Node<P>>,
+    wires: Items<Wire>,
+    /// The far end of each end.
+    far: Vec<[Option<End>; 4]>,
+    /// What lies at each end.
+    inboxes: Vec<[Inbox; 4]>,
+}
+
+impl<P: Core> Model for Parts<P> {
+    ghost use Rattle.tnet.specs.Net.{NetState};
+    ghost use Rattle.tnet.specs.FarEnds.{IsLaidOut};
+
+    ghost Value = { NetState };
+
+    ghost view = { λ n. record { nodes = n.nodes.items; wires = n.wires; inboxes = n.inboxes.items } };
+
+    ghost invariant = { λ n. IsLaidOut n.nodes.items n.wires n.far.items };
+}
+
+const EMPTY: Inbox = Inbox {
+    carried: None,
+    acknowledged: false,
+};
+
+/// All acts of a node.
+const ALL_ACTS: [Act; 17] = [
+    Act::Run,
+    Act::Send(0),
+    Act::Data(0),
+    Act::Take(0),
+    Act::Ack(0),
+    Act::Send(1),
+    Act::Data(1),
+    Act::Take(1),
+    Act::Ack(1),
+    Act::Send(2),
+    Act::Data(2),
+    Act::Take(2),
+    Act::Ack(2),
+    Act::Send(3),
+    Act::Data(3),
+    Act::Take(3),
+    Act::Ack(3),
+];
+
+/// What lies at an end.
+fn inbox(all: &[[Inbox; 4]], end: End) -> Inbox
+    ensures { result ≡ box_in all.now end }
+{
+    match all.get(end.node as usize) {
+        Some(links) => links.get(end.link as usize).copied().unwrap_or(EMPTY),
+        None => EMPTY,
+    }
+}
+
+/// What lies at an end is set.
+fn set_inbox(all: &mut [[Inbox; 4]], end: End, inbox: Inbox)
+    ensures { all.new ≡ with_box end inbox all.old }
+{
+    let node = end.node as usize;
+    let link = end.link as usize;
+    if node < all.len() && link < 4 {
+        all[node][link] = inbox;
+    }
+}
+
+/// The end of a wire at a link.
+fn end_of(node: u8, link: u8) -> End
+    ensures { result ≡ end_at node link }
+{
+    End {
+        node: u32::from(node),
+        link: u32::from(link),
+    }
+}
+
+impl<P: Core> Parts<P> {
+    /// A net of these parts, with the table of its far ends.
+    pub fn new(
+        nodes: Vec<Node<P>>,
+        wires: Items<Wire>,
+        far: Vec<[Option<End>; 4]>,
+        inboxes: Vec<[Inbox; 4]>,
+    ) -> Self
+        requires { IsLaidOut nodes.items wires far.items }
+        ensures { result ≡ record { nodes = nodes.items; wires = wires; inboxes = inboxes.items } }
+    {
+        Parts {
+            nodes,
+            wires,
+            far,
+            inboxes,
+        }
+    }
+
+    /// The event that a node is asked for, if its packet lies there.
+    fn node_event(&self, event: Event) -> Option<NodeEvent>
+        ensures { result ≡ node_event self.now event.node event.act }
+    {
+        match event.act {
+            Act::Run => Some(NodeEvent::Run),
+            Act::Send(link) => Some(NodeEvent::Send(link)),
+            Act::Data(link) => {
+                let Arrival { byte, last } = inbox(
+                    &self.inboxes,
+                    end_of(event.node, link),
+                ).carried?;
+                Some(NodeEvent::Data(link, byte, last))
+            }
+            Act::Take(link) => Some(NodeEvent::Take(link)),
+            Act::Ack(link) => {
+                if inbox(&self.inboxes, end_of(event.node, link)).acknowledged {
+                    Some(NodeEvent::Ack(link))
+                } else {
+                    None
+                }
+            }
+        }
+    }
+
+    /// The packet that an event takes is gone.
+    fn receive(&mut self, event: Event)
+        ensures { self.new ≡ received event.node event.act self.old }
+    {
+        match event.act {
+            Act::Data(link) => {
+                let end = end_of(event.node, link);
+                let lies = inbox(&self.inboxes, end);
+                set_inbox(
+                    &mut self.inboxes,
+                    end,
+                    Inbox {
+                        carried: None,
+                        ..lies
+                    },
+                );
+            }
+            Act::Ack(link) => {
+                let end = end_of(event.node, link);
+                let lies = inbox(&self.inboxes, end);
+                set_inbox(
+                    &mut self.inboxes,
+                    end,
+                    Inbox {
+                        acknowledged: false,
+                        ..lies
+                    },
+                );
+            }
+            _ => {}
+        }
+    }
+
+    /// The far end of an end.
+    fn far_end(&self, end: End) -> Option<End>
+        ensures { result ≡ far_end self.now.wires end }
+    {
+        match self.far.get(end.node as usize) {
+            Some(links) => links.get(end.link as usize).copied().unwrap_or(None),
+            None => None,
+        }
+    }
+
+    /// What was emitted lies at the far end.
+    fn send_off(&mut self, node: u8, packet: Option<(u8, Packet)>)
+        ensures { self.new ≡ sent_off node packet self.old }
+    {
+        let Some((link, packet)) = packet else {
+            return;
+        };
+        let Some(far) = self.far_end(end_of(node, link)) else {
+            return;
+        };
+        let lies = inbox(&self.inboxes, far);
+        let lies = match packet {
+            Packet::Data { byte, last } => Inbox {
+                carried: Some(Arrival { byte, last }),
+                ..lies
+            },
+            Packet::Ack => Inbox {
+                acknowledged: true,
+                ..lies
+            },
+        };
+        set_inbox(&mut self.inboxes, far, lies);
+    }
+
+    /// The nodes.
+    pub fn nodes(&self) -> &[Node<P>]
+        ensures { result.now ≡ self.now.nodes }
+    {
+        self.nodes.as_slice()
+    }
+
+    /// Whether an event would be done.
+    #[tactic(auto, using(crate::proofs::Stepping::asked_at), unfolding(crate::specs::Packets::net_happens))]
+    pub fn enabled(&self, event: Event) -> bool
+        ensures { result ≡ is_enabled self.now event }
+    {
+        match self.node_event(event) {
+            None => false,
+            Some(asked) => match self.nodes.get(usize::from(event.node)) {
+                None => false,
+                Some(node) => node.enabled(asked),
+            },
+        }
+    }
+
+    /// Whether none of these acts of a node is enabled.
+    fn refuses(&self, node: u8, acts: &[Act]) -> bool
+        ensures { result ≡ list_all (λ act. not (is_enabled self.now (record { node = node; act = act }))) acts.now }
+    {
+        acts.iter()
+            .all(|act| !self.enabled(Event { node, act: *act }))
+    }
+
+    /// Whether no event of a node is enabled.
+    fn node_is_quiet(&self, node: u8) -> bool
+        ensures { result ≡ list_all (λ e. not (is_enabled self.now e)) (node_events node) }
+    {
+        self.refuses(node, &ALL_ACTS)
+    }
+
+    /// Whether no event is enabled.
+    #[tactic(auto, using(crate::proofs::Quietness::quiet_next, crate::proofs::Quietness::quiet_stops))]
+    pub fn is_quiet(&self) -> bool
+        ensures { result ≡ is_quiet self.now }
+    {
+        for node in 0..self.nodes.len() as u8 {
+            if !self.node_is_quiet(node) {
+                return false;
+            }
+        }
+        true
+    }
+
+    /// One event of the node with this number.
+    fn step_node(&mut self, node: u8, event: NodeEvent) -> Result<Emitted, StepFault>
+        ensures { DoesAt node event (node_at self.old node) self.old result self.new }
+    {
+        let place = usize::from(node);
+        if place >= self.nodes.len() {
+            return Err(StepFault::NotEnabled);
+        }
+        self.nodes[place].step(event)
+    }
+
+    /// One event.
+    #[tactic(auto, using(crate::proofs::Stepping::event_done), unfolding(crate::specs::Packets::net_happens))]
+    pub fn step(&mut self, event: Event) -> Result<Emitted, StepFault>
+        ensures { DoesNet event (net_happens event self.old) self.old result self.new }
+    {
+        let Some(asked) = self.node_event(event) else {
+            return Err(StepFault::NotEnabled);
+        };
+        match self.step_node(event.node, asked) {
+            Ok(emitted) => {
+                self.receive(event);
+                self.send_off(event.node, emitted.packet);
+                Ok(emitted)
+            }
+            Err(fault) => Err(fault),
+        }
+    }
+}
