@@ -1,18 +1,48 @@
-ghost use Rattle.std.specs.Prelude.{◌≡◌, ◌<◌, ◌≤◌, ◌↔◌, ℕ, length, None, IsSome, IsTrue, IfOk, IsErrOf, OnOk, Result};
+ghost use Rattle.std.specs.Prelude.{◌≡◌, ◌<◌, ◌≤◌, ◌↔◌, length, None, IsSome, IfOk, IsErrOf, OnOk, true};
 ghost use Rattle.tword.specs.Touches.{is_inside, is_open};
-ghost use Rattle.tword.specs.declared.breaks.Break.{Break};
 ghost use Rattle.tproc.specs.Machine.{Machine};
 ghost use Rattle.tproc.specs.Steps.{step, step_left_by, step_answered};
 ghost use Rattle.tproc.specs.Resting.{IfRests, has_step};
 ghost use Rattle.tproc.specs.Links.{notice, finish_input, finish_output};
+ghost use Rattle.tproc.specs.Opening.{empty_machine, loaded, added};
+ghost use Rattle.tlink.specs.declared.core_trait.MemoryFault.TheVariants.{BadSize};
+ghost use Rattle.tlink.specs.Starting.{IsMemorySize, Adds};
 ghost use Rattle.tlink.specs.Messages.{output_of, input_of, HasByte, byte_of, with_byte};
 
+use std::alloc::Global;
 use tproc::{Offer, Ran};
-use tword::Break;
+use tword::{Break, Word};
+
+/// Why no processor could be made.
+#[derive(Clone, Copy, Debug, PartialEq, Eq)]
+pub enum MemoryFault {
+    /// The size is none that a memory may have.
+    BadSize,
+    /// The allocator refused.
+    OutOfMemory,
+}
 
 /// A processor as its node sees it: what it does is what its machine does.
 pub trait Core: Drop {
     ghost machine: { Self → Machine };
+
+    /// A processor without a process.
+    fn new(alloc: Global, size: u32, timeslice: u32) -> Result<Self, MemoryFault>
+        requires low { 1 ≤ timeslice }
+        requires high { timeslice ≤ 65536 }
+        ensures empty { IfOk result (λ p. machine p ≡ empty_machine size timeslice) }
+        ensures sized { OnOk result (IsMemorySize size) }
+        ensures bad_size { IsErrOf result BadSize ↔ ¬ IsMemorySize size };
+
+    /// Bytes are put into the memory.
+    fn load(&mut self, start: Word, bytes: &[u8])
+        requires inside { is_inside (length (machine self.old).store) (record { start = start; size = length bytes.now }) ≡ true }
+        requires open { is_open (record { start = start; size = length bytes.now }) ≡ true }
+        ensures { machine self.new ≡ loaded start bytes.now (machine self.old) };
+
+    /// A process is added, or refused.
+    fn add_process(&mut self, wdesc: Word, iptr: Word) -> Result<(), Break>
+        ensures { Adds (added wdesc iptr (machine self.old)) (machine self.old) result (machine self.new) };
 
     /// One step, where there is one.
     fn run_one(&mut self) -> Result<Ran, Break>
