@@ -1,26 +1,16 @@
 ghost use Rattle.std.specs.Prelude.{◌≡◌, ◌<◌, ◌≤◌, ◌↔◌, length, None, IsSome, IfOk, IsErrOf, OnOk, true};
+ghost use Rattle.tword.specs.Accesses.{IsMemorySize};
 ghost use Rattle.tword.specs.Touches.{is_inside, is_open};
 ghost use Rattle.tproc.specs.Machine.{Machine};
 ghost use Rattle.tproc.specs.Steps.{step, step_left_by, step_answered};
 ghost use Rattle.tproc.specs.Resting.{IfRests, has_step};
 ghost use Rattle.tproc.specs.Links.{notice, finish_input, finish_output};
 ghost use Rattle.tproc.specs.Opening.{empty_machine, loaded, added};
-ghost use Rattle.tlink.specs.declared.core_trait.MemoryFault.TheVariants.{BadSize};
-ghost use Rattle.tlink.specs.Starting.{IsMemorySize, Adds};
-ghost use Rattle.tlink.specs.Messages.{output_of, input_of, HasByte, byte_of, with_byte};
+ghost use Rattle.tlink.specs.Messages.{Adds, output_of, input_of, HasByte, byte_of, with_byte};
 
 use std::alloc::Global;
 use tproc::{Offer, Ran};
-use tword::{Break, Word};
-
-/// Why no processor could be made.
-#[derive(Clone, Copy, Debug, PartialEq, Eq)]
-pub enum MemoryFault {
-    /// The size is none that a memory may have.
-    BadSize,
-    /// The allocator refused.
-    OutOfMemory,
-}
+use tword::{Break, MemoryFault, Word};
 
 /// A processor as its node sees it: what it does is what its machine does.
 pub trait Core: Drop {
@@ -32,7 +22,7 @@ pub trait Core: Drop {
         requires high { timeslice ≤ 65536 }
         ensures empty { IfOk result (λ p. machine p ≡ empty_machine size timeslice) }
         ensures sized { OnOk result (IsMemorySize size) }
-        ensures bad_size { IsErrOf result BadSize ↔ ¬ IsMemorySize size };
+        ensures bad_size { IsErrOf result MemoryFault.BadSize ↔ ¬ IsMemorySize size };
 
     /// Bytes are put into the memory.
     fn load(&mut self, start: Word, bytes: &[u8])
