@@ -1,13 +1,20 @@
-ghost use Rattle.std.specs.Prelude.{◌≡◌, ℕ, IsTrue, ◌↔◌};
+ghost use Rattle.std.specs.Prelude.{◌≡◌, ◌≢◌, ℕ, IsTrue, IfOk, ◌↔◌};
 ghost use Rattle.tlink.specs.Node.{NodeState};
 ghost use Rattle.tnet.specs.Net.{NetState};
 ghost use Rattle.tnet.specs.Packets.{net_happens, answered, net_left_by, after_event, applied_from, is_enabled, IsQuiet};
 ghost use Rattle.tnet.specs.Sound.{IsSound};
 ghost use Rattle.tnet.specs.Answers.{Did};
+ghost use Rattle.tnet.specs.View.{view};
+ghost use Rattle.tnet.specs.declared.plan.BuildFault.TheVariants.{OutOfMemory};
+ghost use Rattle.tnet.specs.Building.{built, opening_configuration};
 ghost use Rattle.tnet.specs.Runs.{IsSeenRun, refused, done, done_one};
 
 use crate::event::Event;
+use crate::faults::first_fault;
+use crate::opening::open;
 use crate::parts::Parts;
+use crate::plan::{BuildFault, Plan};
+use std::alloc::Global;
 use std::marker::Model;
 use tlink::{Core, Emitted, Node, StepFault};
 
@@ -31,6 +38,26 @@ impl<P: Core> Model for Net<P> {
 }
 
 impl<P: Core> Net<P> {
+    /// The net of a plan: of each node the segments are loaded in their order, later over earlier, and then the processes are
+    /// added in theirs; no packet and no byte is about.
+    ///
+    /// # Errors
+    /// The lowest fault of the plan, with its first place; `OutOfMemory` where the allocator refused.
+    pub fn build(alloc: Global, plan: Plan) -> Result<Self, BuildFault>
+        ensures exact { result ≢ Err OutOfMemory → result ≡ built plan }
+        ensures sound { IfOk result IsSound }
+
+        // what is seen of it is the rendezvous machine's opening of the same plan
+        ensures alike { IfOk result (λ net. view net ≡ opening_configuration plan) }
+    {
+        if let Some(fault) = first_fault(&plan) {
+            return Err(fault);
+        }
+        Ok(Net {
+            parts: open(alloc, plan)?,
+        })
+    }
+
     /// Does one event. An event on a node, a link or a packet that is not there is not enabled.
     ///
     /// # Errors

@@ -37,11 +37,6 @@ impl<P: Core> Model for Parts<P> {
     ghost invariant = { λ n. IsLaidOut n.nodes.items n.wires n.far.items };
 }
 
-const EMPTY: Inbox = Inbox {
-    carried: None,
-    acknowledged: false,
-};
-
 /// All acts of a node.
 const ALL_ACTS: [Act; 17] = [
     Act::Run,
@@ -68,8 +63,11 @@ fn inbox(all: &[[Inbox; 4]], end: End) -> Inbox
     ensures { result ≡ box_in all.now end }
 {
     match all.get(end.node as usize) {
-        Some(links) => links.get(end.link as usize).copied().unwrap_or(EMPTY),
-        None => EMPTY,
+        Some(links) => links
+            .get(end.link as usize)
+            .copied()
+            .unwrap_or(Inbox::EMPTY),
+        None => Inbox::EMPTY,
     }
 }
 

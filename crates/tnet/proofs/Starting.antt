@@ -1,0 +1,111 @@
+-- A processor while its segments are loaded and its processes are added, and the node that it becomes.
+use Rattle.std.proofs.Common.{◌≡◌, ℕ, suc, ◌+◌, ◌<◌, ◌≤◌, ◌^◌, refl, sym, ap, ◌∙◌, subst, List, [], ◌∷◌, length, get_or, drop, replicate, Bool, true, false, not, ◌&&◌, Option, Some, None, Result, Ok, Err, All, arith, add-one, Fits, w8}
+use Rattle.std.specs.Prelude.{fold, OnOk, position, option_map}
+use Rattle.std.proofs.lemmas.Bool.{not-false, and_parts}
+use Rattle.std.proofs.lemmas.List.{get_or_default}
+use Rattle.std.proofs.Math.Seq.{drop-cons}
+use Rattle.tword.specs.declared.breaks.Break.{Break}
+use Rattle.tword.specs.Touches.{is_inside, is_open}
+use Rattle.tproc.specs.Machine.{Machine}
+use Rattle.tproc.specs.LinkChannels.{quiet_end}
+use Rattle.tproc.specs.Opening.{empty_machine, loaded, added}
+use Rattle.tproc.proofs.Opening.{IsReadyMachine, is_ready_loaded, is_ready_added}
+use Rattle.tlink.specs.Node.{fresh_node}
+use Rattle.tlink.specs.Whole.{IsWhole}
+use Rattle.tlink.specs.Messages.{Adds}
+use Rattle.tnet.specs.declared.plan.Wire.{Wire}
+use Rattle.tnet.specs.declared.plan.Segment.{Segment}
+use Rattle.tnet.specs.declared.plan.Process.{Process}
+use Rattle.tnet.specs.declared.plan.NodePlan.{NodePlan}
+use Rattle.tnet.specs.declared.plan.BuildFault.TheVariants.{BadProcess}
+use Rattle.tnet.specs.Sound.{IsSoundNode}
+use Rattle.tnet.specs.Building.{IsUnstarted, IsOpened, is_bad_segment, bad_segment, built_machine, bad_process, node_fault, added_rest, added_from, loaded_machine, or_loaded, wired_links}
+use Rattle.tnet.proofs.OpenedPlans.{opened, opened-links, no_position}
+use Rattle.tnet.proofs.OpenedNets.{sound_node}
+
+ready : (memory : ℕ) (m : Machine) → IsUnstarted memory m → IsReadyMachine memory 0 m
+ready memory m u = record { size = u.size; visible = u.visible; placed = λ _. u.placed }
+
+small : (memory : ℕ) (m : Machine) → IsUnstarted memory m → memory ≤ 2 ^ 31
+small memory m u = omega (arith, u.size, u.placed.claimed.size)
+
+unstarted : (memory : ℕ) (m : Machine) → memory ≤ 2 ^ 31 → IsReadyMachine memory 0 m → IsUnstarted memory m
+unstarted memory m room r = record { size = r.size; visible = r.visible; placed = r.placed room }
+
+are_bytes : (bytes : List ℕ) → ((k : ℕ) → Fits w8 (get_or bytes k 0)) → All (λ b. b < 256) bytes
+are_bytes bytes h k d l = subst (λ (b : ℕ). b < 256) (get_or_default bytes k 0 d l) (omega (arith, h k))
+
+-- bytes are loaded where programs may use the memory
+pub still_loaded : (memory start : ℕ) (bytes : List ℕ) (m m' : Machine) → ((k : ℕ) → Fits w8 (get_or bytes k 0))
+    → not (is_inside memory (record { start = start; size = length bytes }) && is_open (record { start = start; size = length bytes })) ≡ false
+    → m' ≡ loaded start bytes m → IsUnstarted memory m → IsUnstarted memory m'
+still_loaded memory start bytes m m' fit bounds is u =
+    rw is (unstarted memory (loaded start bytes m) (small memory m u)
+    (is_ready_loaded memory 0 start bytes m (ready memory m u) (are_bytes bytes fit) (and_parts _ _ (not-false _ bounds)).0))
+
+-- a process is added
+pub still_added : (memory process iptr : ℕ) (m m' : Machine) (r : Result (Unit {0}) Break) → process < 2 ^ 32
+    → Adds (added process iptr m) m r m' → IsUnstarted memory m → OnOk r (IsUnstarted memory m')
+still_added memory process iptr m m' r word does u = by (added process iptr m) refl does
+  where
+    by : (x : Result Machine Break) → added process iptr m ≡ x → Adds x m r m' → OnOk r (IsUnstarted memory m')
+    by (Ok n) e d = rw (d.0, d.1) (unstarted memory n (small memory m u) (is_ready_added memory 0 process iptr m n (small memory m u) word (ready memory m u) e))
+    by (Err b) e d = rw d.0 tt
+
+-- the next element of a fold
+pub fold_next : {A B : Type 0} (f : B → A → B) (xs : List A) (k : ℕ) (d : A) (b : B) → k < length xs → fold f b (drop k xs) ≡ fold f (f b (get_or xs k d)) (drop (k + 1) xs)
+fold_next f xs k d b l = rw (add-one, drop-cons xs k d l) refl
+
+-- the next process is added
+pub added_next : (ps : List Process) (k : ℕ) (d : Process) (m m' : Machine) (r : Result (Unit {0}) Break) → k < length ps → r ≡ Ok tt
+    → Adds (added (get_or ps k d).wdesc (get_or ps k d).iptr m) m r m' → added_from k (drop k ps) m ≡ added_from (k + 1) (drop (k + 1) ps) m'
+added_next ps k d m m' r l done does = rw (add-one, drop-cons ps k d l) (by (added (get_or ps k d).wdesc (get_or ps k d).iptr m) does)
+  where
+    by : (x : Result Machine Break) → Adds x m r m' → added_rest (added_from (suc k) (drop (suc k) ps)) k x ≡ added_from (suc k) (drop (suc k) ps) m'
+    by (Ok n) d = rw d.1 refl
+    by (Err b) d = let z : ◌≡◌ {A = Result (Unit {0}) Break} (Ok tt) (Err b) = sym done ∙ d.0 in cc
+
+-- it is refused
+pub added_stops : (ps : List Process) (k : ℕ) (d : Process) (m m' : Machine) (r : Result (Unit {0}) Break) (fault : Break) → k < length ps → r ≡ Err fault
+    → Adds (added (get_or ps k d).wdesc (get_or ps k d).iptr m) m r m' → added_from k (drop k ps) m ≡ Err (k, fault)
+added_stops ps k d m m' r fault l refused does = rw (drop-cons ps k d l) (by (added (get_or ps k d).wdesc (get_or ps k d).iptr m) does)
+  where
+    by : (x : Result Machine Break) → Adds x m r m' → added_rest (added_from (suc k) (drop (suc k) ps)) k x ≡ Err (k, fault)
+    by (Ok n) d = let z : ◌≡◌ {A = Result (Unit {0}) Break} (Err fault) (Ok tt) = sym refused ∙ d.0 in cc
+    by (Err b) d = let z : ◌≡◌ {A = Result (Unit {0}) Break} (Err fault) (Err b) = sym refused ∙ d.0 in cc
+
+-- no segment of a node is bad
+pub good_segments : (n : NodePlan) → bad_segment n ≡ None → All (λ s. is_bad_segment n.memory s ≡ false) n.image.segments
+good_segments n h = no_position (λ s. is_bad_segment n.memory s) n.image.segments h
+
+-- a node's processor, in its three steps
+pub built_of : (timeslice : ℕ) (n : NodePlan) (ss : List Segment) (ps : List Process) (empty full : Machine) (x : Result Machine (ℕ × Break))
+    → empty ≡ empty_machine n.memory timeslice → ss ≡ n.image.segments → full ≡ fold (λ m s. loaded s.address s.bytes m) empty ss
+    → ps ≡ n.image.processes → added_from 0 ps full ≡ x → built_machine timeslice n ≡ x
+built_of timeslice n ss ps empty full x is_empty segments is_full processes h =
+    ap (λ (qs : List Process). added_from 0 qs (loaded_machine timeslice n)) (sym processes)
+    ∙ ap (λ (ts : List Segment). added_from 0 ps (fold (λ m s. loaded s.address s.bytes m) (empty_machine n.memory timeslice) ts)) (sym segments)
+    ∙ ap (λ (m : Machine). added_from 0 ps (fold (λ m s. loaded s.address s.bytes m) m ss)) (sym is_empty)
+    ∙ ap (added_from 0 ps) (sym is_full)
+    ∙ h
+
+built-links : (timeslice : ℕ) (n : NodePlan) (m : Machine) → built_machine timeslice n ≡ Ok m → m.control.links ≡ replicate 4 quiet_end
+built-links timeslice n m h = ap (λ (x : Result Machine (ℕ × Break)). (or_loaded (loaded_machine timeslice n) x).control.links) (sym h) ∙ opened-links timeslice n
+
+-- the node of a processor that was built is sound
+sound_fresh : (timeslice : ℕ) (n : NodePlan) (m : Machine) (wired : List Bool) → built_machine timeslice n ≡ Ok m → IsUnstarted n.memory m → IsSoundNode (fresh_node m wired)
+sound_fresh timeslice n m wired h u = sound_node m wired (built-links timeslice n m h) n.memory 0 (small n.memory m u) (ready n.memory m u)
+
+pub whole_fresh : (timeslice : ℕ) (n : NodePlan) (m : Machine) (wired : List Bool) → built_machine timeslice n ≡ Ok m → IsUnstarted n.memory m → length wired ≡ 4 → IsWhole (fresh_node m wired)
+whole_fresh timeslice n m wired h u four =
+    let s : IsSoundNode (fresh_node m wired) = sound_fresh timeslice n m wired h u in
+    record { claimed = s.claimed; apart = s.apart; counted = s.counted; four = four }
+
+pub opened_node : (timeslice : ℕ) (wires : List Wire) (number : ℕ) (n : NodePlan) (m : Machine) → built_machine timeslice n ≡ Ok m → IsUnstarted n.memory m
+    → IsOpened timeslice wires number n (fresh_node m (wired_links wires number))
+opened_node timeslice wires number n m h u = record { built = h; fresh = refl; sound = sound_fresh timeslice n m (wired_links wires number) h u }
+
+-- the first process that is refused
+pub node_refused : (timeslice number : ℕ) (n : NodePlan) (place : ℕ) (b : Break) → built_machine timeslice n ≡ Err (place, b) → node_fault timeslice number n ≡ Some (BadProcess number place b)
+node_refused timeslice number n place b h =
+    ap (λ (x : Result Machine (ℕ × Break)). option_map (λ (f : ℕ × Break). BadProcess number f.0 f.1) (elim x as (λ _. Option (ℕ × Break)) [ Ok m ↦ None | Err fault ↦ Some fault ])) h
