@@ -111,6 +111,6 @@ all_built p plans number nodes same end so_far =
       opened = so_far.opened ∙ ap (λ (ns : List NodePlan). fresh_nodes p.wires 0 (map (opened p.timeslice) ns)) (take_all number plans end ∙ same);
       sound = so_far.sound;
       added =
-        ap (option_map (λ f. BadProcess f.0 f.1.0 f.1.1))
-        (ap (first_fault_from 0 (bad_process p.timeslice)) (sym same) ∙ so_far.added ∙ ap (first_fault_from number (bad_process p.timeslice)) (drop_all number plans end));
+          ap (option_map (λ f. BadProcess f.0 f.1.0 f.1.1))
+          (ap (first_fault_from 0 (bad_process p.timeslice)) (sym same) ∙ so_far.added ∙ ap (first_fault_from number (bad_process p.timeslice)) (drop_all number plans end));
     }

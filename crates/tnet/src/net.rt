@@ -50,12 +50,12 @@ impl<P: Core> Net<P> {
         // what is seen of it is the rendezvous machine's opening of the same plan
         ensures alike { IfOk result (λ net. view net ≡ opening_configuration plan) }
     {
-        if let Some(fault) = first_fault(&plan) {
-            return Err(fault);
+        match first_fault(&plan) {
+            Some(fault) => Err(fault),
+            None => Ok(Net {
+                parts: open(alloc, plan)?,
+            }),
         }
-        Ok(Net {
-            parts: open(alloc, plan)?,
-        })
     }
 
     /// Does one event. An event on a node, a link or a packet that is not there is not enabled.
