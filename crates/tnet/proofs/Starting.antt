@@ -52,28 +52,6 @@ still_added memory process iptr m m' r word does u = by (added process iptr m) r
     by (Ok n) e d = rw (d.0, d.1) (unstarted memory n (small memory m u) (is_ready_added memory 0 process iptr m n (small memory m u) word (ready memory m u) e))
     by (Err b) e d = rw d.0 tt
 
--- the next element of a fold
-pub fold_next : {A B : Type 0} (f : B → A → B) (xs : List A) (k : ℕ) (d : A) (b : B) → k < length xs → fold f b (drop k xs) ≡ fold f (f b (get_or xs k d)) (drop (k + 1) xs)
-fold_next f xs k d b l = rw (add-one, drop-cons xs k d l) refl
-
--- the next process is added
-pub added_next : (ps : List Process) (k : ℕ) (d : Process) (m m' : Machine) (r : Result (Unit {0}) Break) → k < length ps → r ≡ Ok tt
-    → Adds (added (get_or ps k d).wdesc (get_or ps k d).iptr m) m r m' → added_from k (drop k ps) m ≡ added_from (k + 1) (drop (k + 1) ps) m'
-added_next ps k d m m' r l done does = rw (add-one, drop-cons ps k d l) (by (added (get_or ps k d).wdesc (get_or ps k d).iptr m) does)
-  where
-    by : (x : Result Machine Break) → Adds x m r m' → added_rest (added_from (suc k) (drop (suc k) ps)) k x ≡ added_from (suc k) (drop (suc k) ps) m'
-    by (Ok n) d = rw d.1 refl
-    by (Err b) d = let z : ◌≡◌ {A = Result (Unit {0}) Break} (Ok tt) (Err b) = sym done ∙ d.0 in cc
-
--- it is refused
-pub added_stops : (ps : List Process) (k : ℕ) (d : Process) (m m' : Machine) (r : Result (Unit {0}) Break) (fault : Break) → k < length ps → r ≡ Err fault
-    → Adds (added (get_or ps k d).wdesc (get_or ps k d).iptr m) m r m' → added_from k (drop k ps) m ≡ Err (k, fault)
-added_stops ps k d m m' r fault l refused does = rw (drop-cons ps k d l) (by (added (get_or ps k d).wdesc (get_or ps k d).iptr m) does)
-  where
-    by : (x : Result Machine Break) → Adds x m r m' → added_rest (added_from (suc k) (drop (suc k) ps)) k x ≡ Err (k, fault)
-    by (Ok n) d = let z : ◌≡◌ {A = Result (Unit {0}) Break} (Err fault) (Ok tt) = sym refused ∙ d.0 in cc
-    by (Err b) d = let z : ◌≡◌ {A = Result (Unit {0}) Break} (Err fault) (Err b) = sym refused ∙ d.0 in cc
-
 -- no segment of a node is bad
 pub good_segments : (n : NodePlan) → bad_segment n ≡ None → All (λ s. is_bad_segment n.memory s ≡ false) n.image.segments
 good_segments n h = no_position (λ s. is_bad_segment n.memory s) n.image.segments h
@@ -100,12 +78,3 @@ pub whole_fresh : (timeslice : ℕ) (n : NodePlan) (m : Machine) (wired : List B
 whole_fresh timeslice n m wired h u four =
     let s : IsSoundNode (fresh_node m wired) = sound_fresh timeslice n m wired h u in
     record { claimed = s.claimed; apart = s.apart; counted = s.counted; four = four }
-
-pub opened_node : (timeslice : ℕ) (wires : List Wire) (number : ℕ) (n : NodePlan) (m : Machine) → built_machine timeslice n ≡ Ok m → IsUnstarted n.memory m
-    → IsOpened timeslice wires number n (fresh_node m (wired_links wires number))
-opened_node timeslice wires number n m h u = record { built = h; fresh = refl; sound = sound_fresh timeslice n m (wired_links wires number) h u }
-
--- the first process that is refused
-pub node_refused : (timeslice number : ℕ) (n : NodePlan) (place : ℕ) (b : Break) → built_machine timeslice n ≡ Err (place, b) → node_fault timeslice number n ≡ Some (BadProcess number place b)
-node_refused timeslice number n place b h =
-    ap (λ (x : Result Machine (ℕ × Break)). option_map (λ (f : ℕ × Break). BadProcess number f.0 f.1) (elim x as (λ _. Option (ℕ × Break)) [ Ok m ↦ None | Err fault ↦ Some fault ])) h

@@ -22,9 +22,6 @@ pub record IsBuiltSoFar (timeslice : ℕ) (wires : List Wire) (plans : List Node
   pub sound : All IsSoundNode nodes
   pub added : first_fault_from 0 (bad_process timeslice) plans ≡ first_fault_from number (bad_process timeslice) (drop number plans)
 
-pub nothing_built : (timeslice : ℕ) (wires : List Wire) (plans : List NodePlan) (nodes : List NodeState) → nodes ≡ [] → IsBuiltSoFar timeslice wires plans 0 nodes
-nothing_built timeslice wires plans nodes none = rw none (record { opened = refl; sound = All-nil IsSoundNode; added = refl })
-
 fresh_nodes-append : (wires : List Wire) (k : ℕ) (ms : List Machine) (m : Machine) → fresh_nodes wires k (ms ++ m ∷ []) ≡ fresh_nodes wires k ms ++ fresh_node m (wired_links wires (k + length ms)) ∷ []
 fresh_nodes-append wires k [] m = rw add-zero refl
 fresh_nodes-append wires k (x ∷ ms) m =

@@ -188,3 +188,6 @@ fn first_bad_segment(nodes: &[NodePlan]) -> Option<(usize, usize)>
     }
     None
 }
+
+#[cfg(test)]
+mod tests;
