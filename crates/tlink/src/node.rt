@@ -3,19 +3,19 @@ ghost use Rattle.tlink.specs.Node.{NodeState, fresh_node};
 ghost use Rattle.tlink.specs.Events.{happens, node_answered, node_left_by, is_node_enabled};
 ghost use Rattle.tlink.specs.Whole.{IsWhole};
 
-use crate::core_trait::Core;
 use crate::event::{Emitted, NodeEvent, StepFault};
 use crate::links::Links;
 use std::marker::Model;
+use tproc::Processor;
 use tword::Break;
 
 /// A node: a processor with its links. What is claimed, what was counted and what is pending fit one another at all times.
 #[derive(Drop)]
-pub struct Node<P: Core> {
-    links: Links<P>,
+pub struct Node {
+    links: Links,
 }
 
-impl<P: Core> Model for Node<P> {
+impl Model for Node {
     ghost use Rattle.tlink.specs.Node.{NodeState};
     ghost use Rattle.tlink.specs.Whole.{IsWhole};
 
@@ -26,11 +26,11 @@ impl<P: Core> Model for Node<P> {
     ghost invariant = { λ n. IsWhole n.links };
 }
 
-impl<P: Core> Node<P> {
+impl Node {
     /// A node before its first event, and which of its links have a wire.
-    pub fn new(processor: P, wired: [bool; 4]) -> Self
-        requires { IsWhole (fresh_node (P.machine processor) wired) }
-        ensures { result ≡ fresh_node (P.machine processor) wired }
+    pub fn new(processor: Processor, wired: [bool; 4]) -> Self
+        requires { IsWhole (fresh_node processor wired) }
+        ensures { result ≡ fresh_node processor wired }
     {
         Node {
             links: Links::new(processor, wired),
@@ -59,8 +59,8 @@ impl<P: Core> Node<P> {
     }
 
     /// The processor.
-    pub fn processor(&self) -> &P
-        ensures { P.machine result.now ≡ self.now.machine }
+    pub fn processor(&self) -> &Processor
+        ensures { result.now ≡ self.now.machine }
     {
         self.links.processor()
     }

@@ -8,11 +8,10 @@ use Rattle.tword.specs.declared.breaks.Break.{Break}
 use Rattle.tword.specs.Touches.{is_inside, is_open}
 use Rattle.tproc.specs.Machine.{Machine}
 use Rattle.tproc.specs.LinkChannels.{quiet_end}
-use Rattle.tproc.specs.Opening.{empty_machine, loaded, added}
+use Rattle.tproc.specs.Opening.{Adds, empty_machine, loaded, added}
 use Rattle.tproc.proofs.Opening.{IsReadyMachine, is_ready_loaded, is_ready_added}
 use Rattle.tlink.specs.Node.{fresh_node}
 use Rattle.tlink.specs.Whole.{IsWhole}
-use Rattle.tlink.specs.Messages.{Adds}
 use Rattle.tnet.specs.declared.plan.Wire.{Wire}
 use Rattle.tnet.specs.declared.plan.Segment.{Segment}
 use Rattle.tnet.specs.declared.plan.Process.{Process}

@@ -16,17 +16,17 @@ use crate::parts::Parts;
 use crate::plan::{BuildFault, Plan};
 use std::alloc::Global;
 use std::marker::Model;
-use tlink::{Core, Emitted, Node, StepFault};
+use tlink::{Emitted, Node, StepFault};
 
 /// A net of nodes and wires, with the packets that lie at the ends of its wires.
 ///
 /// What is counted, what waits and what lies there fit one another at all times (`IsSound`).
 #[derive(Drop)]
-pub struct Net<P: Core> {
-    parts: Parts<P>,
+pub struct Net {
+    parts: Parts,
 }
 
-impl<P: Core> Model for Net<P> {
+impl Model for Net {
     ghost use Rattle.tnet.specs.Net.{NetState};
     ghost use Rattle.tnet.specs.Sound.{IsSound};
 
@@ -37,7 +37,7 @@ impl<P: Core> Model for Net<P> {
     ghost invariant = { λ n. IsSound n.parts };
 }
 
-impl<P: Core> Net<P> {
+impl Net {
     /// The net of a plan: of each node the segments are loaded in their order, later over earlier, and then the processes are
     /// added in theirs; no packet and no byte is about.
     ///
@@ -110,7 +110,7 @@ impl<P: Core> Net<P> {
     }
 
     /// The nodes, by their numbers.
-    pub fn nodes(&self) -> &[Node<P>]
+    pub fn nodes(&self) -> &[Node]
         ensures { result.now ≡ self.now.nodes }
     {
         self.parts.nodes()

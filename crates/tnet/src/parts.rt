@@ -12,13 +12,13 @@ use crate::event::{Act, Event};
 use crate::inbox::Inbox;
 use crate::plan::{End, Wire};
 use std::marker::Model;
-use tlink::{Arrival, Core, Emitted, Node, NodeEvent, Packet, StepFault};
+use tlink::{Arrival, Emitted, Node, NodeEvent, Packet, StepFault};
 use tword::Items;
 
 /// The parts of a net, with no claim that they fit.
 #[derive(Drop)]
-pub struct Parts<P: Core> {
-    nodes: Vec<Node<P>>,
+pub struct Parts {
+    nodes: Vec<Node>,
     wires: Items<Wire>,
     /// The far end of each end.
     far: Vec<[Option<End>; 4]>,
@@ -26,7 +26,7 @@ pub struct Parts<P: Core> {
     inboxes: Vec<[Inbox; 4]>,
 }
 
-impl<P: Core> Model for Parts<P> {
+impl Model for Parts {
     ghost use Rattle.tnet.specs.Net.{NetState};
     ghost use Rattle.tnet.specs.FarEnds.{IsLaidOut};
 
@@ -92,10 +92,10 @@ fn end_of(node: u8, link: u8) -> End
     }
 }
 
-impl<P: Core> Parts<P> {
+impl Parts {
     /// A net of these parts, with the table of its far ends.
     pub fn new(
-        nodes: Vec<Node<P>>,
+        nodes: Vec<Node>,
         wires: Items<Wire>,
         far: Vec<[Option<End>; 4]>,
         inboxes: Vec<[Inbox; 4]>,
@@ -204,7 +204,7 @@ impl<P: Core> Parts<P> {
     }
 
     /// The nodes.
-    pub fn nodes(&self) -> &[Node<P>]
+    pub fn nodes(&self) -> &[Node]
         ensures { result.now ≡ self.now.nodes }
     {
         self.nodes.as_slice()

@@ -3,10 +3,10 @@ use Rattle.tnet.proofs.Starting.{good_segments, built_of, whole_fresh}
 use Rattle.tnet.proofs.opening.build_node.Goals as goal
 
 pub load_segments-requires-clause-fit : goal.load_segments-requires-clause-fit
-load_segments-requires-clause-fit g c = rw c.as_slice.ensures (good_segments c.args.plan.now c.requires.segments)
+load_segments-requires-clause-fit c = rw c.as_slice.ensures (good_segments c.args.plan.now c.requires.segments)
 
 pub new-requires : goal.new-requires
-new-requires g c =
+new-requires c =
     whole_fresh c.args.timeslice c.args.plan.now _ c.links_of.result
     (built_of c.args.timeslice c.args.plan.now _ _ _ _ _ c.in_ok-processor.ensures.machine c.as_slice.ensures c.load_segments.ensures.loaded c.as_slice-2.ensures c.in-Ok.ensures.added)
     c.in-Ok.ensures.still

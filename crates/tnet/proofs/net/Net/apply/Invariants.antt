@@ -4,4 +4,4 @@ use Rattle.tnet.proofs.net.Net.apply.Given as goal
 
 -- the events so far are done
 abbrev pub invariant-loop-place : goal.invariant-loop-place
-invariant-loop-place g l = after_events (take l.place l.events) l.initial.self ≡ Some l.self
+invariant-loop-place l = after_events (take l.place l.events) l.initial.self ≡ Some l.self
