@@ -111,7 +111,8 @@ impl Net {
 
     /// The nodes, by their numbers.
     pub fn nodes(&self) -> &[Node]
-        ensures { result.now ≡ self.now.nodes }
+        ensures held { result.now ≡ self.now.nodes }
+        ensures sound { IsSound self.now }
     {
         self.parts.nodes()
     }
