@@ -1,0 +1,24 @@
+//! Laws of one processor, each as the contract of a function that does nothing.
+
+ghost use Rattle.tproc.specs.Hidden.{FinishOutputIsBlind, NoticeIsBlind, StepIsBlind};
+ghost use Rattle.tproc.specs.Resting.{RestChangesNothing, StepIsThere};
+ghost use Rattle.tproc.specs.Keeping.{StepsKeepPlaced, ClaimsStayApart};
+
+/// A step, a notice and the end of an output cannot see what the buffers of pending inputs hold.
+pub fn pending_inputs_are_unseen()
+    ensures steps { StepIsBlind }
+    ensures notices { NoticeIsBlind }
+    ensures ends { FinishOutputIsBlind }
+{}
+
+/// There is a step exactly where the processor has not halted and is not idle, and where there is none nothing changes.
+pub fn rest_is_told()
+    ensures there { StepIsThere }
+    ensures rests { RestChangesNothing }
+{}
+
+/// A step keeps each live process at one place, and so its claims apart.
+pub fn steps_keep_processes_placed()
+    ensures placed { StepsKeepPlaced }
+    ensures apart { ClaimsStayApart }
+{}
