@@ -9,9 +9,11 @@ use Rattle.tword.specs.Stores.{Store, place, word_at, byte_at, with_word, with_c
 use Rattle.tword.specs.Claims.{Claims, overlap, saved_words, saving}
 use Rattle.tword.specs.Accesses.{no_claims}
 use Rattle.tword.specs.Touches.{Writes, is_inside, span_break, word_break, byte_span, deschedule_break, copy_break}
-use Rattle.tword.specs.Actions.{Action, answer, breaks, requiring, unmet, touching_word, touching_byte, touching, writing_word, writing_byte, copying, descheduling, reading_saved, setting_saved, unless, run, run_from, saved_word_at, with_saved_word, set_saved_word, ◌>>=◌}
+use Rattle.tword.specs.Actions.{Action, answer, breaks, requiring, unmet, touching_word, touching_byte, touching, writing_word, writing_byte, copying, descheduling, reading_saved, setting_saved, unless, run, run_from, saved_word_at, with_saved_word, set_saved_word, ◌>>=◌, value_of}
 use Rattle.tword.proofs.Answering.{answering, run_from-answering}
 use Rattle.tword.proofs.SameClaims.{SameClaims, run_from-same}
+use Rattle.tcode.specs.declared.instruction.Instruction.{Instruction}
+use Rattle.tcode.specs.Decoding.{decode}
 use Rattle.tcpu.specs.declared.registers.Registers.{Registers}
 use Rattle.tproc.specs.declared.offer.Offer.{Offer}
 use Rattle.tproc.specs.declared.offer.Ran.{Ran}
@@ -258,3 +260,9 @@ placed_added process iptr n n' r w p h = by (added process iptr n) refl h
 pub placed_loaded : (start : ℕ) (bytes : List ℕ) (n : Machine) (s : Store) → IsPlaced n → All (λ b. b < 256) bytes → is_inside (length n.store) (record { start = start; size = length bytes }) ≡ true
     → s ≡ with_cells n.store start (as_cells bytes) → IsPlaced (record { control = n.control; store = s })
 placed_loaded start bytes n s p small inside e = subst (λ (t : Store). IsPlaced (record { control = n.control; store = t })) (sym e) (loaded_keeps_placed start bytes n p small inside)
+
+-- what is fetched does not depend on the order in which the claims are kept
+pub fetched_alike : (c : Claims) (n : Machine) → Agrees c n.control
+    → value_of (run (decode n.control.registers.iptr) n.store c) ≡ value_of (run (decode n.control.registers.iptr) n.store (claims_of n.control))
+fetched_alike c n a =
+    ap (λ (r : Result (Instruction × Store) Break). value_of r) (run_from-same (decode n.control.registers.iptr) n.store n.store c (claims_of n.control) (same_from c n.control a))
