@@ -1,21 +1,86 @@
 //! Benchmarks: `bench NAME AMOUNT` does so much work of one, and prints its name, how many operations it did, and
-//! their answer. `bench/run` times them against plain Rust.
+//! their answer; `bench all AMOUNT` does so of each. `bench/run` times them against plain Rust.
 #![tactic(auto)]
 
+mod answer;
+mod local_loop;
 mod mixed_code;
+mod programs;
+mod scheduling;
 
+use answer::{Answer, Fault};
+use local_loop::Claims;
+use scheduling::{Job, Others};
+use std::alloc::Global;
 use std::{env, io};
+
+/// A benchmark.
+#[derive(Clone, Copy, Debug, PartialEq, Eq)]
+enum Benchmark {
+    Decode,
+    Local(Claims),
+    Processor(Job),
+}
+
+/// All of them, by name.
+const BENCHMARKS: [(&str, Benchmark); 13] = [
+    ("decode", Benchmark::Decode),
+    ("local", Benchmark::Local(Claims::Nothing)),
+    ("local-links", Benchmark::Local(Claims::LinkBuffers)),
+    ("local-saved", Benchmark::Local(Claims::SavedWords)),
+    ("processor", Benchmark::Processor(Job::Loop(Others::Nobody))),
+    (
+        "processor-queued",
+        Benchmark::Processor(Job::Loop(Others::Queued(500))),
+    ),
+    (
+        "processor-waiting",
+        Benchmark::Processor(Job::Loop(Others::Waiting(500))),
+    ),
+    ("switch", Benchmark::Processor(Job::Switch(2))),
+    ("switch-500", Benchmark::Processor(Job::Switch(500))),
+    (
+        "message",
+        Benchmark::Processor(Job::Message(4, Others::Nobody)),
+    ),
+    (
+        "message-500",
+        Benchmark::Processor(Job::Message(4, Others::Waiting(498))),
+    ),
+    (
+        "message-1024",
+        Benchmark::Processor(Job::Message(1_024, Others::Nobody)),
+    ),
+    (
+        "message-1024-500",
+        Benchmark::Processor(Job::Message(1_024, Others::Waiting(498))),
+    ),
+];
+
+/// Does so much work of a benchmark.
+fn done(alloc: Global, benchmark: Benchmark, amount: u32) -> Result<Answer, Fault> {
+    match benchmark {
+        Benchmark::Decode => mixed_code::decoded(alloc, amount),
+        Benchmark::Local(claims) => local_loop::looped(alloc, amount, claims),
+        Benchmark::Processor(job) => scheduling::worked(alloc, amount, job),
+    }
+}
 
 fn main(rt: HostRuntime) -> io::Result<()> {
     let mut words = env::args(&rt)?.skip(1);
-    let name = words.next();
+    let wanted = words.next();
     let amount = words.next();
-    let turns = amount.map_or(0, |word| word.as_str().parse::<u32>().unwrap_or(0));
-    match name {
-        Some(name) if name.as_str() == "decode" => match mixed_code::decoded(rt.alloc(), turns) {
-            Ok((count, sum)) => println!(rt; "decode {count} {sum}"),
-            Err(fault) => println!(rt; "decode: {fault:?}"),
-        },
-        _ => println!(rt; "no such benchmark"),
+    let amount = amount.map_or(0, |word| word.as_str().parse::<u32>().unwrap_or(0));
+    let Some(wanted) = wanted else {
+        return println!(rt; "no benchmark is named");
+    };
+    for (name, benchmark) in BENCHMARKS.iter() {
+        if wanted.as_str() == "all" || wanted.as_str() == *name {
+            match done(rt.alloc(), *benchmark, amount) {
+                Ok(answer) => println!(rt; "{name} {} {}", answer.operations, answer.sum)?,
+                Err(fault) => println!(rt; "{name}: {fault:?}")?,
+            }
+        }
     }
+    Ok(())
 }

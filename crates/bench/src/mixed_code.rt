@@ -2,24 +2,14 @@
 
 ghost use Rattle.std.specs.Prelude.{◌≡◌, ◌*◌, IfOk};
 
+use crate::answer::{Answer, Fault};
+use crate::programs::{SIZE, START};
 use std::alloc::Global;
 use tcode::{Function, decode, encode, operation_of};
-use tword::{Break, Marks, Memory, MemoryFault, Word};
+use tword::{Break, Marks, Memory, Word};
 
 /// How many instructions a turn decodes.
 const INSTRUCTIONS: u32 = 1_000;
-
-/// Where the first one lies.
-const START: u32 = 0x8000_0080;
-
-/// What may go wrong.
-#[derive(Clone, Copy, Debug)]
-pub enum Fault {
-    /// The memory is not to be had.
-    Memory(MemoryFault),
-    /// An access breaks a rule.
-    Broken(Break),
-}
 
 /// The functions by the numbers of the generator: one in eight is `opr`.
 const FUNCTIONS: [Function; 16] = [
@@ -108,13 +98,15 @@ fn sum_of(memory: &Memory, marks: &Marks, turns: u32) -> Result<u32, Break> {
     Ok(sum)
 }
 
-/// How many instructions were decoded, and the sum.
-pub fn decoded(alloc: Global, turns: u32) -> Result<(u64, u32), Fault>
-    ensures { IfOk result (λ answer. answer.0 ≡ turns * INSTRUCTIONS) }
+/// Decodes the code so many times, and answers with the sum.
+pub fn decoded(alloc: Global, turns: u32) -> Result<Answer, Fault>
+    ensures { IfOk result (λ answer. answer.operations ≡ turns * INSTRUCTIONS) }
 {
-    let mut memory = Memory::new(alloc, 131_072).map_err(Fault::Memory)?;
+    let mut memory = Memory::new(alloc, SIZE).map_err(Fault::Memory)?;
     let marks = Marks::new(alloc).map_err(Fault::Memory)?;
     load(&mut memory, &marks).map_err(Fault::Broken)?;
-    let sum = sum_of(&memory, &marks, turns).map_err(Fault::Broken)?;
-    Ok((u64::from(turns) * u64::from(INSTRUCTIONS), sum))
+    Ok(Answer {
+        operations: u64::from(turns) * u64::from(INSTRUCTIONS),
+        sum: sum_of(&memory, &marks, turns).map_err(Fault::Broken)?,
+    })
 }

@@ -1,0 +1,37 @@
+//! What a benchmark answers.
+
+use tword::{Break, MemoryFault};
+
+/// What was done, and a checksum of what came out.
+#[derive(Clone, Copy, Debug)]
+pub struct Answer {
+    /// How many operations were done.
+    pub operations: u64,
+    pub sum: u32,
+}
+
+/// What may go wrong.
+#[derive(Clone, Copy, Debug)]
+pub enum Fault {
+    /// The memory is not to be had.
+    Memory(MemoryFault),
+    /// An access breaks a rule.
+    Broken(Break),
+}
+
+/// Where a checksum begins: FNV-1a's number.
+pub const BEGIN: u32 = 2_166_136_261;
+
+/// The next number of a checksum.
+pub fn mixed(sum: u32, word: u32) -> u32 {
+    (sum ^ word).wrapping_mul(16_777_619)
+}
+
+/// The checksum of bytes, behind another.
+pub fn checksum(sum: u32, bytes: &[u8]) -> u32 {
+    let mut sum = sum;
+    for byte in bytes {
+        sum = mixed(sum, u32::from(*byte));
+    }
+    sum
+}
