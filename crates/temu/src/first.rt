@@ -14,7 +14,6 @@ use crate::image::read_image;
 use crate::running::{run_to_end, text};
 use std::alloc::{AllocError, Global};
 use std::io::Write;
-
 use tnet::{BuildFault, Image, Net, NodePlan, Plan};
 use tword::Items;
 
@@ -35,11 +34,7 @@ const TIMESLICE: u32 = 1_024;
 /// In this order: `Image`, the fault of the image; `Processes`, where it has not exactly one process; `Net`, the fault of its
 /// plan; `NotYet` with the address of the first other instruction, unlisted operation or chain of sixteen prefixes that the process has come to;
 /// `Output`, where the writer failed. `OutOfMemory`, where the allocator refuses. But for `Output` nothing was written.
-pub fn first_text<W: Write>(
-    alloc: Global,
-    bytes: &[u8],
-    out: &mut W,
-) -> Result<bool, FirstFault>
+pub fn first_text<W: Write>(alloc: Global, bytes: &[u8], out: &mut W) -> Result<bool, FirstFault>
     ensures prints { IfOk result (λ froze. PrintsFirst bytes.now froze (W.contents out.old) (W.contents out.new)) }
     ensures fault { IfErr result (IsFirstFault bytes.now) }
     ensures silent { IsErr result → result ≢ Err Output → out.new ≡ out.old }

@@ -5,7 +5,8 @@ use crate::first_fault::FirstFault;
 use std::test::Fail;
 
 /// `ldc 4; stl 0; ldl 0; adc 1; stl 1; stopp` at #80000080, and the low process of the workspace #80000100 that begins there.
-const SUM: &[u8] = b"TEMUIMG1\x01\0\0\0\x01\0\0\0\x80\0\0\x80\x07\0\0\0\x44\xd0\x70\x81\xd1\x21\xf5\x01\x01\0\x80\x80\0\0\x80";
+const SUM: &[u8] =
+    b"TEMUIMG1\x01\0\0\0\x01\0\0\0\x80\0\0\x80\x07\0\0\0\x44\xd0\x70\x81\xd1\x21\xf5\x01\x01\0\x80\x80\0\0\x80";
 
 const SUM_TEXT: &str = "node 0 ok
 80000080: 44 d0 70 81 d1 21 f5 00 00 00 00 00 00 00 00 00
@@ -15,7 +16,8 @@ end quiet 1
 ";
 
 /// The byte `40` at the last address of the memory, and a process that begins there: it runs past the end.
-const PAST: &[u8] = b"TEMUIMG1\x01\0\0\0\x01\0\0\0\xff\x07\0\x80\x01\0\0\0\x40\x01\x01\0\x80\xff\x07\0\x80";
+const PAST: &[u8] =
+    b"TEMUIMG1\x01\0\0\0\x01\0\0\0\xff\x07\0\x80\x01\0\0\0\x40\x01\x01\0\x80\xff\x07\0\x80";
 
 const PAST_TEXT: &str = "freeze 0 BadAddress
 node 0 frozen BadAddress
@@ -81,10 +83,7 @@ fn says_each_fault_of_a_plan(rt: HostRuntime) -> Result<(), Fail> {
     )?;
     assert_eq!(rt; reserved.as_str(), "temu: net N7 BadSegment 0 0 2");
     // a process at a workspace that is no multiple of 4
-    let crooked = refused(
-        &rt,
-        b"TEMUIMG1\0\0\0\0\x01\0\0\0\x02\x01\0\x80\x80\0\0\x80",
-    )?;
+    let crooked = refused(&rt, b"TEMUIMG1\0\0\0\0\x01\0\0\0\x02\x01\0\x80\x80\0\0\x80")?;
     assert_eq!(rt; crooked.as_str(), "temu: net N8 BadProcess 0 0 Unaligned 2");
     Ok(())
 }

@@ -20,10 +20,8 @@ pub mod trace;
 
 use crate::first::first_text;
 use crate::first_fault::FirstFault;
-use std::env;
-use std::fs;
-use std::io;
 use std::process::ExitCode;
+use std::{env, fs, io};
 use thiserror::Error;
 
 /// Why the program printed nothing. Its text is printed behind `temu: ` (own choice).

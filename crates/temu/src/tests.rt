@@ -1,6 +1,8 @@
 //! Images and dumps against values from outside.
 
-use super::*;
+use crate::dump::push_node_dump;
+use crate::fault::ImageFault;
+use crate::image::read_image;
 use std::test::Fail;
 use tword::{Break, Span, Word};
 
