@@ -41,9 +41,9 @@ fn said(rt: &HostRuntime, fault: &FirstFault) -> Result<String, Fail> {
 
 /// The same of the fault that an image meets.
 fn refused(rt: &HostRuntime, image: &[u8]) -> Result<String, Fail> {
-    match printed(rt, image) {
-        Ok(_) => Ok(String::from_str(rt.alloc(), "no fault")?),
-        Err(fault) => said(rt, &fault),
+    match printed(rt, image).err() {
+        None => Ok(String::from_str(rt.alloc(), "no fault")?),
+        Some(fault) => said(rt, &fault),
     }
 }
 
