@@ -140,6 +140,7 @@ pub fn end(state: &mut State, ram: &mut Ram) -> Result<Ran, Break>
 
 /// The low process that runs goes behind the others of its queue.
 #[tactic(auto, using(crate::proofs::Places::place_running, crate::proofs::Places::room_running, crate::proofs::Agreeing::agrees_but, crate::proofs::Agreeing::saved_itself, crate::proofs::Agreeing::own_workspace, crate::proofs::Saved::are_saved))]
+#[inline(never)]
 fn yield_now(state: &mut State, ram: &mut Ram)
     requires running { state.old.current ≡ Some 1 }
     requires plain { IsPlain state.old }
@@ -157,6 +158,7 @@ fn yield_now(state: &mut State, ram: &mut Ram)
 }
 
 /// What follows a jump: a low process whose timeslice is over yields, or its timeslice begins again.
+#[inline]
 pub fn jumped(state: &mut State, ram: &mut Ram, priority: u8)
     requires running { state.old.current ≡ Some priority }
     requires plain { IsPlain state.old }

@@ -7,7 +7,7 @@ ghost use Rattle.tcode.specs.Decoding.{decode as decoding};
 ghost use Rattle.tcpu.specs.Effects.{effect};
 ghost use Rattle.tcpu.specs.Local.{would_jump, StandsWhereLeft, StaysWhereJumped};
 ghost use Rattle.tproc.specs.Scheduler.{operation_step, counted, counted_by};
-ghost use Rattle.tproc.specs.Steps.{instruction_step, control_step, low_step};
+ghost use Rattle.tproc.specs.Steps.{instruction_step, control_step};
 ghost use Rattle.tproc.specs.Agreement.{Agrees, IsPlain, is_over};
 ghost use Rattle.tproc.specs.Doing.{Begins, Does, Foresees, jumps_as, moved_on, rest_of, with_registers};
 
@@ -37,6 +37,7 @@ fn fetch(ram: &Ram, iptr: Word) -> Result<Instruction, Break>
 }
 
 /// Whether the instruction of a step jumps.
+#[inline(never)]
 fn jumps(ram: &Ram, i: &Instruction, registers: &Registers) -> Result<bool, Break>
     ensures told { result ≡ would_jump (run (effect i.now registers.now) ram.now.memory ram.now.marks) }
     ensures foreseen { Foresees (effect i.now registers.now) ram.now.marks ram.now.memory registers.now result }
@@ -142,9 +143,9 @@ fn foresee(state: &State, ram: &Ram, i: &Instruction, priority: u8) -> Result<()
     Ok(())
 }
 
-/// One instruction of the current process.
+/// One instruction of the current process, whose registers are worked on in place.
 #[tactic(auto, unfolding(crate::specs::Steps::instruction_step))]
-#[inline]
+#[inline(always)]
 fn instruction(state: &mut State, ram: &mut Ram, priority: u8) -> Result<Ran, Break>
     requires running { state.old.current ≡ Some priority }
     requires plain { IsPlain state.old }
@@ -152,25 +153,20 @@ fn instruction(state: &mut State, ram: &mut Ram, priority: u8) -> Result<Ran, Br
     ensures done { Does (run (instruction_step priority state.old) ram.old.memory ram.old.marks) state.old ram.old.memory result state.new ram.new.memory }
     ensures agrees { Agrees ram.new.marks state.new }
 {
-    let before = state.registers;
-    let i = fetch(ram, before.iptr)?;
+    let i = fetch(ram, state.registers.iptr)?;
     foresee(state, ram, &i, priority)?;
-    let mut r = before;
-    match perform(ram, &i, &mut r)? {
+    match perform(ram, &i, &mut state.registers)? {
         Next::Go => {
-            state.go(r);
             state.count_one(priority);
             Ok(Ran::Instruction)
         }
         Next::Jumped => {
-            state.go(r);
             state.count_one(priority);
             jumped(state, ram, priority);
             Ok(Ran::Instruction)
         }
         Next::Schedule(o) => scheduled(state, ram, o, priority, i.length),
         Next::Halt => {
-            state.go(r);
             state.count_one(priority);
             state.halted = true;
             Ok(Ran::Halting)
@@ -178,27 +174,8 @@ fn instruction(state: &mut State, ram: &mut Ram, priority: u8) -> Result<Ran, Br
     }
 }
 
-/// One step while a low process runs.
-#[inline]
-fn step_low(state: &mut State, ram: &mut Ram) -> Result<Ran, Break>
-    requires running { state.old.current ≡ Some 1 }
-    requires plain { IsPlain state.old }
-    requires agrees { Agrees ram.old.marks state.old }
-    ensures done { Does (run (low_step state.old.high state.old) ram.old.memory ram.old.marks) state.old ram.old.memory result state.new ram.new.memory }
-    ensures agrees { Agrees ram.new.marks state.new }
-{
-    match state.take_high() {
-        Some(workspace) => {
-            state.suspend();
-            start_queued(state, ram, workspace, 0);
-            Ok(Ran::Dispatch)
-        }
-        None => instruction(state, ram, 1),
-    }
-}
-
-/// One step by the process that runs, or a dispatch, unless the processor has halted.
-#[inline]
+/// One step by the process that runs, or a dispatch, unless the processor has halted. A high process that is queued interrupts a low one.
+#[inline(always)]
 pub fn step(state: &mut State, ram: &mut Ram) -> Result<Ran, Break>
     requires plain { IsPlain state.old }
     requires agrees { Agrees ram.old.marks state.old }
@@ -208,9 +185,17 @@ pub fn step(state: &mut State, ram: &mut Ram) -> Result<Ran, Break>
     if state.halted {
         return Ok(Ran::Halted);
     }
-    match state.current {
-        None => Ok(dispatch(state, ram)),
-        Some(0) => instruction(state, ram, 0),
-        Some(_) => step_low(state, ram),
-    }
+    let priority = match state.current {
+        None => return Ok(dispatch(state, ram)),
+        Some(0) => 0,
+        Some(_) => {
+            if let Some(workspace) = state.take_high() {
+                state.suspend();
+                start_queued(state, ram, workspace, 0);
+                return Ok(Ran::Dispatch);
+            }
+            1
+        }
+    };
+    instruction(state, ram, priority)
 }
