@@ -1,7 +1,9 @@
 //! The first path, against the worked rows.
 
+use crate::Failure;
 use crate::first::first_text;
 use crate::first_fault::FirstFault;
+use std::io::Cursor;
 use std::test::Fail;
 
 /// `ldc 4; stl 0; ldl 0; adc 1; stl 1; stopp` at #80000080, and the low process of the workspace #80000100 that begins there.
@@ -33,18 +35,23 @@ fn printed(rt: &HostRuntime, image: &[u8]) -> Result<(Vec<u8>, bool), FirstFault
     Ok((out, froze))
 }
 
-/// The line and the status of a fault, as the program ends with them.
-fn said(rt: &HostRuntime, fault: &FirstFault) -> Result<String, Fail> {
-    let status = fault.status();
-    Ok(format!(in rt.alloc(); "temu: {fault} {status}")?)
+/// The line and the status with which the program ends.
+fn said(rt: &HostRuntime, failure: &Failure) -> Result<String, Fail> {
+    let status = failure.status();
+    Ok(format!(in rt.alloc(); "temu: {failure} {status}")?)
+}
+
+/// The same of a fault, if there is one.
+fn told(rt: &HostRuntime, fault: Option<FirstFault>) -> Result<String, Fail> {
+    match fault {
+        None => Ok(String::from_str(rt.alloc(), "no fault")?),
+        Some(fault) => said(rt, &Failure::First(fault)),
+    }
 }
 
 /// The same of the fault that an image meets.
 fn refused(rt: &HostRuntime, image: &[u8]) -> Result<String, Fail> {
-    match printed(rt, image).err() {
-        None => Ok(String::from_str(rt.alloc(), "no fault")?),
-        Some(fault) => said(rt, &fault),
-    }
+    told(rt, printed(rt, image).err())
 }
 
 #[test]
@@ -65,12 +72,23 @@ fn freezes_at_the_end_of_memory(rt: HostRuntime) -> Result<(), Fail> {
 
 #[test]
 fn says_each_fault_of_an_image(rt: HostRuntime) -> Result<(), Fail> {
-    // the first 38 bytes of the image
-    let cut = refused(&rt, &SUM[..38])?;
-    assert_eq!(rt; cut.as_str(), "temu: image 0 I3 Truncated 2");
-    // no process
-    let none = refused(&rt, b"TEMUIMG1\0\0\0\0\0\0\0\0")?;
-    assert_eq!(rt; none.as_str(), "temu: first processes 2");
+    let lines: [(&[u8], &str); 5] = [
+        (b"TEMUIMG2\0\0\0\0\0\0\0\0", "temu: image 0 I1 BadMagic 2"),
+        // 513 processes
+        (
+            b"TEMUIMG1\0\0\0\0\x01\x02\0\0",
+            "temu: image 0 I2 TooMany 2",
+        ),
+        // the first 38 bytes of the image
+        (&SUM[..38], "temu: image 0 I3 Truncated 2"),
+        (b"TEMUIMG1\0\0\0\0\0\0\0\0!", "temu: image 0 I4 Trailing 2"),
+        // no process
+        (b"TEMUIMG1\0\0\0\0\0\0\0\0", "temu: first processes 2"),
+    ];
+    for (image, line) in lines {
+        let told = refused(&rt, image)?;
+        assert_eq!(rt; told.as_str(), line);
+    }
     Ok(())
 }
 
@@ -101,9 +119,40 @@ fn says_what_is_not_run_yet(rt: HostRuntime) -> Result<(), Fail> {
 
 #[test]
 fn says_that_memory_or_output_failed(rt: HostRuntime) -> Result<(), Fail> {
-    let memory = said(&rt, &FirstFault::OutOfMemory)?;
+    let memory = told(&rt, Some(FirstFault::OutOfMemory))?;
     assert_eq!(rt; memory.as_str(), "temu: memory 4");
-    let output = said(&rt, &FirstFault::Output)?;
+    // a writer that has room for eight bytes
+    let mut page = Cursor::new([0; 8]);
+    let output = told(&rt, first_text(rt.alloc(), SUM, &mut page).err())?;
     assert_eq!(rt; output.as_str(), "temu: output 3");
     Ok(())
+}
+
+#[test]
+fn says_that_words_or_file_are_wrong(rt: HostRuntime) -> Result<(), Fail> {
+    let words = said(&rt, &Failure::Words)?;
+    assert_eq!(rt; words.as_str(), "temu: first words 2");
+    let name = String::from_str(rt.alloc(), "first.img")?;
+    let file = said(&rt, &Failure::File(name))?;
+    assert_eq!(rt; file.as_str(), "temu: file first.img 2");
+    Ok(())
+}
+
+/// The text is written whole; where memory was refused, nothing is written and that is told. The writer takes no memory, so
+/// `rt try --test --fail-alloc N` refuses the Nth request of `first_text`, of which there are 20.
+#[test]
+fn prints_all_or_nothing(rt: HostRuntime) {
+    let mut page = Cursor::new([0; 512]);
+    let fault = first_text(rt.alloc(), SUM, &mut page).err();
+    let length = page.position();
+    match fault {
+        None => {
+            assert!(rt; page.get_ref().starts_with(SUM_TEXT.as_bytes()));
+            assert_eq!(rt; length, SUM_TEXT.len() as u64);
+        }
+        Some(fault) => {
+            assert!(rt; matches!(&fault, FirstFault::OutOfMemory));
+            assert_eq!(rt; length, 0);
+        }
+    }
 }

@@ -62,12 +62,21 @@ fn main(rt: HostRuntime) -> ExitCode {
 /// Does what the words ask for, and answers whether the node froze.
 fn run(rt: &HostRuntime) -> Result<bool, Failure> {
     let name = image_name(rt)?;
-    let Ok(bytes) = fs::read(rt, name.as_str()) else {
-        return Err(Failure::File(name));
+    let bytes = match fs::read(rt, name.as_str()) {
+        Ok(bytes) => bytes,
+        Err(error) => return Err(unread(name, &error)),
     };
     match first_text(rt.alloc(), bytes.as_slice(), &mut io::writer(rt)) {
         Ok(froze) => Ok(froze),
         Err(fault) => Err(Failure::First(fault)),
+    }
+}
+
+/// Why a file was not read: there was no memory for it, or else the file itself.
+fn unread(name: String, error: &io::Error) -> Failure {
+    match error.kind() {
+        io::ErrorKind::OutOfMemory => Failure::First(FirstFault::OutOfMemory),
+        _ => Failure::File(name),
     }
 }
 
