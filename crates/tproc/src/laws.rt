@@ -2,7 +2,8 @@
 
 ghost use Rattle.tproc.specs.Hidden.{FinishOutputIsBlind, NoticeIsBlind, StepIsBlind};
 ghost use Rattle.tproc.specs.Resting.{RestChangesNothing, StepIsThere};
-ghost use Rattle.tproc.specs.Keeping.{StepsKeepPlaced, ClaimsStayApart};
+ghost use Rattle.tproc.specs.Keeping.{ClaimedBytesStand, ClaimsStayApart, StepsKeepPlaced};
+ghost use Rattle.tproc.specs.Selection.{FirstReadyIsSelected, SelectedIsTold};
 
 /// A step, a notice and the end of an output cannot see what the buffers of pending inputs hold.
 pub fn pending_inputs_are_unseen()
@@ -21,4 +22,15 @@ pub fn rest_is_told()
 pub fn steps_keep_processes_placed()
     ensures placed { StepsKeepPlaced }
     ensures apart { ClaimsStayApart }
+{}
+
+/// A step, a notice and the end of any message leave the bytes of each pending message as they are.
+pub fn claimed_bytes_stand()
+    ensures { ClaimedBytesStand }
+{}
+
+/// An alternative selects the first of its guards, in the order in which they are disabled, that is true and ready when it is disabled, and `disc` and `diss` tell which one that is.
+pub fn first_ready_guard_is_selected()
+    ensures selected { FirstReadyIsSelected }
+    ensures told { SelectedIsTold }
 {}
