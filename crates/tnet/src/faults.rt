@@ -188,6 +188,3 @@ fn first_bad_segment(nodes: &[NodePlan]) -> Option<(usize, usize)>
     }
     None
 }
-
-#[cfg(test)]
-mod tests;
