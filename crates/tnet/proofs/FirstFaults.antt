@@ -1,5 +1,5 @@
 -- The first fault of a list, element after element.
-use Rattle.std.proofs.Common.{◌≡◌, ℕ, suc, ◌+◌, ◌<◌, ◌≤◌, refl, sym, ap, ◌∙◌, List, [], ◌∷◌, ◌++◌, length, get_or, take, drop, Bool, true, false, ◌||◌, Option, Some, None, is_some, arith, add-one}
+use Rattle.std.proofs.Common.{◌≡◌, ℕ, suc, ◌+◌, ◌<◌, refl, sym, ap, ◌∙◌, List, [], ◌∷◌, length, get_or, take, drop, Bool, true, false, ◌||◌, Option, Some, is_some, add-one}
 use Rattle.std.specs.Prelude.{if◌then◌else◌}
 use Rattle.std.specs.List.{list_any}
 use Rattle.std.proofs.Math.Seq.{take-suc, drop-cons}
@@ -7,7 +7,7 @@ use Rattle.std.proofs.lemmas.List.Folds.{list_any-append}
 use Rattle.tnet.specs.declared.plan.End.{End}
 use Rattle.tnet.specs.declared.plan.Wire.{Wire}
 use Rattle.tnet.specs.Wires.{same_end, joins, far_end}
-use Rattle.tnet.specs.Building.{is_wired_before, end_twice_from, first_fault_from}
+use Rattle.tnet.specs.Building.{end_twice_from}
 
 -- an end has a wire where it is one of a wire
 found : (ws : List Wire) (e : End) → is_some (far_end ws e) ≡ list_any (joins e) ws

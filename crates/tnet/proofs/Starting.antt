@@ -1,9 +1,8 @@
 -- A processor while its segments are loaded and its processes are added, and the node that it becomes.
-use Rattle.std.proofs.Common.{◌≡◌, ℕ, suc, ◌+◌, ◌<◌, ◌≤◌, ◌^◌, refl, sym, ap, ◌∙◌, subst, List, [], ◌∷◌, length, get_or, drop, replicate, Bool, true, false, not, ◌&&◌, Option, Some, None, Result, Ok, Err, All, arith, add-one, Fits, w8}
-use Rattle.std.specs.Prelude.{fold, OnOk, position, option_map}
+use Rattle.std.proofs.Common.{◌≡◌, ℕ, ◌<◌, ◌≤◌, ◌^◌, refl, sym, ap, ◌∙◌, subst, List, length, get_or, replicate, Bool, false, not, ◌&&◌, None, Result, Ok, Err, All, arith, Fits, w8}
+use Rattle.std.specs.Prelude.{fold, OnOk}
 use Rattle.std.proofs.lemmas.Bool.{not-false, and_parts}
 use Rattle.std.proofs.lemmas.List.{get_or_default}
-use Rattle.std.proofs.Math.Seq.{drop-cons}
 use Rattle.tword.specs.declared.breaks.Break.{Break}
 use Rattle.tword.specs.Touches.{is_inside, is_open}
 use Rattle.tproc.specs.Machine.{Machine}
@@ -12,14 +11,12 @@ use Rattle.tproc.specs.Opening.{Adds, empty_machine, loaded, added}
 use Rattle.tproc.proofs.Opening.{IsReadyMachine, is_ready_loaded, is_ready_added}
 use Rattle.tlink.specs.Node.{fresh_node}
 use Rattle.tlink.specs.Whole.{IsWhole}
-use Rattle.tnet.specs.declared.plan.Wire.{Wire}
 use Rattle.tnet.specs.declared.plan.Segment.{Segment}
 use Rattle.tnet.specs.declared.plan.Process.{Process}
 use Rattle.tnet.specs.declared.plan.NodePlan.{NodePlan}
-use Rattle.tnet.specs.declared.plan.BuildFault.TheVariants.{BadProcess}
 use Rattle.tnet.specs.Sound.{IsSoundNode}
-use Rattle.tnet.specs.Building.{IsUnstarted, IsOpened, is_bad_segment, bad_segment, built_machine, bad_process, node_fault, added_rest, added_from, loaded_machine, or_loaded, wired_links}
-use Rattle.tnet.proofs.OpenedPlans.{opened, opened-links, no_position}
+use Rattle.tnet.specs.Building.{IsUnstarted, is_bad_segment, bad_segment, built_machine, added_from, loaded_machine, or_loaded}
+use Rattle.tnet.proofs.OpenedPlans.{opened-links, no_position}
 use Rattle.tnet.proofs.OpenedNets.{sound_node}
 
 ready : (memory : ℕ) (m : Machine) → IsUnstarted memory m → IsReadyMachine memory 0 m

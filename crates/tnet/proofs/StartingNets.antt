@@ -1,7 +1,6 @@
 -- The net whose nodes are those of a plan.
-use Rattle.std.proofs.Common.{◌≡◌, ◌≢◌, ℕ, ◌≤◌, refl, sym, ap, ◌∙◌, subst, List, [], ◌∷◌, length, map, replicate, Bool, false, ◌||◌, Option, Some, None, Result, Ok, Err, All, arith}
+use Rattle.std.proofs.Common.{◌≡◌, ◌≢◌, ℕ, ◌≤◌, refl, sym, ap, ◌∙◌, subst, List, [], ◌∷◌, length, map, replicate, false, ◌||◌, Some, None, Result, Ok, Err, All, arith}
 use Rattle.std.specs.Prelude.{nat_lt}
-use Rattle.std.specs.List.{list_any}
 use Rattle.std.proofs.lemmas.Bool.{or_parts, ltb-false}
 use Rattle.std.proofs.lemmas.List.{length-map}
 use Rattle.tword.specs.declared.breaks.Break.{Break}
@@ -15,8 +14,7 @@ use Rattle.tnet.specs.declared.inbox.Inbox.{Inbox}
 use Rattle.tnet.specs.Wires.{same_end}
 use Rattle.tnet.specs.Net.{NetState, empty_inbox}
 use Rattle.tnet.specs.Sound.{IsSound, IsSoundNode, IsEnd, AreWires}
-use Rattle.tnet.specs.Building.{IsFaultOf, AreOpened, IsWellFormed, is_too_large, too_many, is_bad_size, has_bad_end, bad_segment, bad_process, process_fault, fault_of, opening_net, built, machines_of}
-use Rattle.tnet.specs.FarEnds.{AgreesWith, IsLaidOut}
+use Rattle.tnet.specs.Building.{IsFaultOf, AreOpened, IsWellFormed, is_bad_size, has_bad_end, bad_segment, bad_process, process_fault, fault_of, opening_net, built, machines_of}
 use Rattle.tnet.proofs.OpenedWires.{are_wires}
 use Rattle.tnet.proofs.OpenedPlans.{IsFaultless, opened, no_position, no_fault, mapped-none}
 use Rattle.tnet.proofs.OpenedNets.{sound_opening, length-fresh_nodes}

@@ -1,5 +1,5 @@
 -- The nodes of a plan, one after another: those that are built so far, and the first process that is refused.
-use Rattle.std.proofs.Common.{◌≡◌, ◌≢◌, ℕ, zero, suc, ◌+◌, ◌<◌, ◌≤◌, refl, sym, ap, ◌∙◌, List, [], ◌∷◌, ◌++◌, length, get_or, take, drop, map, Bool, false, Option, Some, None, Result, Ok, Err, All, arith, add-one, add-zero, zero-add}
+use Rattle.std.proofs.Common.{◌≡◌, ℕ, suc, ◌+◌, ◌<◌, ◌≤◌, refl, sym, ap, ◌∙◌, List, [], ◌∷◌, ◌++◌, length, get_or, take, drop, map, false, Option, Some, None, Result, Ok, Err, All, arith, add-one, add-zero, zero-add}
 use Rattle.std.specs.Prelude.{option_map}
 use Rattle.std.proofs.Math.Seq.{take-suc, drop-cons}
 use Rattle.std.proofs.lemmas.List.{map-append, length-map, length-take-le, take_all, drop_all}
@@ -10,7 +10,7 @@ use Rattle.tlink.specs.Node.{NodeState, fresh_node}
 use Rattle.tnet.specs.declared.plan.Wire.{Wire}
 use Rattle.tnet.specs.declared.plan.NodePlan.{NodePlan}
 use Rattle.tnet.specs.declared.plan.BuildFault.{BuildFault}
-use Rattle.tnet.specs.declared.plan.BuildFault.TheVariants.{OutOfMemory, BadProcess}
+use Rattle.tnet.specs.declared.plan.BuildFault.TheVariants.{BadProcess}
 use Rattle.tnet.specs.Sound.{IsSoundNode}
 use Rattle.tnet.specs.declared.plan.Plan.{Plan}
 use Rattle.tnet.specs.Building.{AreOpened, IsWellFormed, is_bad_size, bad_segment, machines_of, IsOpened, IsFaultOf, built_machine, bad_process, node_fault, first_fault_from, loaded_machine, or_loaded, wired_links, fresh_nodes}

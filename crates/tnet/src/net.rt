@@ -8,6 +8,7 @@ ghost use Rattle.tnet.specs.View.{view};
 ghost use Rattle.tnet.specs.declared.plan.BuildFault.TheVariants.{OutOfMemory};
 ghost use Rattle.tnet.specs.Building.{built, opening_configuration};
 ghost use Rattle.tnet.specs.Runs.{IsSeenRun, refused, done, done_one};
+ghost use Rattle.tnet.specs.WireLaw.{WiresCarryInOrder};
 
 use crate::event::Event;
 use crate::faults::first_fault;
@@ -84,6 +85,10 @@ impl Net {
         // the headline: whatever was done, what the net shows of it is one run of the rendezvous machine, in which each
         // message that is complete is one step that copies it whole
         ensures run { IsSeenRun self.old (done events.now result) self.new }
+
+        // along every wire and in each direction the bytes are taken in the order in which they were sent, and at most one is
+        // not acknowledged
+        ensures wires { WiresCarryInOrder self.old (done events.now result) self.new }
     {
         self.know_sound();
         for (place, event) in events.iter().enumerate() {
