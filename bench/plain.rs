@@ -1,10 +1,11 @@
-//! A plain, safe emulator of one node, which the benchmarks compare ours with: the same rules, the same checks, the same
-//! tables. Link channels and alternatives are left out. Each benchmark uses a part of it.
+//! A plain, safe emulator of nodes and nets, which the benchmarks compare ours with: the same rules, the same checks, the same
+//! tables. Alternatives are left out. Each benchmark uses a part of it.
 #![allow(dead_code)]
 
 pub mod code;
 pub mod cpu;
 pub mod memory;
+pub mod net;
 pub mod processor;
 pub mod programs;
 

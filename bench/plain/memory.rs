@@ -189,6 +189,14 @@ impl Marks {
         self.outputs.set(link, Some(span));
     }
 
+    pub fn release_in(&mut self, link: usize) {
+        self.inputs.set(link, None);
+    }
+
+    pub fn release_out(&mut self, link: usize) {
+        self.outputs.set(link, None);
+    }
+
     /// The claims let the bytes of a span be read: some bytes of one word.
     #[inline]
     fn check_read_in_word(&self, span: Span) -> Result<(), Break> {
@@ -372,6 +380,18 @@ impl Memory {
             marks.check_write(span)?;
         }
         Ok(())
+    }
+
+    /// A byte that was checked.
+    #[inline]
+    pub fn byte(&self, address: u32) -> u8 {
+        self.bytes[address.wrapping_sub(MOST_NEG) as usize]
+    }
+
+    /// Sets a byte that was checked.
+    #[inline]
+    pub fn set_byte(&mut self, address: u32, byte: u8) {
+        self.bytes[address.wrapping_sub(MOST_NEG) as usize] = byte;
     }
 
     /// Copies bytes that were checked.

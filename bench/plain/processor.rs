@@ -1,4 +1,4 @@
-//! The scheduler and internal channels. Link channels and alternatives are left out.
+//! The scheduler, internal channels, and the processor's half of the links. Alternatives are left out.
 
 use super::code::{decode, Function, Instruction};
 use super::cpu::{jumps, local, Next, Registers};
@@ -6,6 +6,11 @@ use super::memory::{Break, Marks, Memory, Span, ROOM};
 use std::collections::{HashMap, VecDeque};
 
 const NOT_PROCESS: u32 = 0x8000_0000;
+
+/// The channel words of the links: those of the outputs from the first on, then those of the inputs.
+const LINK_OUTPUTS: u32 = 0x8000_0000;
+const LINK_INPUTS: u32 = 0x8000_0010;
+const LINKS_END: u32 = 0x8000_0020;
 
 /// The words below a workspace: saved Iptr, queue link, message pointer.
 const IPTR: u32 = 1;
@@ -16,6 +21,8 @@ const BUFFER: u32 = 3;
 pub enum Ran {
     Instruction,
     Dispatch,
+    LinkOut(u8),
+    LinkIn(u8),
     Halting,
     Idle,
     Halted,
@@ -40,6 +47,14 @@ struct Waiting {
     channel: u32,
     buffer: u32,
     length: u32,
+}
+
+/// A message that is pending at a link.
+#[derive(Clone, Copy)]
+pub struct Offer {
+    process: u32,
+    buffer: u32,
+    pub length: u32,
 }
 
 #[derive(Clone, Copy)]
@@ -80,6 +95,9 @@ pub struct Processor {
     high: VecDeque<u32>,
     low: VecDeque<u32>,
     waiting: HashMap<u32, Waiting>,
+    outputs: [Option<Offer>; 4],
+    inputs: [Option<Offer>; 4],
+    noticed: [bool; 4],
     timeslice: u32,
     halted: bool,
 }
@@ -96,6 +114,9 @@ impl Processor {
             high: VecDeque::with_capacity(ROOM),
             low: VecDeque::with_capacity(ROOM),
             waiting: HashMap::with_capacity(ROOM),
+            outputs: [None; 4],
+            inputs: [None; 4],
+            noticed: [false; 4],
             timeslice,
             halted: false,
         }
@@ -246,7 +267,8 @@ impl Processor {
 
     fn has_room(&self) -> bool {
         let unqueued = usize::from(self.current.is_some()) + usize::from(self.interrupted.is_some());
-        self.high.len() + self.low.len() + self.waiting.len() + unqueued < ROOM
+        let pending = self.outputs.iter().chain(&self.inputs).flatten().count();
+        self.high.len() + self.low.len() + self.waiting.len() + pending + unqueued < ROOM
     }
 
     fn admit(&mut self, process: u32) -> Result<(), Break> {
@@ -291,10 +313,10 @@ impl Processor {
                 let a = self.bit(priority);
                 self.go(priority, Registers { a, b: r.a, c: r.b, iptr: next, ..r });
             }
-            0x07 => self.communicate_from_stack(priority, Side::Input, next)?,
-            0x0b => self.communicate_from_stack(priority, Side::Output, next)?,
-            0x0e => self.send_from_workspace(priority, 1, next)?,
-            0x0f => self.send_from_workspace(priority, 4, next)?,
+            0x07 => return self.communicate_from_stack(priority, Side::Input, next),
+            0x0b => return self.communicate_from_stack(priority, Side::Output, next),
+            0x0e => return self.send_from_workspace(priority, 1, next),
+            0x0f => return self.send_from_workspace(priority, 4, next),
             _ => return Err(Break::NoSuchOperation),
         }
         Ok(Ran::Instruction)
@@ -332,13 +354,13 @@ impl Processor {
         Ok(())
     }
 
-    fn communicate_from_stack(&mut self, priority: Priority, side: Side, next: u32) -> Result<(), Break> {
+    fn communicate_from_stack(&mut self, priority: Priority, side: Side, next: u32) -> Result<Ran, Break> {
         let r = self.registers;
         let request = Request { side, channel: r.b, buffer: r.c, length: r.a, first: None };
         self.communicate(priority, request, next)
     }
 
-    fn send_from_workspace(&mut self, priority: Priority, length: u32, next: u32) -> Result<(), Break> {
+    fn send_from_workspace(&mut self, priority: Priority, length: u32, next: u32) -> Result<Ran, Break> {
         let r = self.registers;
         self.memory.writable(&self.marks, r.wptr)?;
         let request =
@@ -346,9 +368,17 @@ impl Processor {
         self.communicate(priority, request, next)
     }
 
-    /// A process asks for a message on an internal channel, or offers one: it waits for its partner, or the two meet.
-    fn communicate(&mut self, priority: Priority, request: Request, next: u32) -> Result<(), Break> {
-        require(request.channel >= 0x8000_0020, Break::NoSuchOperation)?;
+    /// A process asks for a message on a channel, or offers one.
+    fn communicate(&mut self, priority: Priority, request: Request, next: u32) -> Result<Ran, Break> {
+        if (LINK_OUTPUTS..LINKS_END).contains(&request.channel) {
+            return self.wait_on_link(priority, request, next);
+        }
+        self.communicate_inside(priority, request, next)?;
+        Ok(Ran::Instruction)
+    }
+
+    /// The same on an internal channel: the process waits for its partner, or the two meet.
+    fn communicate_inside(&mut self, priority: Priority, request: Request, next: u32) -> Result<(), Break> {
         let found = self.memory.take_word(&self.marks, request.channel)?;
         let partner = self.waiting.get(&found).copied();
         match partner {
@@ -357,6 +387,92 @@ impl Processor {
                 self.meet(priority, request, found, waiting, next)
             }
             _ => Err(Break::ChannelMisuse),
+        }
+    }
+
+    /// The link of a channel word, for this side of a message.
+    fn link_of(side: Side, channel: u32) -> Result<u8, Break> {
+        require(channel % 4 == 0, Break::Unaligned)?;
+        let first = if side == Side::Input { LINK_INPUTS } else { LINK_OUTPUTS };
+        let link = channel.wrapping_sub(first) / 4;
+        require(link < 4, Break::WrongEnd)?;
+        Ok(link as u8)
+    }
+
+    /// The message of a process is pending at a link from now on, and its buffer is claimed.
+    fn wait_on_link(&mut self, priority: Priority, request: Request, next: u32) -> Result<Ran, Break> {
+        let Request { side, channel, buffer, length, first } = request;
+        let number = Self::link_of(side, channel)?;
+        let link = usize::from(number);
+        require(length != 0, Break::ZeroLength)?;
+        let pending = if side == Side::Input { self.inputs[link] } else { self.outputs[link] };
+        require(pending.is_none(), Break::LinkBusy)?;
+        let wptr = self.registers.wptr;
+        self.memory.may_deschedule(&self.marks, wptr)?;
+        let span = Span { start: buffer, size: length };
+        match side {
+            Side::Input => self.memory.may_write(&self.marks, span)?,
+            Side::Output => self.memory.may_read(&self.marks, span)?,
+        }
+        require(!span.overlaps(Span::below(wptr)), Break::SavedWord)?;
+        if let Some(word) = first {
+            self.memory.write_word(&self.marks, wptr, word)?;
+        }
+        self.deschedule(wptr, next);
+        let offer = Offer { process: wptr | self.bit(priority), buffer, length };
+        self.rest();
+        Ok(match side {
+            Side::Input => {
+                self.marks.claim_in(link, span);
+                self.inputs[link] = Some(offer);
+                self.noticed[link] = false;
+                Ran::LinkIn(number)
+            }
+            Side::Output => {
+                self.marks.claim_out(link, span);
+                self.outputs[link] = Some(offer);
+                Ran::LinkOut(number)
+            }
+        })
+    }
+
+    #[inline]
+    pub fn pending_out(&self, link: u8) -> Option<Offer> {
+        self.outputs.get(usize::from(link)).copied().flatten()
+    }
+
+    #[inline]
+    pub fn pending_in(&self, link: u8) -> Option<Offer> {
+        self.inputs.get(usize::from(link)).copied().flatten()
+    }
+
+    /// Byte `at` of a pending output.
+    #[inline]
+    pub fn out_byte(&self, offer: Offer, at: u32) -> u8 {
+        self.memory.byte(offer.buffer.wrapping_add(at))
+    }
+
+    /// Byte `at` of a pending input is set.
+    #[inline]
+    pub fn in_byte(&mut self, offer: Offer, at: u32, byte: u8) {
+        self.memory.set_byte(offer.buffer.wrapping_add(at), byte);
+    }
+
+    pub fn notice(&mut self, link: u8) {
+        self.noticed[usize::from(link)] = true;
+    }
+
+    pub fn finish_out(&mut self, link: u8) {
+        if let Some(offer) = self.outputs[usize::from(link)].take() {
+            self.marks.release_out(usize::from(link));
+            self.enqueue(offer.process);
+        }
+    }
+
+    pub fn finish_in(&mut self, link: u8) {
+        if let Some(offer) = self.inputs[usize::from(link)].take() {
+            self.marks.release_in(usize::from(link));
+            self.enqueue(offer.process);
         }
     }
 

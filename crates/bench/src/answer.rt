@@ -1,5 +1,7 @@
 //! What a benchmark answers.
 
+use std::alloc::AllocError;
+use tnet::BuildFault;
 use tword::{Break, MemoryFault};
 
 /// What was done, and a checksum of what came out.
@@ -17,6 +19,10 @@ pub enum Fault {
     Memory(MemoryFault),
     /// An access breaks a rule.
     Broken(Break),
+    /// There is no memory for a plan.
+    Refused(AllocError),
+    /// A net is not to be had.
+    Unbuilt(BuildFault),
 }
 
 /// Where a checksum begins: FNV-1a's number.

@@ -5,11 +5,13 @@
 mod answer;
 mod local_loop;
 mod mixed_code;
+mod nets;
 mod programs;
 mod scheduling;
 
 use answer::{Answer, Fault};
 use local_loop::Claims;
+use nets::Ring;
 use scheduling::{Job, Others};
 use std::alloc::Global;
 use std::{env, io};
@@ -20,10 +22,11 @@ enum Benchmark {
     Decode,
     Local(Claims),
     Processor(Job),
+    Net(Ring),
 }
 
 /// All of them, by name.
-const BENCHMARKS: [(&str, Benchmark); 13] = [
+const BENCHMARKS: [(&str, Benchmark); 16] = [
     ("decode", Benchmark::Decode),
     ("local", Benchmark::Local(Claims::Nothing)),
     ("local-links", Benchmark::Local(Claims::LinkBuffers)),
@@ -55,6 +58,27 @@ const BENCHMARKS: [(&str, Benchmark); 13] = [
         "message-1024-500",
         Benchmark::Processor(Job::Message(1_024, Others::Waiting(498))),
     ),
+    (
+        "net-byte",
+        Benchmark::Net(Ring {
+            nodes: 2,
+            length: 1,
+        }),
+    ),
+    (
+        "net-kilobyte",
+        Benchmark::Net(Ring {
+            nodes: 2,
+            length: 1_024,
+        }),
+    ),
+    (
+        "net-ring",
+        Benchmark::Net(Ring {
+            nodes: 64,
+            length: 4,
+        }),
+    ),
 ];
 
 /// Does so much work of a benchmark.
@@ -63,6 +87,7 @@ fn done(alloc: Global, benchmark: Benchmark, amount: u32) -> Result<Answer, Faul
         Benchmark::Decode => mixed_code::decoded(alloc, amount),
         Benchmark::Local(claims) => local_loop::looped(alloc, amount, claims),
         Benchmark::Processor(job) => scheduling::worked(alloc, amount, job),
+        Benchmark::Net(ring) => nets::went_round(alloc, amount, ring),
     }
 }
 

@@ -1,0 +1,148 @@
+//! Nodes in a ring that send messages on, event by event.
+
+use crate::answer::{Answer, BEGIN, Fault, checksum, mixed};
+use crate::programs::{PING, PONG, START};
+use std::alloc::{AllocError, Global};
+use tlink::StepFault;
+use tnet::{Act, End, Event, Image, Net, NodePlan, Plan, Process, Segment, Wire};
+use tword::{Items, Word};
+
+const MEMORY: u32 = 16_384;
+
+const WORKSPACE: u32 = 0x8000_1000;
+
+const BUFFER: u32 = 0x8000_2000;
+
+/// The channel word of the output of link 1.
+const ONWARD: u32 = 0x8000_0004;
+
+/// The channel word of the input of link 2.
+const BACK: u32 = 0x8000_0018;
+
+/// How many Runs a node does at most in one turn.
+const SLICE: u32 = 64;
+
+/// So many nodes, each wired from its link 1 to link 2 of the next, with messages of so many bytes.
+#[derive(Clone, Copy, Debug, PartialEq, Eq)]
+pub struct Ring {
+    pub nodes: u8,
+    pub length: u32,
+}
+
+/// Bytes that are loaded at an address.
+fn segment(alloc: Global, address: u32, bytes: &[u8]) -> Result<Segment, AllocError> {
+    Ok(Segment {
+        address: Word::new(address),
+        bytes: Items::new(Vec::from_slice(alloc, bytes)?),
+    })
+}
+
+/// A node with this code, which finds these words in its workspace.
+fn node(alloc: Global, code: &[u8], words: [u32; 4]) -> Result<NodePlan, AllocError> {
+    let mut segments = Vec::new(alloc);
+    segments.push(segment(alloc, START, code)?)?;
+    let mut address = WORKSPACE;
+    for word in words {
+        segments.push(segment(alloc, address, &word.to_le_bytes())?)?;
+        address = address.wrapping_add(4);
+    }
+    let process = Process {
+        wdesc: Word::new(WORKSPACE + 1),
+        iptr: Word::new(START),
+    };
+    Ok(NodePlan {
+        memory: MEMORY,
+        image: Image {
+            segments: Items::new(segments),
+            processes: Items::new(Vec::from_slice(alloc, &[process])?),
+        },
+    })
+}
+
+/// By turns a node that sends on what it has, and then waits for the next, and one that waits first.
+fn plan(alloc: Global, ring: Ring) -> Result<Plan, AllocError> {
+    let mut nodes = Vec::new(alloc);
+    let mut wires = Vec::new(alloc);
+    for number in 0..ring.nodes {
+        let planned = if number % 2 == 0 {
+            node(alloc, &PING, [ONWARD, BACK, BUFFER, ring.length])?
+        } else {
+            node(alloc, &PONG, [BACK, ONWARD, BUFFER, ring.length])?
+        };
+        nodes.push(planned)?;
+        let next = u32::from(number) + 1;
+        wires.push(Wire {
+            a: End {
+                node: u32::from(number),
+                link: 1,
+            },
+            b: End {
+                node: if next == u32::from(ring.nodes) {
+                    0
+                } else {
+                    next
+                },
+                link: 2,
+            },
+        })?;
+    }
+    Ok(Plan {
+        timeslice: 1_024,
+        nodes: Items::new(nodes),
+        wires: Items::new(wires),
+    })
+}
+
+/// One event, if it is enabled: whether it was done.
+#[inline]
+fn tried(net: &mut Net, node: u8, act: Act) -> bool {
+    !matches!(&net.step(Event { node, act }), Err(StepFault::NotEnabled))
+}
+
+/// One node does what comes and what it can: how many events that was.
+#[inline]
+fn turn(net: &mut Net, node: u8) -> u32 {
+    let mut done = 0u32;
+    for act in [Act::Ack(1), Act::Data(2), Act::Take(2)] {
+        if tried(net, node, act) {
+            done = done.wrapping_add(1);
+        }
+    }
+    for _ in 0..SLICE {
+        if !tried(net, node, Act::Run) {
+            break;
+        }
+        done = done.wrapping_add(1);
+    }
+    if tried(net, node, Act::Send(1)) {
+        done = done.wrapping_add(1);
+    }
+    done
+}
+
+/// So many turns, one node after the other: how many events were done.
+#[inline(never)]
+fn turns(net: &mut Net, ring: Ring, count: u64) -> u64 {
+    let mut done = 0u64;
+    let mut node = 0u8;
+    for _ in 0..count {
+        done = done.wrapping_add(u64::from(turn(net, node)));
+        node = node.wrapping_add(1);
+        if node >= ring.nodes {
+            node = 0;
+        }
+    }
+    done
+}
+
+/// Does so many thousand turns, and answers with the number of events and a checksum of the memories.
+pub fn went_round(alloc: Global, thousands: u32, ring: Ring) -> Result<Answer, Fault> {
+    let plan = plan(alloc, ring).map_err(Fault::Refused)?;
+    let mut net = Net::build(alloc, plan).map_err(Fault::Unbuilt)?;
+    let operations = turns(&mut net, ring, u64::from(thousands) * 1_000);
+    let mut sum = mixed(BEGIN, (operations % 4_294_967_296) as u32);
+    for node in net.nodes() {
+        sum = checksum(sum, node.processor().bytes());
+    }
+    Ok(Answer { operations, sum })
+}
