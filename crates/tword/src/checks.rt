@@ -20,7 +20,7 @@ impl Memory {
     ///
     /// # Errors
     /// `BadAddress` where one lies outside, else `Reserved` where one lies below the first address that programs may use. A span without bytes passes.
-    #[inline]
+    #[inline(always)]
     fn lies_open(&self, start: Word, size: u32) -> Result<(), Break>
         ensures { result ≡ or_break (place_break (length self.now) (record { start = start; size = size })) tt }
     {
@@ -41,7 +41,7 @@ impl Memory {
     ///
     /// # Errors
     /// The first of `BadAddress`, `Reserved`, `InTransit`, `SavedWord` that holds of one of them. A span without bytes passes.
-    #[inline]
+    #[inline(always)]
     #[tactic(auto, unfolding(crate::specs::Touches::span_break))]
     pub fn may_read(&self, marks: &Marks, start: Word, size: u32) -> Result<(), Break>
         ensures checks { result ≡ or_break (span_break (length self.now) marks.now Reads (record { start = start; size = size })) tt }
@@ -55,7 +55,7 @@ impl Memory {
     ///
     /// # Errors
     /// The first of `BadAddress`, `Reserved`, `InTransit`, `SavedWord` that holds of one of them. A span without bytes passes.
-    #[inline]
+    #[inline(always)]
     #[tactic(auto, unfolding(crate::specs::Touches::span_break))]
     pub fn may_write(&self, marks: &Marks, start: Word, size: u32) -> Result<(), Break>
         ensures checks { result ≡ or_break (span_break (length self.now) marks.now Writes (record { start = start; size = size })) tt }
@@ -69,7 +69,7 @@ impl Memory {
     ///
     /// # Errors
     /// `Unaligned` where the address is no multiple of 4, else `BadAddress`, else `Reserved`.
-    #[inline]
+    #[inline(always)]
     fn is_open_word(&self, address: Word) -> Result<(), Break>
         ensures { result ≡ or_break (word_place_break (length self.now) address) tt }
     {
@@ -90,7 +90,7 @@ impl Memory {
     ///
     /// # Errors
     /// The first of `Unaligned`, `BadAddress`, `Reserved`, `InTransit`, `SavedWord` that holds of it.
-    #[inline]
+    #[inline(always)]
     #[tactic(auto, unfolding(crate::specs::Touches::word_break, crate::specs::Touches::span_break))]
     pub fn may_read_word(&self, marks: &Marks, address: Word) -> Result<(), Break>
         ensures checks { result ≡ or_break (word_break (length self.now) marks.now Reads address) tt }
@@ -104,7 +104,7 @@ impl Memory {
     ///
     /// # Errors
     /// The first of `Unaligned`, `BadAddress`, `Reserved`, `InTransit`, `SavedWord` that holds of it.
-    #[inline]
+    #[inline(always)]
     #[tactic(auto, unfolding(crate::specs::Touches::word_break, crate::specs::Touches::span_break))]
     pub fn may_write_word(&self, marks: &Marks, address: Word) -> Result<(), Break>
         ensures checks { result ≡ or_break (word_break (length self.now) marks.now Writes address) tt }

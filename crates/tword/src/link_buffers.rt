@@ -1,9 +1,9 @@
 //! The buffers of pending link messages.
 
-ghost use Rattle.std.specs.Prelude.{◌≡◌, ◌+◌, ◌<◌, ◌≤◌, ◌^◌, None, Some, replicate, slice_set};
+ghost use Rattle.std.specs.Prelude.{◌≡◌, ◌+◌, ◌<◌, ◌≤◌, ◌^◌, None, Some, replicate, slice_set, true, false};
 ghost use Rattle.std.specs.List.{list_any};
 ghost use Rattle.tword.specs.Claims.{overlaps_claim};
-ghost use Rattle.tword.specs.Hulls.{IsWithin, AreWithin};
+ghost use Rattle.tword.specs.Hulls.{IsWithin, AreWithin, bounds_of, meets};
 
 use crate::span::Span;
 use std::marker::Model;
@@ -13,10 +13,11 @@ const NOTHING: (u64, u64) = (u64::MAX, 0);
 
 /// The buffers that the inputs, or the outputs, of the four links claim. Contracts see them by link.
 ///
-/// `low` and `high` bound them all, so that most touches need no look at each. They are taken anew with each change.
+/// `bounds` has those of each, and `low` and `high` bound them all, so that most touches need no look at each. The latter are taken anew with each change.
 #[derive(Drop)]
 pub struct LinkBuffers {
     claimed: [Option<Span>; 4],
+    bounds: [(u64, u64); 4],
     low: u64,
     high: u64,
 }
@@ -24,13 +25,14 @@ pub struct LinkBuffers {
 impl Model for LinkBuffers {
     ghost use Rattle.std.specs.Prelude.{List, Option};
     ghost use Rattle.tword.specs.declared.span.Span.{Span};
-    ghost use Rattle.tword.specs.Hulls.{AreWithin};
+    ghost use Rattle.std.specs.Prelude.{◌≡◌, map};
+    ghost use Rattle.tword.specs.Hulls.{AreWithin, bounds_of};
 
     ghost Value = { List (Option Span) };
 
     ghost view = { λ b. b.claimed };
 
-    ghost invariant = { λ b. AreWithin b.low b.high b.claimed };
+    ghost invariant = { λ b. AreWithin b.low b.high b.claimed × (b.bounds ≡ map bounds_of b.claimed) };
 }
 
 /// Bounds that have room for one more claim.
@@ -48,6 +50,16 @@ fn widened(bounds: (u64, u64), claim: &Option<Span>) -> (u64, u64)
             (low, high)
         }
         None => (low, high),
+    }
+}
+
+/// The bounds of what is claimed, or bounds that have room for nothing.
+fn bounds_of(claim: &Option<Span>) -> (u64, u64)
+    ensures { result ≡ bounds_of claim.now }
+{
+    match claim {
+        Some(span) if span.size != 0 => span.bounds(),
+        _ => NOTHING,
     }
 }
 
@@ -69,21 +81,28 @@ impl LinkBuffers {
     {
         LinkBuffers {
             claimed: [None; 4],
+            bounds: [NOTHING; 4],
             low: NOTHING.0,
             high: NOTHING.1,
         }
     }
 
+    /// Whether the bounds of all that is claimed show that the span has no byte in common with it.
+    #[inline(always)]
+    pub fn is_clear_of(&self, span: &Span) -> bool
+        ensures { result ≡ true → list_any (overlaps_claim span.now) self.now ≡ false }
+    {
+        let (start, end) = span.bounds();
+        self.high <= start || end <= self.low
+    }
+
     /// Whether one of them has a byte in common with the span.
-    #[inline]
+    #[inline(always)]
     pub fn overlap(&self, span: &Span) -> bool
         ensures { result ≡ list_any (overlaps_claim span.now) self.now }
     {
         let (start, end) = span.bounds();
-        if self.high <= start || end <= self.low {
-            return false;
-        }
-        any_overlaps(&self.claimed, span)
+        start < end && any_meets(&self.bounds, start, end)
     }
 
     /// The link claims a buffer.
@@ -91,8 +110,7 @@ impl LinkBuffers {
         requires { link < 4 }
         ensures { self.new ≡ slice_set self.old link (Some span) }
     {
-        self.claimed[usize::from(link)] = Some(span);
-        (self.low, self.high) = hull(&self.claimed);
+        self.put(link, Some(span));
     }
 
     /// The link claims none.
@@ -100,22 +118,24 @@ impl LinkBuffers {
         requires { link < 4 }
         ensures { self.new ≡ slice_set self.old link None }
     {
-        self.claimed[usize::from(link)] = None;
+        self.put(link, None);
+    }
+
+    /// What the link claims.
+    fn put(&mut self, link: u8, claim: Option<Span>)
+        requires { link < 4 }
+        ensures { self.new ≡ slice_set self.old link claim }
+    {
+        self.bounds[usize::from(link)] = bounds_of(&claim);
+        self.claimed[usize::from(link)] = claim;
         (self.low, self.high) = hull(&self.claimed);
     }
 }
 
-/// Whether one of the claims has a byte in common with the span.
-#[inline(never)]
-fn any_overlaps(claimed: &[Option<Span>], span: &Span) -> bool
-    ensures { result ≡ list_any (overlaps_claim span.now) claimed.now }
+/// Whether one of some bounds has room for a byte from `start` up to that before `end`.
+#[inline(always)]
+fn any_meets(all: &[(u64, u64)], start: u64, end: u64) -> bool
+    ensures { result ≡ list_any (meets start end) all.now }
 {
-    for claim in claimed {
-        if let Some(buffer) = claim
-            && span.overlaps(buffer)
-        {
-            return true;
-        }
-    }
-    false
+    all.iter().any(|bounds| start < bounds.1 && bounds.0 < end)
 }

@@ -61,15 +61,31 @@ impl Marks {
     ///
     /// # Errors
     /// `InTransit` where one of them belongs to a pending input, else `SavedWord`.
-    #[inline]
+    // The look at each claim stays out of line, in one place, so that the common case is small where it is inlined.
+    #[inline(always)]
     pub fn may_read(&self, start: Word, size: u32) -> Result<(), Break>
+        ensures { result ≡ or_break (claim_break self.now Reads (record { start = start; size = size })) tt }
+    {
+        let span = Span { start, size };
+        if !(self.inputs.is_clear_of(&span) && self.saved.is_clear_of(&span)) {
+            self.may_read_closely(start, size)?;
+        }
+        Ok(())
+    }
+
+    /// Whether each claim lets the bytes of a span be read.
+    ///
+    /// # Errors
+    /// As `may_read`.
+    #[inline(never)]
+    fn may_read_closely(&self, start: Word, size: u32) -> Result<(), Break>
         ensures { result ≡ or_break (claim_break self.now Reads (record { start = start; size = size })) tt }
     {
         let span = Span { start, size };
         if self.inputs.overlap(&span) {
             return Err(Break::InTransit);
         }
-        if self.saved.overlap(&span) {
+        if !self.saved.is_clear_of(&span) && self.saved.overlap(start, size) {
             return Err(Break::SavedWord);
         }
         Ok(())
@@ -79,15 +95,33 @@ impl Marks {
     ///
     /// # Errors
     /// `InTransit` where one of them belongs to a pending message, else `SavedWord`.
-    #[inline]
+    #[inline(always)]
     pub fn may_write(&self, start: Word, size: u32) -> Result<(), Break>
+        ensures { result ≡ or_break (claim_break self.now Writes (record { start = start; size = size })) tt }
+    {
+        let span = Span { start, size };
+        if !(self.inputs.is_clear_of(&span)
+            && self.outputs.is_clear_of(&span)
+            && self.saved.is_clear_of(&span))
+        {
+            self.may_write_closely(start, size)?;
+        }
+        Ok(())
+    }
+
+    /// Whether each claim lets the bytes of a span be written.
+    ///
+    /// # Errors
+    /// As `may_write`.
+    #[inline(never)]
+    fn may_write_closely(&self, start: Word, size: u32) -> Result<(), Break>
         ensures { result ≡ or_break (claim_break self.now Writes (record { start = start; size = size })) tt }
     {
         let span = Span { start, size };
         if self.inputs.overlap(&span) || self.outputs.overlap(&span) {
             return Err(Break::InTransit);
         }
-        if self.saved.overlap(&span) {
+        if !self.saved.is_clear_of(&span) && self.saved.overlap(start, size) {
             return Err(Break::SavedWord);
         }
         Ok(())

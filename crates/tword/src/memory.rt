@@ -63,7 +63,7 @@ impl Memory {
     }
 
     /// How many bytes it has.
-    #[inline]
+    #[inline(always)]
     pub fn size(&self) -> u32
         ensures is { result ≡ length self.now }
         ensures sized { IsMemorySize result }
@@ -72,7 +72,7 @@ impl Memory {
     }
 
     /// Its bytes, the one of the least address first.
-    #[inline]
+    #[inline(always)]
     pub fn bytes(&self) -> &[u8]
         ensures bytes { as_cells result.now ≡ self.now }
         ensures sized { IsMemorySize (length result.now) }
@@ -84,7 +84,7 @@ impl Memory {
     ///
     /// # Errors
     /// The first of `Unaligned`, `BadAddress`, `Reserved`, `InTransit`, `SavedWord` that holds of a read of the word (own choice of the checks).
-    #[inline]
+    #[inline(always)]
     pub fn read_word(&self, marks: &Marks, address: Word) -> Result<Word, Break>
         ensures { result ≡ or_break (word_break (length self.now) marks.now Reads address) (word_at self.now address) }
     {
@@ -96,7 +96,7 @@ impl Memory {
     ///
     /// # Errors
     /// As `write_word`.
-    #[inline]
+    #[inline(always)]
     pub fn take_word(&self, marks: &Marks, address: Word) -> Result<Word, Break>
         ensures { result ≡ or_break (word_break (length self.now) marks.now Writes address) (word_at self.now address) }
     {
@@ -109,7 +109,7 @@ impl Memory {
     ///
     /// # Errors
     /// The first of `Unaligned`, `BadAddress`, `Reserved`, `InTransit`, `SavedWord` that holds of a write of the word; nothing is changed then.
-    #[inline]
+    #[inline(always)]
     pub fn write_word(&mut self, marks: &Marks, address: Word, value: Word) -> Result<(), Break>
         ensures changes { Changing (word_break (length self.old) marks.now Writes address) self.old (with_word self.old address value) result self.new }
         ensures sized { length self.new ≡ length self.old }
@@ -123,7 +123,7 @@ impl Memory {
     ///
     /// # Errors
     /// The first of `BadAddress`, `Reserved`, `InTransit`, `SavedWord` that holds of a read of the byte.
-    #[inline]
+    #[inline(always)]
     pub fn read_byte(&self, marks: &Marks, address: Word) -> Result<u8, Break>
         ensures { result ≡ or_break (span_break (length self.now) marks.now Reads (byte_span address)) (unwrap_or (byte_at self.now address) 0) }
     {
@@ -135,7 +135,7 @@ impl Memory {
     ///
     /// # Errors
     /// The first of `BadAddress`, `Reserved`, `InTransit`, `SavedWord` that holds of a write of the byte; nothing is changed then.
-    #[inline]
+    #[inline(always)]
     pub fn write_byte(&mut self, marks: &Marks, address: Word, value: u8) -> Result<(), Break>
         ensures changes { Changing (span_break (length self.old) marks.now Writes (byte_span address)) self.old (with_cells self.old address (as_cells (value ∷ []))) result self.new }
         ensures sized { length self.new ≡ length self.old }
@@ -146,7 +146,7 @@ impl Memory {
     }
 
     /// The word at an address, for a caller that has checked it.
-    #[inline]
+    #[inline(always)]
     pub fn word(&self, address: Word) -> Word
         requires { is_inside (length self.now) (word_span address) ≡ true }
         ensures { result ≡ word_at self.now address }
@@ -155,7 +155,7 @@ impl Memory {
     }
 
     /// Sets the word at an address, for a caller that has checked it.
-    #[inline]
+    #[inline(always)]
     pub fn set_word(&mut self, address: Word, value: Word)
         requires { is_inside (length self.old) (word_span address) ≡ true }
         ensures set { self.new ≡ with_word self.old address value }
@@ -165,7 +165,7 @@ impl Memory {
     }
 
     /// The byte at an address, for a caller that has checked it.
-    #[inline]
+    #[inline(always)]
     pub fn byte(&self, address: Word) -> u8
         requires { is_inside (length self.now) (byte_span address) ≡ true }
         ensures { byte_at self.now address ≡ Some result }
@@ -174,7 +174,7 @@ impl Memory {
     }
 
     /// Sets the byte at an address, for a caller that has checked it.
-    #[inline]
+    #[inline(always)]
     pub fn set_byte(&mut self, address: Word, value: u8)
         requires { is_inside (length self.old) (byte_span address) ≡ true }
         ensures set { self.new ≡ with_cells self.old address (as_cells (value ∷ [])) }
@@ -215,7 +215,7 @@ impl Memory {
 }
 
 /// How far an address lies above the least one, where it does not lie below.
-#[inline]
+#[inline(always)]
 fn place(address: Word) -> usize
     requires { most_neg ≤ address }
     ensures { result ≡ the_place address }
@@ -232,7 +232,7 @@ fn put_bytes(all: &mut [u8], at: usize, bytes: &[u8])
 }
 
 /// The word that lies in bytes, the lowest byte first.
-#[inline]
+#[inline(always)]
 fn word_in(bytes: &[u8], at: usize) -> u32
     requires { at + 4 ≤ length bytes.now }
     ensures { result ≡ from_le_bytes w32 (slice_range bytes.now at (at + 4)) }
@@ -241,7 +241,7 @@ fn word_in(bytes: &[u8], at: usize) -> u32
 }
 
 /// Writes a word into bytes, the lowest byte first.
-#[inline]
+#[inline(always)]
 fn put_word(bytes: &mut [u8], at: usize, value: u32)
     requires { at + 4 ≤ length bytes.old }
     ensures { bytes.new ≡ take at bytes.old ++ to_le_bytes w32 value ++ drop (at + 4) bytes.old }

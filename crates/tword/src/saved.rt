@@ -77,30 +77,28 @@ impl Saved {
         self.place_of(workspace).is_some()
     }
 
-    /// Whether a saved word has a byte in common with the span.
-    #[inline]
-    pub fn overlap(&self, span: &Span) -> bool
-        ensures { result ≡ list_any (λ w. overlap span.now (saved_words w)) self.now }
+    /// Whether the span lies within one word, whose slot is empty: it has no byte in common with a saved word then.
+    #[inline(always)]
+    pub fn is_clear_of(&self, span: &Span) -> bool
+        ensures { result ≡ true → list_any (λ w. overlap span.now (saved_words w)) self.now ≡ false }
     {
-        let (start, end) = span.bounds();
-        if end <= start / 4 * 4 + 4 && self.counts[(start / 4 % 65_536) as usize] == 0 {
-            return false;
-        }
-        self.overlap_many(span)
+        let address = span.start.get();
+        u64::from(address % 4) + u64::from(span.size) <= 4 && self.counts[slot_of(address)] == 0
     }
 
-    /// The same for a span of several words, or where a word falls into a slot that is taken.
+    /// Whether a saved word has a byte in common with a span.
     #[inline(never)]
-    fn overlap_many(&self, span: &Span) -> bool
-        ensures { result ≡ list_any (λ w. overlap span.now (saved_words w)) self.now }
+    pub fn overlap(&self, start: Word, size: u32) -> bool
+        ensures { result ≡ list_any (λ w. overlap (record { start = start; size = size }) (saved_words w)) self.now }
     {
+        let span = Span { start, size };
         let (start, end) = span.bounds();
         let first = start / 4;
         let behind = (end + 3) / 4;
         if behind - first <= FEW && are_empty(self.counts.as_slice(), first, behind) {
             return false;
         }
-        any_overlaps(self.workspaces.as_slice(), span)
+        any_overlaps(self.workspaces.as_slice(), &span)
     }
 
     /// The words of one more workspace are saved.

@@ -1,13 +1,20 @@
-use Rattle.std.proofs.Common.{◌≤◌, ◌+◌, ◌⊎◌, inl, inr, sym, arith}
-use Rattle.tword.proofs.HullSteps.{outside}
+use Rattle.std.proofs.Common.{ℕ, List, ◌+◌, ◌<◌, sym, ap, ◌∙◌, refl, arith}
+use Rattle.std.proofs.lemmas.Bool.{le-ltb}
+use Rattle.std.specs.List.{list_any}
+use Rattle.tword.specs.Hulls.{meets}
+use Rattle.tword.proofs.HullSteps.{meets_any, no_byte_overlaps}
 use Rattle.tword.proofs.link_buffers.LinkBuffers.overlap.Goals as goal
-use Rattle.tword.proofs.link_buffers.LinkBuffers.overlap.Goals.{then-self-start-via-then-self-start, then-self-start-via-else-self-start+then-end-self}
 
-pub returns-then-self-start : goal.returns-then-self-start
-returns-then-self-start c =
-    let side : (c.self.inside.high ≤ c.args.span.now.start) ⊎ (c.args.span.now.start + c.args.span.now.size ≤ c.self.inside.low) =
-    elim c.then-self-start.branch [
-      | then-self-start-via-then-self-start w ↦ inl (omega arith)
-      | then-self-start-via-else-self-start+then-end-self w ↦ inr (omega arith)
-    ] in
-    rw (← c.self.view_is) (sym (outside _ _ _ _ c.self.inside.claimed c.self.invariant side))
+pub returns-then-start-end : goal.returns-then-start-end
+returns-then-start-end c =
+    let start = c.args.span.now.start in
+    let size = c.args.span.now.size in
+    let some : 0 < size = omega arith in
+    c.any_meets.ensures
+    ∙ rw (c.bounds-start.ensures.first, c.bounds-start.ensures.behind) (ap (λ (bs : List (ℕ × ℕ)). list_any (meets start (start + size)) bs) c.self.invariant.1)
+    ∙ meets_any start size c.self.inside.claimed some
+    ∙ rw (← c.self.view_is) refl
+
+pub returns-else-start-end : goal.returns-else-start-end
+returns-else-start-end c =
+    le-ltb _ _ (omega arith) ∙ rw (← c.self.view_is) (sym (no_byte_overlaps _ _ c.self.inside.claimed (omega arith)))
