@@ -70,6 +70,7 @@ pub fn load_pointer_to_instruction(registers: &mut Registers) -> Next
 ///
 /// # Errors
 /// `Unaligned` where A is no multiple of 4.
+#[inline(always)]
 pub fn general_adjust_workspace(
     registers: &mut Registers,
     memory: &Memory,
@@ -91,7 +92,7 @@ pub fn general_adjust_workspace(
 ///
 /// # Errors
 /// The break of the first of the four words, from the lowest up, that may not be written.
-#[inline]
+#[inline(always)]
 pub fn call(
     registers: &mut Registers,
     memory: &mut Memory,
@@ -119,7 +120,7 @@ pub fn call(
 ///
 /// # Errors
 /// The break of the first of them, from the lowest up, that may not be written.
-#[inline]
+#[inline(never)]
 pub fn may_call(registers: &Registers, memory: &Memory, marks: &Marks) -> Result<(), Break>
     ensures checks { result ≡ or_break (
         first_break (word_break (length memory.now) marks.now Writes (minus registers.now.wptr 16)) (
