@@ -11,6 +11,9 @@ pub mod image;
 pub mod last_line;
 pub mod laws;
 pub mod log;
+pub mod log_reading;
+#[cfg(test)]
+mod log_tests;
 pub mod net_dump;
 pub mod running;
 #[cfg(test)]
