@@ -20,6 +20,9 @@ pub mod running;
 mod tests;
 pub mod text;
 pub mod trace;
+pub mod wiring;
+#[cfg(test)]
+mod wiring_tests;
 
 use crate::first::first_text;
 use crate::first_fault::FirstFault;
