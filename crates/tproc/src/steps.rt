@@ -11,12 +11,10 @@ ghost use Rattle.tproc.specs.Steps.{instruction_step, control_step};
 ghost use Rattle.tproc.specs.Agreement.{Agrees, IsPlain, is_over};
 ghost use Rattle.tproc.specs.Doing.{Begins, Does, Foresees, jumps_as, moved_on, rest_of, with_registers};
 
-use crate::alternatives::{
-    await_choice, begin_choice, disable_channel, disable_skip, enable_channel, enable_skip,
-    end_choice,
-};
+use crate::alternatives::{await_choice, begin_choice, enable_channel, enable_skip, end_choice};
 use crate::channels::Side;
 use crate::dispatch::{dispatch, start_queued};
+use crate::guards::{disable_channel, disable_skip};
 use crate::offer::Ran;
 use crate::ram::Ram;
 use crate::scheduler::{

@@ -1,4 +1,5 @@
-use Rattle.tproc.proofs.Quiet.{begins_effect, told_effect, stays_effect}
+use Rattle.tcpu.proofs.Quiet.{stays_effect}
+use Rattle.tproc.proofs.Quiet.{begins_effect, told_effect}
 use Rattle.tproc.proofs.steps.perform.Goals as goal
 
 pub returns-clause-begins : goal.returns-clause-begins

@@ -2,7 +2,7 @@ use Rattle.std.proofs.Common.{refl, Bool}
 use Rattle.std.proofs.lemmas.Result.{err_from_is_err_and}
 use Rattle.tproc.specs.Machine.{Control}
 use Rattle.tproc.specs.Alternatives.{selects}
-use Rattle.tproc.proofs.alternatives.disable_channel.Goals as goal
+use Rattle.tproc.proofs.guards.disable_channel.Goals as goal
 
 pub returns-in_err-guard-clause-done : goal.returns-in_err-guard-clause-done
 returns-in_err-guard-clause-done c =
