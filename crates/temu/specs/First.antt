@@ -1,4 +1,5 @@
 -- The first path: one image on one node, whose process runs six instructions.
+-- Source: own choice.
 use Rattle.std.specs.Prelude.{◌≡◌, ◌≢◌, ◌<◌, ◌≤◌, ◌+◌, ◌/◌, ◌^◌, ℕ, Bool, true, false, not, List, [], ◌∷◌, length, replicate, Option, Some, None, Result, Ok, Err, is_some, if◌then◌else◌}
 use Rattle.tword.specs.declared.breaks.Break.{Break}
 use Rattle.tword.specs.declared.breaks.Break.TheVariants.{NoSuchOperation, LongPrefix}

@@ -1,4 +1,5 @@
 -- How the program ends where nothing was printed.
+-- Source: own choice.
 use Rattle.std.specs.Prelude.{ℕ}
 use Rattle.temu.specs.declared.first_fault.FirstFault.{FirstFault}
 use Rattle.temu.specs.declared.first_fault.FirstFault.TheVariants.{OutOfMemory, Output}

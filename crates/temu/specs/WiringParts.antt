@@ -1,4 +1,5 @@
 -- A wiring by its parts: what a key or a table stands for, or the lowest fault in it.
+-- Source: own choice.
 use Rattle.std.specs.Prelude.{ℕ, ℤ, pos, negsuc, ◌^◌, ◌==◌, nat_lt, List, [], ◌∷◌, ◌++◌, Option, Some, None, Result, Ok, Err, codes, bytes_eq, if◌then◌else◌}
 use Rattle.toml.specs.Data.{Data, string, integer, array, table, Items, no_items, item, Members, get_member}
 use Rattle.tnet.specs.declared.plan.End.{End}

@@ -1,4 +1,5 @@
 -- What a call on a node promises.
+-- Source: own choice, words for contracts.
 use Rattle.std.specs.Prelude.{◌≡◌, Result}
 use Rattle.tlink.specs.declared.event.Emitted.{Emitted}
 use Rattle.tlink.specs.declared.event.StepFault.{StepFault}

@@ -1,4 +1,5 @@
 -- What a call on one net, or on one node of it, promises.
+-- Source: own choice, what is seen and proved of nets.
 use Rattle.std.specs.Prelude.{◌≡◌, ℕ, Bool, true, false, Option, Some, None, Result, Err}
 use Rattle.tlink.specs.declared.event.Emitted.{Emitted}
 use Rattle.tlink.specs.declared.event.NodeEvent.{NodeEvent}

@@ -1,4 +1,5 @@
 -- What a part of the code does, said of the action whose part it is.
+-- Source: own choice, words for contracts.
 use Rattle.std.specs.Prelude.{◌≡◌, ℕ, Bool, true, false, length, Option, Some, None, Result, Ok, Err}
 use Rattle.tword.specs.declared.breaks.Break.{Break}
 use Rattle.tword.specs.Words.{plus}

@@ -1,4 +1,5 @@
 -- The entries of the processes that wait, of which some are empty.
+-- Source: own choice, how the code keeps the processes that wait.
 use Rattle.std.specs.Prelude.{ℕ, ◌≢◌, ◌<◌, ◌==◌, IsTrue, List, map, length, Bool, false, Option, Some, None, AllPairs, slice_index_or}
 use Rattle.std.specs.List.{filter_map}
 use Rattle.tproc.specs.Machine.{workspace_of}

@@ -1,4 +1,5 @@
 -- What the code finds of a guard before it disables it.
+-- Source: own choice, words for contracts.
 use Rattle.std.specs.Prelude.{◌≡◌, ◌<◌, ℕ, Bool, true, false, None, Result}
 use Rattle.tword.specs.declared.breaks.Break.{Break}
 use Rattle.tword.specs.Stores.{Store, with_word}

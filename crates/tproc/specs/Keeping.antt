@@ -1,4 +1,5 @@
 -- What a step keeps.
+-- Source: own choice, a law of the machine.
 use Rattle.std.specs.Prelude.{ℕ, ◌≡◌, ◌⊎◌, Ok, Some}
 use Rattle.tword.specs.Stores.{bytes_at}
 use Rattle.tword.specs.Claims.{AreApart}

@@ -1,4 +1,5 @@
 -- The bytes of a message that is pending at a link.
+-- Source: own choice, words for contracts.
 use Rattle.std.specs.Prelude.{◌<◌, ◌+◌, ℕ, [], ◌∷◌, Option, Some, None, unwrap_or}
 use Rattle.tword.specs.Stores.{with_cells, as_cells, byte_at}
 use Rattle.tproc.specs.declared.offer.Offer.{Offer}

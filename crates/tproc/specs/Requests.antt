@@ -1,4 +1,5 @@
 -- Requests, and where a process stands, as the machine sees them.
+-- Source: own choice, words for contracts.
 use Rattle.std.specs.Prelude.{◌≡◌, ℕ, Bool, ◌||◌, ◌==◌, Option, Some, None}
 use Rattle.tword.specs.declared.breaks.Break.{Break}
 use Rattle.tword.specs.declared.breaks.Break.TheVariants.{Unaligned, WrongEnd}

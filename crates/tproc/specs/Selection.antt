@@ -1,4 +1,5 @@
 -- Which guard of an alternative is selected: told of the guards in the order in which they are disabled, without the word in which the machine notes the one selected.
+-- Source: the Compiler Writer's Guide (1988): of the ready guards the first that is disabled is selected. Told of a list of guards: own choice.
 use Rattle.std.specs.Prelude.{ℕ, zero, suc, ◌≡◌, ◌≢◌, List, [], ◌∷◌, Bool, false, not, ◌&&◌, ◌==◌, is_none, Option, Some, None, option_map, option_and_then, unwrap_or, find, Result, Ok, if◌then◌else◌}
 use Rattle.tword.specs.declared.breaks.Break.{Break}
 use Rattle.tword.specs.Stores.{word_at}

@@ -1,4 +1,5 @@
 -- What the accesses of a memory answer, and what they leave.
+-- Source: own choice; the sizes of a memory too.
 use Rattle.std.specs.Prelude.{ℕ, ◌≡◌, ◌≤◌, ◌<◌, ◌+◌, ◌%◌, ◌^◌, ◌&&◌, ◌==◌, not, [], Option, Some, None, Result, Ok, Err, replicate, slice_set}
 use Rattle.tword.specs.declared.breaks.Break.{Break}
 use Rattle.tword.specs.declared.span.Span.{Span}

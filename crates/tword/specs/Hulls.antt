@@ -1,4 +1,5 @@
 -- Bounds of all that is claimed.
+-- Source: own choice, what the code keeps beside the claims.
 use Rattle.std.specs.Prelude.{ℕ, ◌+◌, ◌-◌, ◌^◌, ◌≤◌, ◌==◌, ◌&&◌, Bool, All, List, Option, Some, None, nat_lt, if◌then◌else◌}
 use Rattle.tword.specs.declared.span.Span.{Span}
 

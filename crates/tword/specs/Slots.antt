@@ -1,4 +1,5 @@
 -- How many saved words fall into each slot of a table.
+-- Source: own choice, what the code keeps beside the claims.
 use Rattle.std.specs.Prelude.{◌≡◌, ℕ, ◌+◌, ◌-◌, ◌/◌, ◌%◌, ◌<◌, ◌≤◌, ◌==◌, All, List, length, slice_index, reverse, if◌then◌else◌}
 use Rattle.std.specs.List.{sum_by, count_by}
 use Rattle.tword.specs.Accesses.{IsClaimableWorkspace}
