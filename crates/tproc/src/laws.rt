@@ -1,7 +1,7 @@
 //! Laws of one processor, each as the contract of a function that does nothing.
 
 ghost use Rattle.tproc.specs.Hidden.{FinishOutputIsBlind, NoticeIsBlind, StepIsBlind};
-ghost use Rattle.tproc.specs.Resting.{RestChangesNothing, StepIsThere};
+ghost use Rattle.tproc.specs.Resting.{HaltingHalts, RestChangesNothing, StepIsThere};
 ghost use Rattle.tproc.specs.Keeping.{ClaimedBytesStand, ClaimsStayApart, StepsKeepPlaced};
 ghost use Rattle.tproc.specs.Selection.{FirstReadyIsSelected, SelectedIsTold};
 
@@ -12,10 +12,11 @@ pub fn pending_inputs_are_unseen()
     ensures ends { FinishOutputIsBlind }
 {}
 
-/// There is a step exactly where the processor has not halted and is not idle, and where there is none nothing changes.
+/// There is a step exactly where the processor has not halted and is not idle, where there is none nothing changes, and after an instruction that halts it has halted.
 pub fn rest_is_told()
     ensures there { StepIsThere }
     ensures rests { RestChangesNothing }
+    ensures halts { HaltingHalts }
 {}
 
 /// A step keeps each live process at one place, and so its claims apart.
