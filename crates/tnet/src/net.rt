@@ -1,4 +1,4 @@
-ghost use Rattle.std.specs.Prelude.{◌≡◌, ◌≢◌, ℕ, IsTrue, IfOk, ◌↔◌};
+ghost use Rattle.std.specs.Prelude.{◌≡◌, ◌≢◌, ℕ, IsTrue, IfOk, IfErr, vec_len, ◌↔◌};
 ghost use Rattle.tlink.specs.Node.{NodeState};
 ghost use Rattle.tnet.specs.Net.{NetState};
 ghost use Rattle.tnet.specs.Packets.{net_happens, answered, net_left_by, after_event, applied_from, is_enabled, IsQuiet};
@@ -7,14 +7,19 @@ ghost use Rattle.tnet.specs.Answers.{Did};
 ghost use Rattle.tnet.specs.View.{view};
 ghost use Rattle.tnet.specs.declared.plan.BuildFault.TheVariants.{OutOfMemory};
 ghost use Rattle.tnet.specs.Building.{built, opening_configuration};
+ghost use Rattle.tnet.specs.Wires.{far_end};
+ghost use Rattle.tnet.specs.Parts.{net_of};
+ghost use Rattle.tnet.specs.Cells.{seats_of, Seats, HasPlaces};
 ghost use Rattle.tnet.specs.Runs.{IsSeenRun, refused, done, done_one};
 ghost use Rattle.tnet.specs.WireLaw.{WiresCarryInOrder};
 
+use crate::cell::Cell;
 use crate::event::Event;
 use crate::faults::first_fault;
 use crate::opening::open;
 use crate::parts::Parts;
-use crate::plan::{BuildFault, Plan};
+use crate::plan::{BuildFault, End, Plan};
+use crate::seating::{Frame, seat, unseat};
 use std::alloc::Global;
 use std::marker::Model;
 use tlink::{Emitted, Node, StepFault};
@@ -120,6 +125,40 @@ impl Net {
         ensures sound { IsSound self.now }
     {
         self.parts.nodes()
+    }
+
+    /// The far end of an end, if it is a wired link.
+    pub(crate) fn far_end(&self, end: End) -> Option<End>
+        ensures { result ≡ far_end self.now.wires end }
+    {
+        self.parts.far_end(end)
+    }
+
+    /// Takes the nodes out of the net, each into its cell.
+    ///
+    /// # Errors
+    /// The allocator refused: the net as it was.
+    pub(crate) fn seat(self, alloc: Global) -> Result<(Vec<Cell>, Frame), Net>
+        ensures seated { IfOk result (λ r. Seats self r.0.items r.1) }
+        ensures sound { IsSound self }
+        ensures err { IfErr result (λ net. net ≡ self) }
+    {
+        let Net { parts } = self;
+        match seat(alloc, parts) {
+            Ok(seated) => Ok(seated),
+            Err(parts) => Err(Net { parts }),
+        }
+    }
+
+    /// The net with its nodes put back.
+    pub(crate) fn unseat(cells: Vec<Cell>, frame: Frame) -> Net
+        requires places { HasPlaces (vec_len cells) frame }
+        requires sound { IsSound (net_of frame.wires (seats_of cells.items)) }
+        ensures { result ≡ net_of frame.wires (seats_of cells.items) }
+    {
+        Net {
+            parts: unseat(cells, frame),
+        }
     }
 
     /// Does an event, if it is enabled.

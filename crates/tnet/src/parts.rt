@@ -111,6 +111,27 @@ impl Parts {
         }
     }
 
+    /// The nodes, the wires, the table of far ends and what lies at each end.
+    pub fn into_fields(
+        self,
+    ) -> (
+        Vec<Node>,
+        Items<Wire>,
+        Vec<[Option<End>; 4]>,
+        Vec<[Inbox; 4]>,
+    )
+        ensures same { record { nodes = result.0.items; wires = result.1; inboxes = result.3.items } ≡ self }
+        ensures laid { IsLaidOut result.0.items result.1 result.2.items }
+    {
+        let Parts {
+            nodes,
+            wires,
+            far,
+            inboxes,
+        } = self;
+        (nodes, wires, far, inboxes)
+    }
+
     /// The event that a node is asked for, if its packet lies there.
     fn node_event(&self, event: Event) -> Option<NodeEvent>
         ensures { result ≡ node_event self.now event.node event.act }
@@ -170,7 +191,7 @@ impl Parts {
     }
 
     /// The far end of an end.
-    fn far_end(&self, end: End) -> Option<End>
+    pub fn far_end(&self, end: End) -> Option<End>
         ensures { result ≡ far_end self.now.wires end }
     {
         match self.far.get(end.node as usize) {

@@ -1,0 +1,137 @@
+-- The nodes of a net, taken out one after another and put back.
+use Rattle.std.proofs.Common.{◌≡◌, ℕ, zero, suc, ◌+◌, ◌-◌, ◌<◌, ◌≤◌, min, refl, sym, ap, ◌∙◌, List, [], ◌∷◌, ◌++◌, length, get_or, map, take, drop, reverse, replicate, Option, Some, None, ◌⊎◌, inl, inr, arith}
+use Rattle.std.specs.Prelude.{slice_get, slice_index_or}
+use Rattle.std.proofs.lemmas.List.{append-nil, take-take, take-append-le, drop_all, length-take, length-reverse, reverse-reverse, get_or-take, get_or-reverse, take_more, take_all, length-map, length-append, map-append, append_assoc, get_or_past, get_or_at, get_or_default}
+use Rattle.std.proofs.lemmas.Bool.{cases_lt}
+use Rattle.std.proofs.lemmas.Option.{same_Some}
+use Rattle.tlink.specs.Node.{NodeState}
+use Rattle.tnet.specs.declared.plan.End.{End}
+use Rattle.tnet.specs.declared.plan.Wire.{Wire}
+use Rattle.tnet.specs.declared.inbox.Inbox.{Inbox}
+use Rattle.tnet.specs.declared.cell.Cell.{Cell}
+use Rattle.tnet.specs.Wires.{end_at, far_end}
+use Rattle.tnet.specs.FarEnds.{AgreesWith, far_in}
+use Rattle.tnet.specs.Parts.{Seat, far_at, net_of, AreSeated}
+use Rattle.tnet.specs.Cells.{seat_of, seats_of}
+
+module _ {A : Type 0} where
+  -- the last element is removed
+  pub last_removed : (r ys zs : List A) (n k i : ℕ) → length r ≡ n → k < n → ys ≡ take (n - k) r → i ≡ n - k - 1 → zs ≡ take i ys ++ drop (i + 1) ys → zs ≡ take (n - (k + 1)) r
+  last_removed r ys zs n k i len below is at removed =
+      let l : length ys ≡ n - k = rw is (omega (arith, length-take (n - k) r, len)) in
+      let none : drop (i + 1) ys ≡ [] = drop_all (i + 1) ys (omega (arith, l, at)) in
+      let m : i ≡ n - (k + 1) = omega (arith, at) in
+      removed ∙ (ap (λ (xs : List A). take i ys ++ xs) none ∙ (append-nil (take i ys) ∙ (ap (take i) is ∙ (take-take i (n - k) r (omega (arith, at)) ∙ ap (λ j. take j r) m))))
+
+  -- and it is the next one of the list that was reversed
+  pub last_read : (xs ys : List A) (n k i : ℕ) (x : A) → length xs ≡ n → k < n → ys ≡ take (n - k) (reverse xs) → i ≡ n - k - 1 → x ≡ get_or ys i x → x ≡ get_or xs k x
+  last_read xs ys n k i x len below is at read =
+      let m : length xs - 1 - i ≡ k = omega (arith, at, len) in
+      read
+      ∙ (ap (λ (zs : List A). get_or zs i x) is
+      ∙ (get_or-take (n - k) (reverse xs) i x (omega (arith, at)) ∙ (get_or-reverse xs i x (omega (arith, at, len)) ∙ ap (λ j. get_or xs j x) m)))
+
+-- the seats of nodes from a number on
+abbrev pub laid : List (List (Option End)) → List (List Inbox) → ℕ → List NodeState → List Seat
+laid far boxes n [] = []
+laid far boxes n (x ∷ xs) = record { number = n; node = x; inboxes = get_or boxes n []; far = slice_index_or far n (replicate 4 None) } ∷ laid far boxes (suc n) xs
+
+pub laid-nodes : (far : List (List (Option End))) (boxes : List (List Inbox)) (n : ℕ) (xs : List NodeState) → map (λ (s : Seat). s.node) (laid far boxes n xs) ≡ xs
+laid-nodes far boxes n [] = refl
+laid-nodes far boxes n (x ∷ xs) = ap (λ (ys : List NodeState). x ∷ ys) (laid-nodes far boxes (suc n) xs)
+
+pub laid-length : (far : List (List (Option End))) (boxes : List (List Inbox)) (n : ℕ) (xs : List NodeState) → length (laid far boxes n xs) ≡ length xs
+laid-length far boxes n [] = refl
+laid-length far boxes n (x ∷ xs) = ap suc (laid-length far boxes (suc n) xs)
+
+-- inboxes from a place on
+boxes-from : (far : List (List (Option End))) (pre boxes : List (List Inbox)) (n : ℕ) (xs : List NodeState) → length pre ≡ n → length boxes ≡ length xs → map (λ (s : Seat). s.inboxes) (laid far (pre ++ boxes) n xs) ≡ boxes
+boxes-from far pre [] n [] h k = refl
+boxes-from far pre [] n (x ∷ xs) h k = absurd (omega (arith, k))
+boxes-from far pre (b ∷ boxes) n [] h k = absurd (omega (arith, k))
+boxes-from far pre (b ∷ boxes) n (x ∷ xs) h k =
+    let here : get_or (pre ++ b ∷ boxes) n [] ≡ b = get_or_at pre b boxes [] n h in
+    let rest : map (λ (s : Seat). s.inboxes) (laid far (pre ++ b ∷ boxes) (suc n) xs) ≡ boxes =
+    ap (λ (g : List (List Inbox)). map (λ (s : Seat). s.inboxes) (laid far g (suc n) xs)) (sym (append_assoc pre (b ∷ []) boxes))
+    ∙ boxes-from far (pre ++ b ∷ []) boxes (suc n) xs (omega (arith, length-append pre (b ∷ []), h)) (omega (arith, k)) in
+    rw (here, rest) refl
+
+pub laid-boxes : (far : List (List (Option End))) (boxes : List (List Inbox)) (xs : List NodeState) → length boxes ≡ length xs → map (λ (s : Seat). s.inboxes) (laid far boxes 0 xs) ≡ boxes
+laid-boxes far boxes xs h = boxes-from far [] boxes 0 xs refl h
+
+-- one of them
+pub laid_at : (far : List (List (Option End))) (boxes : List (List Inbox)) (n k : ℕ) (xs : List NodeState) (x : NodeState) (d : Seat) → k < length xs → x ≡ get_or xs k x
+    → get_or (laid far boxes n xs) k d ≡ record { number = n + k; node = x; inboxes = get_or boxes (n + k) []; far = slice_index_or far (n + k) (replicate 4 None) }
+laid_at far boxes n k [] x d lt is = absurd (omega arith)
+laid_at far boxes n zero (y ∷ xs) x d lt is = let z : n + 0 ≡ n = omega arith in rw (z, ← is) refl
+laid_at far boxes n (suc k) (y ∷ xs) x d lt is = let z : n + suc k ≡ suc n + k = omega arith in rw z (laid_at far boxes (suc n) k xs x d (omega arith) is)
+
+seat_there : (far : List (List (Option End))) (boxes : List (List Inbox)) (n k : ℕ) (xs : List NodeState) (s : Seat) → slice_get (laid far boxes n xs) k ≡ Some s → (s.number ≡ n + k) × (s.far ≡ slice_index_or far (n + k) (replicate 4 None))
+seat_there far boxes n k [] s h = cc
+seat_there far boxes n zero (x ∷ xs) s h =
+    let z : n + 0 ≡ n = omega arith in
+    let e : ◌≡◌ {A = Seat} (record { number = n; node = x; inboxes = get_or boxes n []; far = slice_index_or far n (replicate 4 None) }) s = same_Some _ _ h in
+    rw (z, ← e) (refl, refl)
+seat_there far boxes n (suc k) (x ∷ xs) s h = let z : n + suc k ≡ suc n + k = omega arith in rw z (seat_there far boxes (suc n) k xs s h)
+
+-- a row that is missing has no far end
+row_far : (far : List (List (Option End))) (n l : ℕ) → slice_index_or (slice_index_or far n (replicate 4 None)) l None ≡ far_in far (end_at n l)
+row_far far n l = by (cases_lt n (length far))
+  where
+    nothing : (l : ℕ) → ◌≡◌ {A = Option End} (slice_index_or (replicate 4 None) l None) None
+    nothing zero = refl
+    nothing (suc zero) = refl
+    nothing (suc (suc zero)) = refl
+    nothing (suc (suc (suc zero))) = refl
+    nothing (suc (suc (suc (suc l)))) = refl
+
+    by : (n < length far) ⊎ (length far ≤ n) → slice_index_or (slice_index_or far n (replicate 4 None)) l None ≡ far_in far (end_at n l)
+    by (inl b) = ap (λ (r : List (Option End)). slice_index_or r l None) (get_or_default far n (replicate 4 None) [] b)
+    by (inr past) = rw (get_or_past far n (replicate 4 None) past, get_or_past far n [] past) (nothing l)
+
+-- they are seated
+pub laid-seated : (wires : List Wire) (far : List (List (Option End))) (boxes : List (List Inbox)) (xs : List NodeState) → AgreesWith wires far → AreSeated wires (laid far boxes 0 xs)
+laid-seated wires far boxes xs agrees = record {
+  numbered = λ n s h. (let z : 0 + n ≡ n = omega arith in rw z at ((seat_there far boxes 0 n xs s h).0));
+  far = λ n s h l.
+      (let z : 0 + n ≡ n = omega arith in
+      ap (λ (r : List (Option End)). slice_index_or r l None) ((seat_there far boxes 0 n xs s h).1 ∙ ap (λ (k : ℕ). slice_index_or far k (replicate 4 None)) z) ∙ (row_far far n l ∙ agrees (end_at n l)));
+}
+
+-- one more seat
+pub seat_more : (far : List (List (Option End))) (boxes : List (List Inbox)) (k : ℕ) (xs : List NodeState) (x : NodeState) (s : Seat) (ss ss' : List Seat) → k < length xs → x ≡ get_or xs k x → ss ≡ take k (laid far boxes 0 xs)
+    → s ≡ record { number = k; node = x; inboxes = get_or boxes k []; far = slice_index_or far k (replicate 4 None) } → ss' ≡ ss ++ s ∷ [] → ss' ≡ take (k + 1) (laid far boxes 0 xs)
+seat_more far boxes k xs x s ss ss' lt is so_far seat pushed =
+    let z : 0 + k ≡ k = omega arith in
+    pushed
+    ∙ (ap (λ (ys : List Seat). ys ++ s ∷ []) so_far
+    ∙ (ap (λ (t : Seat). take k (laid far boxes 0 xs) ++ t ∷ []) (seat ∙ sym (rw z at (laid_at far boxes 0 k xs x s lt is)))
+    ∙ sym (take_more (laid far boxes 0 xs) k s (omega (arith, laid-length far boxes 0 xs, lt)))))
+
+-- one more node or inbox that is put back
+pub put_back : {A B : Type 0} (f : A → B) (xs : List A) (k : ℕ) (x : A) (ys zs : List B) → k < length xs → x ≡ get_or xs k x → ys ≡ map f (take k xs) → zs ≡ ys ++ f x ∷ [] → zs ≡ map f (take (k + 1) xs)
+put_back f xs k x ys zs lt is so_far pushed =
+    pushed ∙ (ap (λ (ws : List _). ws ++ f x ∷ []) so_far ∙ (ap (λ y. map f (take k xs) ++ f y ∷ []) is ∙ (sym (map-append f (take k xs) (get_or xs k x ∷ [])) ∙ ap (map f) (sym (take_more xs k x lt)))))
+
+-- seats of the same node
+pub same_seat : (n : ℕ) (x : NodeState) (b b' : List Inbox) (f f' : List (Option End)) → b ≡ b' → f ≡ f' → ◌≡◌ {A = Seat} (record { number = n; node = x; inboxes = b; far = f }) (record { number = n; node = x; inboxes = b'; far = f' })
+same_seat n x b b' f f' h k = rw (h, k) refl
+
+-- all nodes are taken out: the seats of the net
+pub all_laid : (wires : List Wire) (far : List (List (Option End))) (boxes : List (List Inbox)) (xs : List NodeState) (k : ℕ) (ss : List Seat) → AgreesWith wires far → length boxes ≡ length xs → length xs ≤ k → ss ≡ take k (laid far boxes 0 xs)
+    → (net_of wires ss ≡ record { nodes = xs; wires = wires; inboxes = boxes }) × AreSeated wires ss
+all_laid wires far boxes xs k ss agrees even all is =
+    let e : ss ≡ laid far boxes 0 xs = is ∙ take_all k (laid far boxes 0 xs) (omega (arith, laid-length far boxes 0 xs, all)) in
+    rw e (rw (laid-nodes far boxes 0 xs, laid-boxes far boxes xs even) refl, laid-seated wires far boxes xs agrees)
+
+-- all nodes are put back
+pub all_back : (wires : List Wire) (cs : List Cell) (k : ℕ) (ns : List NodeState) (bs : List (List Inbox)) → length cs ≤ k → ns ≡ map (λ (c : Cell). c.node) (take k cs) → bs ≡ map (λ (c : Cell). c.inboxes) (take k cs)
+    → record { nodes = ns; wires = wires; inboxes = bs } ≡ net_of wires (seats_of cs)
+all_back wires cs k ns bs all nodes boxes = rw (nodes, boxes, take_all k cs all) (same_net cs)
+  where
+    over : {B : Type 0} (f : Seat → B) (xs : List Cell) → map (λ (c : Cell). f (seat_of c)) xs ≡ map f (seats_of xs)
+    over f [] = refl
+    over f (x ∷ xs) = ap (λ (ys : List _). f (seat_of x) ∷ ys) (over f xs)
+
+    same_net : (xs : List Cell) → record { nodes = map (λ (c : Cell). c.node) xs; wires = wires; inboxes = map (λ (c : Cell). c.inboxes) xs } ≡ net_of wires (seats_of xs)
+    same_net xs = rw (over (λ (s : Seat). s.node) xs, over (λ (s : Seat). s.inboxes) xs) refl
