@@ -1,5 +1,6 @@
 //! Plans with a fault, and what `build` answers: each fault, and each limit from both sides.
-use super::{LOW, alone, node, pair, plan, receiver, sender, wire};
+use super::{LOW, alone, event, node, pair, plan, receiver, sender, wire, word};
+use crate::event::Act;
 use crate::net::Net;
 use crate::plan::{BuildFault, Image, NodePlan, Plan, Process, Segment, Wire};
 use std::alloc::{AllocError, Global};
@@ -183,5 +184,41 @@ fn later_segments_lie_over_earlier_ones(rt: HostRuntime) -> Result<(), Fail> {
         .next();
     assert_eq!(rt; found, Some(Some(9)));
     assert!(rt; net.is_quiet());
+    Ok(())
+}
+
+/// A plan of the two nodes, where there is memory for it.
+fn sender_and_receiver(alloc: Global) -> Result<Plan, AllocError> {
+    pair(alloc, sender(alloc)?, receiver(alloc)?)
+}
+
+/// Whether the first byte goes over.
+fn goes_over(net: &mut Net) -> bool {
+    net.apply(&[event(0, Act::Run); 6]).is_ok()
+        && net.apply(&[event(1, Act::Run); 6]).is_ok()
+        && net
+            .apply(&[
+                event(0, Act::Send(1)),
+                event(1, Act::Data(2)),
+                event(1, Act::Take(2)),
+                event(0, Act::Ack(1)),
+            ])
+            .is_ok()
+        && word(net, 1, 0x8000_0104) == Some([1, 0, 0, 0])
+}
+
+/// Also where the allocator refuses a request, as with `rt try --test --fail-alloc N`.
+#[test]
+fn a_net_is_built_whole_or_not_at_all(rt: HostRuntime) -> Result<(), Fail> {
+    let Ok(plan) = sender_and_receiver(rt.alloc()) else {
+        return Ok(());
+    };
+    match Net::build(rt.alloc(), plan) {
+        Ok(net) => {
+            let mut net = net;
+            assert!(rt; goes_over(&mut net));
+        }
+        Err(fault) => assert_eq!(rt; fault, BuildFault::OutOfMemory),
+    }
     Ok(())
 }
