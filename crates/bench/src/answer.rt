@@ -1,7 +1,7 @@
 //! What a benchmark answers.
 
 use std::alloc::AllocError;
-use tnet::BuildFault;
+use tnet::{BuildFault, NetFault};
 use tword::{Break, MemoryFault};
 
 /// What was done, and a checksum of what came out.
@@ -23,6 +23,8 @@ pub enum Fault {
     Refused(AllocError),
     /// A net is not to be had.
     Unbuilt(BuildFault),
+    /// Rounds did not come to their end.
+    Stopped(NetFault),
 }
 
 /// Where a checksum begins: FNV-1a's number.

@@ -7,13 +7,16 @@ mod local_loop;
 mod mixed_code;
 mod nets;
 mod programs;
+mod rounds;
 mod scheduling;
 
 use answer::{Answer, Fault};
 use local_loop::Claims;
 use nets::Ring;
+use rounds::{Load, Rounds};
 use scheduling::{Job, Others};
 use std::alloc::Global;
+use std::thread::Threads;
 use std::{env, io};
 
 /// A benchmark.
@@ -23,10 +26,11 @@ enum Benchmark {
     Local(Claims),
     Processor(Job),
     Net(Ring),
+    Rounds(Rounds),
 }
 
 /// All of them, by name.
-const BENCHMARKS: [(&str, Benchmark); 16] = [
+const BENCHMARKS: [(&str, Benchmark); 23] = [
     ("decode", Benchmark::Decode),
     ("local", Benchmark::Local(Claims::Nothing)),
     ("local-links", Benchmark::Local(Claims::LinkBuffers)),
@@ -79,15 +83,77 @@ const BENCHMARKS: [(&str, Benchmark); 16] = [
             length: 4,
         }),
     ),
+    (
+        "rounds-1024",
+        Benchmark::Rounds(Rounds {
+            load: Load::Computing,
+            slice: 1_024,
+            workers: 1,
+        }),
+    ),
+    (
+        "rounds-1024-2",
+        Benchmark::Rounds(Rounds {
+            load: Load::Computing,
+            slice: 1_024,
+            workers: 2,
+        }),
+    ),
+    (
+        "rounds-1024-4",
+        Benchmark::Rounds(Rounds {
+            load: Load::Computing,
+            slice: 1_024,
+            workers: 4,
+        }),
+    ),
+    (
+        "rounds-65536",
+        Benchmark::Rounds(Rounds {
+            load: Load::Computing,
+            slice: 65_536,
+            workers: 1,
+        }),
+    ),
+    (
+        "rounds-65536-2",
+        Benchmark::Rounds(Rounds {
+            load: Load::Computing,
+            slice: 65_536,
+            workers: 2,
+        }),
+    ),
+    (
+        "rounds-65536-4",
+        Benchmark::Rounds(Rounds {
+            load: Load::Computing,
+            slice: 65_536,
+            workers: 4,
+        }),
+    ),
+    (
+        "rounds-idle",
+        Benchmark::Rounds(Rounds {
+            load: Load::Waiting,
+            slice: 1_024,
+            workers: 1,
+        }),
+    ),
 ];
 
 /// Does so much work of a benchmark.
-fn done(alloc: Global, benchmark: Benchmark, amount: u32) -> Result<Answer, Fault> {
+fn done<R: Threads + Sync>(
+    rt: &R,
+    alloc: Global,
+    benchmark: Benchmark,
+    amount: u32,
+) -> Result<Answer, Fault> {
     match benchmark {
         Benchmark::Decode => mixed_code::decoded(alloc, amount),
         Benchmark::Local(claims) => local_loop::looped(alloc, amount, claims),
         Benchmark::Processor(job) => scheduling::worked(alloc, amount, job),
         Benchmark::Net(ring) => nets::went_round(alloc, amount, ring),
+        Benchmark::Rounds(rounds) => rounds::ran(rt, alloc, amount, rounds),
     }
 }
 
@@ -101,7 +167,7 @@ fn main(rt: HostRuntime) -> io::Result<()> {
     };
     for (name, benchmark) in BENCHMARKS.iter() {
         if wanted.as_str() == "all" || wanted.as_str() == *name {
-            match done(rt.alloc(), *benchmark, amount) {
+            match done(&rt, rt.alloc(), *benchmark, amount) {
                 Ok(answer) => println!(rt; "{name} {} {}", answer.operations, answer.sum)?,
                 Err(fault) => println!(rt; "{name}: {fault:?}")?,
             }

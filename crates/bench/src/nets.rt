@@ -11,13 +11,14 @@ const MEMORY: u32 = 16_384;
 
 const WORKSPACE: u32 = 0x8000_1000;
 
-const BUFFER: u32 = 0x8000_2000;
+/// Where the buffer of a message lies.
+pub const BUFFER: u32 = 0x8000_2000;
 
 /// The channel word of the output of link 1.
-const ONWARD: u32 = 0x8000_0004;
+pub const ONWARD: u32 = 0x8000_0004;
 
 /// The channel word of the input of link 2.
-const BACK: u32 = 0x8000_0018;
+pub const BACK: u32 = 0x8000_0018;
 
 /// How many Runs a node does at most in one turn.
 const SLICE: u32 = 64;
@@ -38,7 +39,7 @@ fn segment(alloc: Global, address: u32, bytes: &[u8]) -> Result<Segment, AllocEr
 }
 
 /// A node with this code, which finds these words in its workspace.
-fn node(alloc: Global, code: &[u8], words: [u32; 4]) -> Result<NodePlan, AllocError> {
+pub fn node(alloc: Global, code: &[u8], words: [u32; 4]) -> Result<NodePlan, AllocError> {
     let mut segments = Vec::new(alloc);
     segments.push(segment(alloc, START, code)?)?;
     let mut address = WORKSPACE;
@@ -59,29 +60,19 @@ fn node(alloc: Global, code: &[u8], words: [u32; 4]) -> Result<NodePlan, AllocEr
     })
 }
 
-/// By turns a node that sends on what it has, and then waits for the next, and one that waits first.
-fn plan(alloc: Global, ring: Ring) -> Result<Plan, AllocError> {
-    let mut nodes = Vec::new(alloc);
+/// These nodes, each wired from its link 1 to link 2 of the next.
+pub fn wired(alloc: Global, nodes: Vec<NodePlan>) -> Result<Plan, AllocError> {
+    let count = u32::try_from(nodes.len()).unwrap_or(u32::MAX);
     let mut wires = Vec::new(alloc);
-    for number in 0..ring.nodes {
-        let planned = if number % 2 == 0 {
-            node(alloc, &PING, [ONWARD, BACK, BUFFER, ring.length])?
-        } else {
-            node(alloc, &PONG, [BACK, ONWARD, BUFFER, ring.length])?
-        };
-        nodes.push(planned)?;
-        let next = u32::from(number) + 1;
+    for number in 0..count {
+        let next = number + 1;
         wires.push(Wire {
             a: End {
-                node: u32::from(number),
+                node: number,
                 link: 1,
             },
             b: End {
-                node: if next == u32::from(ring.nodes) {
-                    0
-                } else {
-                    next
-                },
+                node: if next == count { 0 } else { next },
                 link: 2,
             },
         })?;
@@ -91,6 +82,20 @@ fn plan(alloc: Global, ring: Ring) -> Result<Plan, AllocError> {
         nodes: Items::new(nodes),
         wires: Items::new(wires),
     })
+}
+
+/// By turns a node that sends on what it has, and then waits for the next, and one that waits first.
+fn plan(alloc: Global, ring: Ring) -> Result<Plan, AllocError> {
+    let mut nodes = Vec::new(alloc);
+    for number in 0..ring.nodes {
+        let planned = if number % 2 == 0 {
+            node(alloc, &PING, [ONWARD, BACK, BUFFER, ring.length])?
+        } else {
+            node(alloc, &PONG, [BACK, ONWARD, BUFFER, ring.length])?
+        };
+        nodes.push(planned)?;
+    }
+    wired(alloc, nodes)
 }
 
 /// One event, if it is enabled: whether it was done.
@@ -135,14 +140,19 @@ fn turns(net: &mut Net, ring: Ring, count: u64) -> u64 {
     done
 }
 
+/// So many events, with a checksum of the memories after them.
+pub fn answered(net: &Net, operations: u64) -> Answer {
+    let mut sum = mixed(BEGIN, (operations % 4_294_967_296) as u32);
+    for node in net.nodes() {
+        sum = checksum(sum, node.processor().bytes());
+    }
+    Answer { operations, sum }
+}
+
 /// Does so many thousand turns, and answers with the number of events and a checksum of the memories.
 pub fn went_round(alloc: Global, thousands: u32, ring: Ring) -> Result<Answer, Fault> {
     let plan = plan(alloc, ring).map_err(Fault::Refused)?;
     let mut net = Net::build(alloc, plan).map_err(Fault::Unbuilt)?;
     let operations = turns(&mut net, ring, u64::from(thousands) * 1_000);
-    let mut sum = mixed(BEGIN, (operations % 4_294_967_296) as u32);
-    for node in net.nodes() {
-        sum = checksum(sum, node.processor().bytes());
-    }
-    Ok(Answer { operations, sum })
+    Ok(answered(&net, operations))
 }
