@@ -11,7 +11,7 @@ ghost use Rattle.tproc.specs.Doing.{Part};
 
 use crate::ram::Ram;
 use crate::state::{MOST_PROCESSES, State, workspace_of};
-use crate::waiting::{Reason, Waiter};
+use crate::waiting::Reason;
 use tword::{Break, Word};
 
 /// The word below a workspace that keeps Iptr.
@@ -50,11 +50,12 @@ impl State {
         ensures settles { Settles workspace self.old self.new }
         ensures more { taken self.new ≡ taken self.old + 1 }
     {
-        if priority == 0 {
-            self.high.push_back_reserved(workspace);
+        let number = if priority == 0 {
+            self.high.push(workspace)
         } else {
-            self.low.push_back_reserved(workspace);
-        }
+            self.low.push(workspace)
+        };
+        self.hints.note(workspace, number);
     }
 
     /// The first of the high queue leaves it.
@@ -65,7 +66,7 @@ impl State {
         ensures leaves { IfSome result (λ w. Leaves w self.old self.new) }
         ensures rest { self.new ≡ record self.old { high = self.new.high } }
     {
-        self.high.pop_front()
+        self.high.pop()
     }
 
     /// The first of the low queue leaves it.
@@ -76,7 +77,7 @@ impl State {
         ensures leaves { IfSome result (λ w. Leaves w self.old self.new) }
         ensures rest { self.new ≡ record self.old { low = self.new.low } }
     {
-        self.low.pop_front()
+        self.low.pop()
     }
 
     /// The last of the queue of a process.
@@ -84,9 +85,9 @@ impl State {
         ensures { result ≡ last_of (queue self.now (priority_of process)) }
     {
         if process.get() % 2 == 0 {
-            self.high.back().copied()
+            self.high.last()
         } else {
-            self.low.back().copied()
+            self.low.last()
         }
     }
 
@@ -107,11 +108,12 @@ impl State {
         ensures done { self.new ≡ waiting_for process reason self.old }
         ensures settles { Settles (the_workspace process) self.old self.new }
     {
-        self.waiting.push_reserved(Waiter { process, reason });
+        self.waiting.push(process, reason, &mut self.hints);
         self.rest();
     }
 
     /// A process waits no longer.
+    #[tactic(auto, using(crate::proofs::Entries::waiting_apart))]
     fn forget(&mut self, process: Word)
         requires plain { IsPlain self.old }
         requires waits { IsSome (reason_of self.old process) }
@@ -121,7 +123,7 @@ impl State {
         ensures fewer { taken self.new + 1 ≡ taken self.old }
         ensures saved { StillSaved self.old self.new }
     {
-        self.waiting.retain(|w| w.process != process);
+        self.waiting.remove(process, &self.hints);
     }
 }
 

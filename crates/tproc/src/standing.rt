@@ -42,13 +42,26 @@ impl State {
     }
 
     /// What a process waits for.
+    #[tactic(auto, using(crate::proofs::Entries::waiting_apart))]
     pub fn reason(&self, process: Word) -> Option<Reason>
+        requires { IsPlain self.now }
         ensures { result ≡ the_reason self.now process }
     {
-        self.waiting
-            .iter()
-            .find(|w| w.process == process)
-            .map(|w| w.reason)
+        self.waiting.reason(process, &self.hints)
+    }
+
+    /// Whether a process is found in the queue of its priority at the place that was noted.
+    #[inline]
+    fn is_at_its_place(&self, process: Word) -> bool
+        ensures { result ≡ true → the_queued self.now process ≡ true }
+    {
+        let workspace = workspace_of(process);
+        let number = self.hints.of(process);
+        if process.get() % 2 == 0 {
+            self.high.has_at(number, workspace)
+        } else {
+            self.low.has_at(number, workspace)
+        }
     }
 
     /// Whether a process is in the queue of its priority.
@@ -57,19 +70,23 @@ impl State {
     {
         let workspace = workspace_of(process);
         if process.get() % 2 == 0 {
-            self.high.iter().any(|w| *w == workspace)
+            self.high.has(workspace)
         } else {
-            self.low.iter().any(|w| *w == workspace)
+            self.low.has(workspace)
         }
     }
 
     /// Where a descriptor is found.
+    #[tactic(auto, using(crate::proofs::Entries::queued_not_waiting))]
     pub fn standing(&self, process: Word) -> Standing
         requires { IsPlain self.now }
         ensures stands { standing_of result ≡ the_standing self.now process }
         ensures waits { the_reason self.now process ≡ reason_in result }
         ensures queued { IfQueued result (the_queued self.now process ≡ true) }
     {
+        if self.is_at_its_place(process) {
+            return Standing::Queued;
+        }
         if let Some(reason) = self.reason(process) {
             return Standing::Waits(reason);
         }

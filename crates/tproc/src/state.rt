@@ -9,10 +9,12 @@ ghost use Rattle.tproc.specs.Opening.{no_processes};
 ghost use Rattle.tproc.specs.Resting.{is_idle};
 ghost use Rattle.tproc.specs.Agreement.{IsPlain, IsOwn, StillAgrees, is_over};
 
+use crate::hints::Hints;
 use crate::offer::Offer;
-use crate::waiting::{LinkEnd, Suspended, Waiter};
+use crate::run_queue::RunQueue;
+use crate::waiting::{LinkEnd, Suspended};
+use crate::waiting_list::WaitingList;
 use std::alloc::{AllocError, Global};
-use std::collections::VecDeque;
 use std::marker::Model;
 use tcode::Operation;
 use tcpu::Registers;
@@ -29,19 +31,17 @@ pub struct State {
     pub current: Option<u8>,
     pub count: u32,
     pub interrupted: Option<Suspended>,
-    pub high: VecDeque<Word>,
-    pub low: VecDeque<Word>,
-    /// The processes that wait, in the order in which they began to.
-    pub waiting: Vec<Waiter>,
+    pub high: RunQueue,
+    pub low: RunQueue,
+    pub waiting: WaitingList,
+    /// Where each process that is queued or waits was put.
+    pub hints: Hints,
     pub links: [LinkEnd; 4],
     pub timeslice: u32,
     pub halted: bool,
 }
 
 impl Model for State {
-    ghost use Rattle.std.specs.Prelude.{◌≤◌, length};
-    ghost use Rattle.std.specs.Vec.{vec_capacity};
-    ghost use Rattle.std.specs.VecDeque.{deque_capacity};
     ghost use Rattle.tproc.specs.Machine.{Control};
 
     ghost Value = { Control };
@@ -51,15 +51,13 @@ impl Model for State {
       current = s.current;
       count = s.count;
       interrupted = s.interrupted;
-      high = s.high.items;
-      low = s.low.items;
-      waiting = s.waiting.items;
+      high = s.high;
+      low = s.low;
+      waiting = s.waiting;
       links = s.links;
       timeslice = s.timeslice;
       halted = s.halted;
     } };
-
-    ghost invariant = { λ s. (512 ≤ deque_capacity s.high) × (512 ≤ deque_capacity s.low) × (length s.high.items ≤ 512) × (length s.low.items ≤ 512) × (512 ≤ vec_capacity s.waiting) × (length s.waiting.items ≤ 512) };
 }
 
 /// The workspace of a descriptor.
@@ -79,9 +77,10 @@ impl State {
         ensures { IfOk result (λ s. s ≡ no_processes timeslice) }
     {
         let zero = Word::new(0);
-        let high = VecDeque::with_capacity(alloc, MOST_PROCESSES)?;
-        let low = VecDeque::with_capacity(alloc, MOST_PROCESSES)?;
-        let waiting = Vec::with_capacity(alloc, MOST_PROCESSES)?;
+        let high = RunQueue::new(alloc)?;
+        let low = RunQueue::new(alloc)?;
+        let waiting = WaitingList::new(alloc)?;
+        let hints = Hints::new(alloc)?;
         let quiet = LinkEnd {
             output: None,
             input: None,
@@ -104,6 +103,7 @@ impl State {
             high,
             low,
             waiting,
+            hints,
             links: [quiet; 4],
             timeslice,
             halted: false,
@@ -281,6 +281,6 @@ impl State {
     {
         priority != 0
             && self.timeslice <= u32::min(self.count.saturating_add(1), self.timeslice)
-            && self.low.len() > 0
+            && !self.low.is_empty()
     }
 }

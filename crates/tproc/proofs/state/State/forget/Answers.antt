@@ -1,15 +1,11 @@
-use Rattle.std.proofs.Common.{rules, refl, sym, subst, not, ℕ, ◌+◌, ◌<◌, length}
-use Rattle.std.specs.Prelude.{◌==◌}
-use Rattle.std.proofs.lemmas.Fn.{filter_same}
-use Rattle.tproc.specs.Machine.{Control}
-use Rattle.tproc.specs.declared.waiting.Waiter.{Waiter}
+use Rattle.std.proofs.Common.{refl, sym, subst}
 use Rattle.tproc.specs.Agreement.{HasPlace}
 use Rattle.tproc.proofs.Agreeing.{unsettles_forgotten, still_saved_forgotten}
 use Rattle.tproc.proofs.Places.{place_released, taken_released}
 use Rattle.tproc.proofs.state.State.forget.Goals as goal
 
 pub returns-clause-done : goal.returns-clause-done
-returns-clause-done c = rw (← c.self.view_is, filter_same _ (λ (w : Waiter). not (w.process == c.args.process)) _ (λ x b f' k. search rules) _ _ c.retain.ensures.filtered) refl
+returns-clause-done c = rw (← c.self.view_is, c.remove.ensures) refl
 
 pub returns-clause-place : goal.returns-clause-place
 returns-clause-place c = subst HasPlace (sym (returns-clause-done c)) (place_released c.args.self.now c.args.process c.requires.plain c.requires.waits)
