@@ -9,11 +9,13 @@ use Rattle.tproc.specs.Standing.{is_among, is_queued, queue, reason_of}
 use Rattle.tproc.specs.declared.waiting.Reason.{Reason}
 use Rattle.tproc.specs.declared.waiting.Waiter.{Waiter}
 use Rattle.tproc.specs.Entries.{present, is_entry_of, IsEntryAt, ShareNoWorkspace}
-use Rattle.tproc.specs.Agreement.{IsPlain}
+use Rattle.tword.specs.Claims.{Claims, has_saved}
+use Rattle.tproc.specs.Agreement.{Agrees, IsPlain}
 use Rattle.tproc.proofs.Occurs.{occurs, occurs-append, occurring_once, found-occurs, same_once, pairs_from}
 use Rattle.tproc.proofs.ClaimState.{workspaces_of}
 use Rattle.tproc.proofs.Waiters.{without, without_none, found_waiter, waiter_occurs}
 use Rattle.tproc.proofs.Agreeing.{once_waiting}
+use Rattle.tproc.proofs.Saved.{waiter_saved_now, queued_saved_now}
 
 -- the workspace of an entry stands among those of the list
 entry_occurs : (es : List (Option Waiter)) (i p : ℕ) → IsEntryAt es i p → 0 < occurs (workspace_of p) (workspaces_of (present es))
@@ -120,3 +122,18 @@ queued_not_waiting m p h e = by (reason_of m p) refl
           queue_occurs m (priority_of p) (workspace_of p) e,
           waiter_occurs m.waiting p r (found_waiter m.waiting p r k),
         ))
+
+-- one whose words are not saved neither waits nor is queued
+pub unsaved_not_waiting : (c : Claims) (m : Control) (p : ℕ) → Agrees c m → has_saved c (workspace_of p) ≡ false → reason_of m p ≡ None
+unsaved_not_waiting c m p h e = by (reason_of m p) refl
+  where
+    by : (o : Option Reason) → reason_of m p ≡ o → o ≡ None
+    by None k = refl
+    by (Some r) k = let f : true ≡ false = sym (waiter_saved_now c m p h (rw k refl)) ∙ e in cc
+
+pub unsaved_not_queued : (c : Claims) (m : Control) (p : ℕ) → Agrees c m → has_saved c (workspace_of p) ≡ false → is_queued m p ≡ false
+unsaved_not_queued c m p h e = by (is_queued m p) refl
+  where
+    by : (b : Bool) → is_queued m p ≡ b → b ≡ false
+    by false k = refl
+    by true k = let f : true ≡ false = sym (queued_saved_now c m p h k) ∙ e in cc

@@ -52,6 +52,12 @@ beside_err (Some a) z x b e h = rw e h
 pub word_inside : (n a : ℕ) (c : Claims) → word_break n c Writes a ≡ None → is_inside n (word_span a) ≡ true
 word_inside n a c h = (word_break-passes n c Writes a h).inside
 
+-- bytes may be copied that may be read, to where others may be written
+pub may_copy : (n : ℕ) (c : Claims) (from to count : ℕ) → span_break n c Reads (record { start = from; size = count }) ≡ None → span_break n c Writes (record { start = to; size = count }) ≡ None
+    → copy_break n c from to count ≡ None
+unfolding copy_break
+may_copy n c from to count h k = rw (h, k) refl
+
 -- and so are the bytes that may be copied
 pub source_inside : (n : ℕ) (c : Claims) (from to count : ℕ) → copy_break n c from to count ≡ None → is_inside n (record { start = from; size = count }) ≡ true
 unfolding copy_break

@@ -40,6 +40,7 @@ pub fn begin_choice(state: &mut State, ram: &mut Ram) -> Result<Ran, Break>
 fn enable_link(state: &mut State, ram: &mut Ram, process: Word, channel: Word) -> Result<(), Break>
     requires link { names_link channel ≡ true }
     requires plain { IsPlain state.old }
+    requires agrees { Agrees ram.old.marks state.old }
     requires touched { word_break (length ram.old.memory) ram.old.marks Writes (word_below state.old.registers.wptr 3) ≡ None }
     ensures done { Begins (enabling channel process state.old) ram.old.marks ram.old.memory (with_control result state.new) ram.new.memory }
     ensures kept { OnErr result ((ram.new.memory ≡ ram.old.memory) × (state.new ≡ state.old)) }
@@ -47,7 +48,7 @@ fn enable_link(state: &mut State, ram: &mut Ram, process: Word, channel: Word) -
     ensures agrees { StillAgrees state.old state.new }
 {
     let link = link_at(Side::Input, channel)?;
-    require(state.is_free(Side::Input, link), Break::LinkBusy)?;
+    require(state.is_free(ram, Side::Input, link), Break::LinkBusy)?;
     let end = state.link(link);
     if end.noticed {
         ram.set_word(below(state.registers.wptr, STATE_WORD), Word::new(READY));
@@ -66,6 +67,7 @@ fn enable_link(state: &mut State, ram: &mut Ram, process: Word, channel: Word) -
 /// An internal channel is enabled: its word names the process, or a process waits there already to output.
 fn enable_internal(state: &State, ram: &mut Ram, process: Word, channel: Word) -> Result<(), Break>
     requires plain { IsPlain state.now }
+    requires agrees { Agrees ram.old.marks state.now }
     requires touched { word_break (length ram.old.memory) ram.old.marks Writes (word_below state.now.registers.wptr 3) ≡ None }
     ensures done { Begins (enabling_internal channel process state.now) ram.old.marks ram.old.memory (with_control result state.now) ram.new.memory }
     ensures kept { OnErr result (ram.new.memory ≡ ram.old.memory) }
@@ -76,7 +78,7 @@ fn enable_internal(state: &State, ram: &mut Ram, process: Word, channel: Word) -
         ram.set_word(channel, process);
         return Ok(());
     }
-    match &state.standing(found) {
+    match &state.standing(ram, found) {
         Standing::Waits(Reason::Sends { channel: other, .. }) => {
             require(*other == channel, Break::ChannelMisuse)?;
             ram.set_word(below(state.registers.wptr, STATE_WORD), Word::new(READY));
@@ -90,6 +92,7 @@ fn enable_internal(state: &State, ram: &mut Ram, process: Word, channel: Word) -
 /// A channel is enabled.
 fn enable(state: &mut State, ram: &mut Ram, process: Word, channel: Word) -> Result<(), Break>
     requires plain { IsPlain state.old }
+    requires agrees { Agrees ram.old.marks state.old }
     requires touched { word_break (length ram.old.memory) ram.old.marks Writes (word_below state.old.registers.wptr 3) ≡ None }
     ensures done { Begins (enabling channel process state.old) ram.old.marks ram.old.memory (with_control result state.new) ram.new.memory }
     ensures kept { OnErr result ((ram.new.memory ≡ ram.old.memory) × (state.new ≡ state.old)) }
@@ -106,6 +109,7 @@ fn enable(state: &mut State, ram: &mut Ram, process: Word, channel: Word) -> Res
 /// The channel of the guard that `enbc` names is enabled, unless the guard is false.
 fn enable_guard(state: &mut State, ram: &mut Ram, process: Word) -> Result<(), Break>
     requires plain { IsPlain state.old }
+    requires agrees { Agrees ram.old.marks state.old }
     requires touched { word_break (length ram.old.memory) ram.old.marks Writes (word_below state.old.registers.wptr 3) ≡ None }
     ensures done { Begins (if state.old.registers.a == 0 then answer state.old else enabling state.old.registers.b process state.old) ram.old.marks ram.old.memory (with_control result state.new) ram.new.memory }
     ensures kept { OnErr result ((ram.new.memory ≡ ram.old.memory) × (state.new ≡ state.old)) }
@@ -201,18 +205,20 @@ pub enum Guard {
 fn link_guard(state: &State, ram: &Ram, channel: Word) -> Result<Guard, Break>
     requires link { names_link channel ≡ true }
     requires plain { IsPlain state.now }
+    requires agrees { Agrees ram.now.marks state.now }
     ensures done { Disables (disabling channel state.now) ram.now.marks ram.now.memory state.now result }
     ensures may { IfOk result (λ g. MayDisable (length ram.now.memory) ram.now.marks g) }
 {
     let _claims = ram;
     let link = link_at(Side::Input, channel)?;
-    require(state.is_free(Side::Input, link), Break::LinkBusy)?;
+    require(state.is_free(ram, Side::Input, link), Break::LinkBusy)?;
     Ok(Guard::Link(link, state.link(link).noticed))
 }
 
 /// The guard of an internal channel.
 fn internal_guard(state: &State, ram: &Ram, channel: Word) -> Result<Guard, Break>
     requires plain { IsPlain state.now }
+    requires agrees { Agrees ram.now.marks state.now }
     ensures done { Disables (disabling_internal channel state.now) ram.now.marks ram.now.memory state.now result }
     ensures may { IfOk result (λ g. MayDisable (length ram.now.memory) ram.now.marks g) }
 {
@@ -220,7 +226,7 @@ fn internal_guard(state: &State, ram: &Ram, channel: Word) -> Result<Guard, Brea
     if found.get() == NOT_PROCESS {
         return Ok(Guard::NotReady);
     }
-    match &state.standing(found) {
+    match &state.standing(ram, found) {
         Standing::Waits(Reason::Sends { channel: other, .. }) => {
             require(*other == channel, Break::ChannelMisuse)?;
             Ok(Guard::Ready)
@@ -233,6 +239,7 @@ fn internal_guard(state: &State, ram: &Ram, channel: Word) -> Result<Guard, Brea
 /// The guard of a channel.
 fn channel_guard(state: &State, ram: &Ram, channel: Word) -> Result<Guard, Break>
     requires plain { IsPlain state.now }
+    requires agrees { Agrees ram.now.marks state.now }
     ensures done { Disables (disabling channel state.now) ram.now.marks ram.now.memory state.now result }
     ensures may { IfOk result (λ g. MayDisable (length ram.now.memory) ram.now.marks g) }
 {
@@ -246,6 +253,7 @@ fn channel_guard(state: &State, ram: &Ram, channel: Word) -> Result<Guard, Break
 /// The guard that `disc` names: one that is false is not ready.
 fn guard_of(state: &State, ram: &Ram) -> Result<Guard, Break>
     requires plain { IsPlain state.now }
+    requires agrees { Agrees ram.now.marks state.now }
     ensures done { Disables (if state.now.registers.b == 0 then answer (state.now, false) else disabling state.now.registers.c state.now) ram.now.marks ram.now.memory state.now result }
     ensures may { IfOk result (λ g. MayDisable (length ram.now.memory) ram.now.marks g) }
 {

@@ -53,9 +53,10 @@ pub fn link_at(side: Side, channel: Word) -> Result<u8, Break>
 
 impl State {
     /// Whether a half of a link is free for the process that runs.
-    pub fn is_free(&self, side: Side, link: u8) -> bool
+    pub fn is_free(&self, ram: &Ram, side: Side, link: u8) -> bool
         requires link { link < 4 }
         requires plain { IsPlain self.now }
+        requires agrees { Agrees ram.now.marks self.now }
         ensures { result ≡ end_free (side_of side) (link_end self.now link) self.now }
     {
         let end = self.link(link);
@@ -64,7 +65,7 @@ impl State {
             Side::Input => {
                 end.input.is_none()
                     && match end.remembered {
-                        Some(process) => self.runs(process),
+                        Some(process) => self.runs(ram, process),
                         None => true,
                     }
             }
@@ -125,7 +126,7 @@ fn send_on_link(state: &mut State, ram: &mut Ram, q: &Request) -> Result<Ran, Br
     let own = state.registers.wptr;
     let link = link_at(Side::Output, q.channel)?;
     require(q.length != 0, Break::ZeroLength)?;
-    require(state.is_free(Side::Output, link), Break::LinkBusy)?;
+    require(state.is_free(ram, Side::Output, link), Break::LinkBusy)?;
     ram.may_deschedule(own)?;
     ram.may_read_beside(own, q.buffer, q.length)?;
     lay(ram, own, q.first);
@@ -160,7 +161,7 @@ fn receive_on_link(state: &mut State, ram: &mut Ram, q: &Request) -> Result<Ran,
     let own = state.registers.wptr;
     let link = link_at(Side::Input, q.channel)?;
     require(q.length != 0, Break::ZeroLength)?;
-    require(state.is_free(Side::Input, link), Break::LinkBusy)?;
+    require(state.is_free(ram, Side::Input, link), Break::LinkBusy)?;
     ram.may_deschedule(own)?;
     ram.may_write_beside(own, q.buffer, q.length)?;
     lay(ram, own, q.first);

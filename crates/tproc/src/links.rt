@@ -122,7 +122,7 @@ fn tell(state: &mut State, ram: &mut Ram, process: Word)
     ensures done { record { control = state.new; store = ram.new.memory } ≡ notify_at (standing state.old process) process (record { control = state.old; store = ram.old.memory }) }
     ensures agrees { Agrees ram.new.marks state.new }
 {
-    match &state.standing(process) {
+    match &state.standing(ram, process) {
         Standing::Waits(Reason::Chooses) => {
             tell_waiting(state, ram, process);
         }

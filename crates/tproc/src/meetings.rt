@@ -3,7 +3,7 @@
 ghost use Rattle.std.specs.Prelude.{◌≡◌, ◌∷◌, [], Ok, Some, None, true, false, IfErr, IfSome, IsSome, OnOk, length};
 ghost use Rattle.tword.specs.Claims.{has_saved, saving};
 ghost use Rattle.tword.specs.Actions.{answer, run_from};
-ghost use Rattle.tword.specs.Touches.{Writes, word_break};
+ghost use Rattle.tword.specs.Touches.{Writes, copy_break, word_break};
 ghost use Rattle.tword.specs.Words.{word_below};
 ghost use Rattle.tproc.specs.Machine.{workspace_of as the_workspace};
 ghost use Rattle.tproc.specs.Standing.{reason_of, standing, Queued, Interrupted};
@@ -26,7 +26,7 @@ use crate::waiting::Reason;
 use crate::words::below;
 use tword::{Break, Word};
 
-/// The whole message is copied and the other process is queued; then the registers of the request go on.
+/// The whole message is copied, which may be, and the other process is queued; then the registers of the request go on.
 fn exchange(
     state: &mut State,
     ram: &mut Ram,
@@ -34,27 +34,29 @@ fn exchange(
     other: Word,
     from: Word,
     to: Word,
-) -> Result<Ran, Break>
+) -> Ran
     requires plain { IsPlain state.old }
     requires agrees { Agrees ram.old.marks state.old }
     requires waits { IsSome (reason_of state.old other) }
+    requires channel { word_break (length ram.old.memory) ram.old.marks Writes q.now.channel ≡ None }
+    requires copied { copy_break (length ram.old.memory) ram.old.marks from to q.now.length ≡ None }
     requires free { IfSome q.now.first (λ _. word_break (length ram.old.memory) ram.old.marks Writes state.old.registers.wptr ≡ None) }
-    ensures done { Does (run_from (exchanged q.now.after (request q.now) other from to state.old) ram.old.memory ram.old.marks (laid q.now.first state.old.registers.wptr ram.old.memory)) state.old ram.old.memory result state.new ram.new.memory }
+    ensures done { Does (run_from (exchanged q.now.after (request q.now) other from to state.old) ram.old.memory ram.old.marks (laid q.now.first state.old.registers.wptr ram.old.memory)) state.old ram.old.memory (Ok result) state.new ram.new.memory }
     ensures agrees { Agrees ram.new.marks state.new }
 {
-    ram.may_write_word(q.channel)?;
-    ram.may_copy(from, to, q.length)?;
     lay(ram, state.registers.wptr, q.first);
     ram.set_word(q.channel, Word::new(NOT_PROCESS));
     ram.copy(from, to, q.length);
     release(state, ram, other);
     state.go(q.after);
-    Ok(Ran::Instruction)
+    Ran::Instruction
 }
 
 /// An input finds a process in its channel.
+#[tactic(auto, using(crate::proofs::Touching::may_copy))]
 fn receive(state: &mut State, ram: &mut Ram, q: &Request, other: Word) -> Result<Ran, Break>
     requires side { (request q.now).side ≡ Input }
+    requires channel { word_break (length ram.old.memory) ram.old.marks Writes q.now.channel ≡ None }
     requires plain { IsPlain state.old }
     requires agrees { Agrees ram.old.marks state.old }
     requires free { IfSome q.now.first (λ _. word_break (length ram.old.memory) ram.old.marks Writes state.old.registers.wptr ≡ None) }
@@ -73,13 +75,14 @@ fn receive(state: &mut State, ram: &mut Ram, q: &Request, other: Word) -> Result
             require(*length == q.length, Break::LengthMismatch)?;
             ram.may_write(q.buffer, q.length)?;
             ram.may_read(*buffer, *length)?;
-            exchange(state, ram, q, other, *buffer, q.buffer)
+            Ok(exchange(state, ram, q, other, *buffer, q.buffer))
         }
         _ => Err(Break::ChannelMisuse),
     }
 }
 
 /// An output finds a process that waits to receive with this channel, buffer and length.
+#[tactic(auto, using(crate::proofs::Touching::may_copy))]
 fn deliver(
     state: &mut State,
     ram: &mut Ram,
@@ -90,6 +93,7 @@ fn deliver(
     size: u32,
 ) -> Result<Ran, Break>
     requires side { (request q.now).side ≡ Output }
+    requires channel { word_break (length ram.old.memory) ram.old.marks Writes q.now.channel ≡ None }
     requires plain { IsPlain state.old }
     requires agrees { Agrees ram.old.marks state.old }
     requires waits { IsSome (reason_of state.old other) }
@@ -101,7 +105,7 @@ fn deliver(
     require(size == q.length, Break::LengthMismatch)?;
     ram.may_read(q.buffer, q.length)?;
     ram.may_write(buffer, size)?;
-    exchange(state, ram, q, other, q.buffer, buffer)
+    Ok(exchange(state, ram, q, other, q.buffer, buffer))
 }
 
 /// An output finds a process that waits for its alternative: that becomes ready.
@@ -235,13 +239,14 @@ fn ready_interrupted(
 fn send(state: &mut State, ram: &mut Ram, q: &Request, other: Word) -> Result<Ran, Break>
     requires side { (request q.now).side ≡ Output }
     requires own { IsOwn q.now.process state.old }
+    requires channel { word_break (length ram.old.memory) ram.old.marks Writes q.now.channel ≡ None }
     requires plain { IsPlain state.old }
     requires agrees { Agrees ram.old.marks state.old }
     requires free { IfSome q.now.first (λ _. word_break (length ram.old.memory) ram.old.marks Writes state.old.registers.wptr ≡ None) }
     ensures done { Does (run_from (output_meets q.now.after (request q.now) other (standing state.old other) state.old) ram.old.memory ram.old.marks (laid q.now.first state.old.registers.wptr ram.old.memory)) state.old ram.old.memory result state.new ram.new.memory }
     ensures agrees { Agrees ram.new.marks state.new }
 {
-    match &state.standing(other) {
+    match &state.standing(ram, other) {
         Standing::Waits(
             Reason::Receives {
                 channel,
@@ -259,6 +264,7 @@ fn send(state: &mut State, ram: &mut Ram, q: &Request, other: Word) -> Result<Ra
 /// A process finds another in its channel.
 fn meet(state: &mut State, ram: &mut Ram, q: &Request, other: Word) -> Result<Ran, Break>
     requires own { IsOwn q.now.process state.old }
+    requires channel { word_break (length ram.old.memory) ram.old.marks Writes q.now.channel ≡ None }
     requires plain { IsPlain state.old }
     requires agrees { Agrees ram.old.marks state.old }
     requires free { IfSome q.now.first (λ _. word_break (length ram.old.memory) ram.old.marks Writes state.old.registers.wptr ≡ None) }

@@ -76,22 +76,25 @@ impl State {
         }
     }
 
-    /// Where a descriptor is found.
-    #[tactic(auto, using(crate::proofs::Entries::queued_not_waiting))]
-    pub fn standing(&self, process: Word) -> Standing
-        requires { IsPlain self.now }
+    /// Where a descriptor is found. One whose words are not saved is neither queued nor waits.
+    #[tactic(auto, using(crate::proofs::Entries::queued_not_waiting, crate::proofs::Entries::unsaved_not_waiting, crate::proofs::Entries::unsaved_not_queued))]
+    pub fn standing(&self, ram: &Ram, process: Word) -> Standing
+        requires plain { IsPlain self.now }
+        requires agrees { Agrees ram.now.marks self.now }
         ensures stands { standing_of result ≡ the_standing self.now process }
         ensures waits { the_reason self.now process ≡ reason_in result }
         ensures queued { IfQueued result (the_queued self.now process ≡ true) }
     {
-        if self.is_at_its_place(process) {
-            return Standing::Queued;
-        }
-        if let Some(reason) = self.reason(process) {
-            return Standing::Waits(reason);
-        }
-        if self.is_queued(process) {
-            return Standing::Queued;
+        if ram.has_saved(workspace_of(process)) {
+            if self.is_at_its_place(process) {
+                return Standing::Queued;
+            }
+            if let Some(reason) = self.reason(process) {
+                return Standing::Waits(reason);
+            }
+            if self.is_queued(process) {
+                return Standing::Queued;
+            }
         }
         if let Some(priority) = self.current
             && self.registers.wptr.get() + u32::from(priority) == process.get()
@@ -105,11 +108,12 @@ impl State {
     }
 
     /// Whether a descriptor is found as the process that runs.
-    pub fn runs(&self, process: Word) -> bool
-        requires { IsPlain self.now }
+    pub fn runs(&self, ram: &Ram, process: Word) -> bool
+        requires plain { IsPlain self.now }
+        requires agrees { Agrees ram.now.marks self.now }
         ensures { result ≡ is_running (the_standing self.now process) }
     {
-        match &self.standing(process) {
+        match &self.standing(ram, process) {
             Standing::Runs => true,
             _ => false,
         }

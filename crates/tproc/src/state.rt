@@ -5,6 +5,7 @@ ghost use Rattle.tproc.specs.LinkChannels.{link_end, with_link};
 ghost use Rattle.tproc.specs.Machine.{workspace_of as the_workspace};
 ghost use Rattle.tproc.specs.Queues.{at_rest, suspended, resumed};
 ghost use Rattle.tproc.specs.Scheduler.{counted, counted_by};
+ghost use Rattle.tproc.specs.Doing.{moved_on};
 ghost use Rattle.tproc.specs.Opening.{no_processes};
 ghost use Rattle.tproc.specs.Resting.{is_idle};
 ghost use Rattle.tproc.specs.Agreement.{IsPlain, IsOwn, StillAgrees, is_over};
@@ -189,11 +190,21 @@ impl State {
         self.count = 0;
     }
 
-    /// Registers and count are set back.
-    pub fn take_back(&mut self, registers: Registers, count: u32)
-        ensures { self.new ≡ record self.old { registers = registers; count = count } }
+    /// The process moves on behind an instruction of this length.
+    #[inline]
+    pub fn move_on(&mut self, length: u8)
+        ensures done { self.new ≡ moved_on length self.old }
+        ensures agrees { StillAgrees self.old self.new }
     {
-        self.registers = registers;
+        self.registers.iptr = self.registers.iptr.plus(Word::new(u32::from(length)));
+    }
+
+    /// Iptr and count are set back.
+    #[inline]
+    pub fn take_back(&mut self, iptr: Word, count: u32)
+        ensures { self.new ≡ record self.old { registers = record self.old.registers { iptr = iptr }; count = count } }
+    {
+        self.registers.iptr = iptr;
         self.count = count;
     }
 

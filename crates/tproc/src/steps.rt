@@ -115,12 +115,9 @@ fn scheduled(
     ensures done { Does (run (operation_step o priority (counted_by o priority (moved_on size state.old))) ram.old.memory ram.old.marks) state.old ram.old.memory result state.new ram.new.memory }
     ensures agrees { Agrees ram.new.marks state.new }
 {
-    let before = state.registers;
+    let before = state.registers.iptr;
     let count = state.count;
-    state.go(Registers {
-        iptr: before.iptr.plus(Word::new(u32::from(size))),
-        ..before
-    });
+    state.move_on(size);
     state.count_by(o, priority);
     match operation(state, ram, o, priority) {
         Ok(ran) => Ok(ran),
