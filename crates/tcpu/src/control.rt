@@ -70,7 +70,6 @@ pub fn load_pointer_to_instruction(registers: &mut Registers) -> Next
 ///
 /// # Errors
 /// `Unaligned` where A is no multiple of 4.
-#[inline(always)]
 pub fn general_adjust_workspace(
     registers: &mut Registers,
     memory: &Memory,
@@ -92,7 +91,7 @@ pub fn general_adjust_workspace(
 ///
 /// # Errors
 /// The break of the first of the four words, from the lowest up, that may not be written.
-#[inline(always)]
+#[inline]
 pub fn call(
     registers: &mut Registers,
     memory: &mut Memory,

@@ -18,7 +18,7 @@ use tword::{Break, Marks, Memory, Word};
 ///
 /// # Errors
 /// The break of a read of the word.
-#[inline(always)]
+#[inline]
 pub fn load_local(
     registers: &mut Registers,
     memory: &Memory,
@@ -37,7 +37,7 @@ pub fn load_local(
 ///
 /// # Errors
 /// The break of a read of the word.
-#[inline(always)]
+#[inline]
 pub fn load_non_local(
     registers: &mut Registers,
     memory: &Memory,
@@ -56,7 +56,7 @@ pub fn load_non_local(
 ///
 /// # Errors
 /// The break of a write of the word.
-#[inline(always)]
+#[inline]
 pub fn store_local(
     registers: &mut Registers,
     memory: &mut Memory,
@@ -76,7 +76,7 @@ pub fn store_local(
 ///
 /// # Errors
 /// The break of a write of the word.
-#[inline(always)]
+#[inline]
 pub fn store_non_local(
     registers: &mut Registers,
     memory: &mut Memory,
@@ -97,7 +97,7 @@ pub fn store_non_local(
 ///
 /// # Errors
 /// The break of a read of the byte.
-#[inline(always)]
+#[inline]
 pub fn load_byte(registers: &mut Registers, memory: &Memory, marks: &Marks) -> Result<Next, Break>
     ensures done { run (local_or_left (operation_effect op.Lb registers.old) op.Lb registers.old) memory.now marks.now ≡ outcome_of result registers.new memory.now }
     ensures kept { OnErr result (registers.new ≡ registers.old) }
@@ -111,7 +111,7 @@ pub fn load_byte(registers: &mut Registers, memory: &Memory, marks: &Marks) -> R
 ///
 /// # Errors
 /// The break of a write of the byte.
-#[inline(always)]
+#[inline]
 pub fn store_byte(
     registers: &mut Registers,
     memory: &mut Memory,
@@ -132,7 +132,6 @@ pub fn store_byte(
 ///
 /// # Errors
 /// The break of a read of the source, else of a write of the target.
-#[inline(always)]
 pub fn move_bytes(
     registers: &mut Registers,
     memory: &mut Memory,
