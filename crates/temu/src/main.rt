@@ -15,6 +15,7 @@ pub mod log_reading;
 #[cfg(test)]
 mod log_tests;
 pub mod net_dump;
+pub mod options;
 pub mod running;
 #[cfg(test)]
 mod tests;
