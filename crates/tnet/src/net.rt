@@ -174,7 +174,7 @@ impl Net {
     }
 
     /// A net is sound between events.
-    fn know_sound(&self)
+    pub(crate) fn know_sound(&self)
         ensures { IsSound self.now }
     {
         let _parts = &self.parts;
