@@ -1,0 +1,8 @@
+//! Texts that are written: a trace, dumps, a log. No memory is taken: a text goes to its writer piece by piece, through a
+//! buffer on the stack.
+
+pub mod end;
+pub mod output;
+pub mod text;
+pub mod trace;
+pub mod waiting;
