@@ -19,7 +19,7 @@ pub record IsCut (old new : Option (List ℕ)) (text : List ℕ) (written : ℕ)
   pub told : written ≡ counted count
 
 -- a text went out whole, or just its first bytes did, so many as the fault tells
-abbrev pub IsOut : Option (List ℕ) → Option (List ℕ) → List ℕ → Result (Unit {0}) WriteFault → Type 0
+abbrev pub IsOut : {T : Type 0} → Option (List ℕ) → Option (List ℕ) → List ℕ → Result T WriteFault → Type 0
 IsOut old new text (Ok _) = Appends old new text
 IsOut old new text (Err fault) = IsCut old new text fault.written
 

@@ -2,7 +2,9 @@
 #![tactic(auto)]
 
 pub mod dump;
+pub mod failure;
 pub mod fault;
+pub mod fault_line;
 pub mod first;
 pub mod first_fault;
 #[cfg(test)]
@@ -15,7 +17,10 @@ pub mod log_reading;
 #[cfg(test)]
 mod log_tests;
 pub mod net_dump;
+pub mod opened;
 pub mod options;
+pub mod replaying;
+pub mod run;
 pub mod running;
 #[cfg(test)]
 mod tests;
@@ -34,7 +39,7 @@ use thiserror::Error;
 
 /// Why the program printed nothing. Its text is printed behind `temu: ` (own choice).
 #[derive(Debug, Drop, Error)]
-enum Failure {
+enum Stop {
     /// The words are not `first IMAGE`.
     #[error("first words")]
     Words,
@@ -46,18 +51,18 @@ enum Failure {
     First(FirstFault),
 }
 
-impl Failure {
+impl Stop {
     /// The exit status.
     fn status(&self) -> u8 {
         match self {
-            Failure::Words | Failure::File(_) => 2,
-            Failure::First(fault) => fault.status(),
+            Stop::Words | Stop::File(_) => 2,
+            Stop::First(fault) => fault.status(),
         }
     }
 }
 
 fn main(rt: HostRuntime) -> ExitCode {
-    match run(&rt) {
+    match do_first(&rt) {
         Ok(froze) => ExitCode::from(u8::from(froze)),
         Err(failure) => {
             // Where standard error fails too, the status alone tells.
@@ -68,7 +73,7 @@ fn main(rt: HostRuntime) -> ExitCode {
 }
 
 /// Does what the words ask for, and answers whether the node froze.
-fn run(rt: &HostRuntime) -> Result<bool, Failure> {
+fn do_first(rt: &HostRuntime) -> Result<bool, Stop> {
     let name = image_name(rt)?;
     let bytes = match fs::read(rt, name.as_str()) {
         Ok(bytes) => bytes,
@@ -76,32 +81,32 @@ fn run(rt: &HostRuntime) -> Result<bool, Failure> {
     };
     match first_text(rt.alloc(), bytes.as_slice(), &mut io::writer(rt)) {
         Ok(froze) => Ok(froze),
-        Err(fault) => Err(Failure::First(fault)),
+        Err(fault) => Err(Stop::First(fault)),
     }
 }
 
 /// Why a file was not read: there was no memory for it, or else the file itself.
-fn unread(name: String, error: &io::Error) -> Failure {
+fn unread(name: String, error: &io::Error) -> Stop {
     match error.kind() {
-        io::ErrorKind::OutOfMemory => Failure::First(FirstFault::OutOfMemory),
-        _ => Failure::File(name),
+        io::ErrorKind::OutOfMemory => Stop::First(FirstFault::OutOfMemory),
+        _ => Stop::File(name),
     }
 }
 
 /// The file that the words `first IMAGE` name.
-fn image_name(rt: &HostRuntime) -> Result<String, Failure> {
+fn image_name(rt: &HostRuntime) -> Result<String, Stop> {
     let Ok(mut words) = env::args(rt) else {
-        return Err(Failure::First(FirstFault::OutOfMemory));
+        return Err(Stop::First(FirstFault::OutOfMemory));
     };
     let _program = words.next();
     let Some(command) = words.next() else {
-        return Err(Failure::Words);
+        return Err(Stop::Words);
     };
     let Some(name) = words.next() else {
-        return Err(Failure::Words);
+        return Err(Stop::Words);
     };
     if command.as_str() != "first" || words.next().is_some() {
-        return Err(Failure::Words);
+        return Err(Stop::Words);
     }
     Ok(name)
 }
