@@ -1,7 +1,8 @@
 -- The lines of a dump, byte by byte and line by line.
 use Rattle.std.proofs.Common.{◌≡◌, ℕ, zero, suc, ◌+◌, ◌*◌, ◌-◌, ◌<◌, ◌≤◌, refl, sym, ap, ap₂, ◌∙◌, List, [], ◌∷◌, ◌++◌, length, get_or, take, drop, flat_map, min, Bool, true, false, ◌⊎◌, inl, inr, Option, Some, None, arith, add-one, drop-cons}
-use Rattle.std.specs.Prelude.{if◌then◌else◌, ◌&&◌, ◌||◌, nat_lt, slice_range}
-use Rattle.std.specs.Int.{div_ceil}
+use Rattle.std.specs.Prelude.{codes, if◌then◌else◌, ◌&&◌, ◌||◌, nat_lt, slice_range}
+use Rattle.std.specs.Int.{div_ceil, to_be_bytes, w32}
+use Rattle.hex.specs.Hex.{encode_lower}
 use Rattle.std.specs.List.{list_all, list_any}
 use Rattle.std.proofs.Math.ListN.{drop_of_length-le}
 use Rattle.std.proofs.lemmas.Bool.{or_parts, and_parts, lt-ltb, ltb-true, both_ways, cases_lt}
@@ -11,7 +12,8 @@ use Rattle.tword.specs.Claims.{overlap, overlaps_claim}
 use Rattle.tword.specs.Stores.{Store, as_cells, hiding_from}
 use Rattle.tword.specs.Touches.{byte_span}
 use Rattle.tword.specs.Words.{most_neg}
-use Rattle.temu.specs.Texts.{is_zero, cell_text, is_pending, dump_line, dump_lines}
+use Rattle.temu.specs.Logs.{line}
+use Rattle.temu.specs.Texts.{is_zero, cell_text, is_pending, dump_line, dump_lines, lines_of}
 
 -- the cell of a byte, hidden or not
 abbrev pub cell_of : (ℕ → Bool) → ℕ → ℕ → Option ℕ
@@ -103,9 +105,20 @@ shown_same pending a bytes h =
     let same : length (as_cells bytes) ≡ length bytes = length-map bytes Some in
     hiding_from-same (is_pending []) (is_pending pending) a (as_cells bytes) (λ k l m. sym (none_pending a (length bytes) k pending l (omega (arith, same)) h))
 
+-- a line of zeros is left out
+pub line_left_out : (a : ℕ) (cells : Store) → true ≡ list_all is_zero cells → [] ≡ dump_line a cells
+line_left_out a cells e = ap (λ (z : Bool). if z then [] else line (encode_lower (to_be_bytes w32 a) ++ (codes ":" ++ flat_map cell_text cells))) e
+
+-- any other is not
+pub line_shown : (a : ℕ) (cells : Store) → false ≡ list_all is_zero cells → line (encode_lower (to_be_bytes w32 a) ++ (codes ":" ++ flat_map cell_text cells)) ≡ dump_line a cells
+line_shown a cells e = ap (λ (z : Bool). if z then [] else line (encode_lower (to_be_bytes w32 a) ++ (codes ":" ++ flat_map cell_text cells))) e
+
 -- the lines of a store, from one of them on
 abbrev pub lines_from : ℕ → Store → List ℕ
 lines_from k store = dump_lines (length store - k) (most_neg + 16 * k) (drop (16 * k) store)
+
+pub lines_begin : (store : Store) → lines_of store ≡ lines_from 0 store
+lines_begin store = ap₂ (λ (n a : ℕ). dump_lines n a store) (omega arith) (omega arith)
 
 -- a line of bytes
 abbrev pub line_of : (ℕ → Bool) → ℕ → List ℕ → List ℕ

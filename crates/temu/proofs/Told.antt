@@ -159,6 +159,10 @@ module _ {W : Type 0} {contents : W → Option (List ℕ)} where
   pub goes_on-start : (a : Output W) (whole : List ℕ) → GoesOn contents a a whole whole
   goes_on-start a whole = record { piece = []; tells = tells_none a; is_whole = refl }
 
+  -- the same is left
+  pub goes_on-as : {a b : Output W} {left rest whole : List ℕ} → GoesOn contents a b left whole → left ≡ rest → GoesOn contents a b rest whole
+  goes_on-as {a} {b} {whole = whole} g e = subst (λ (l : List ℕ). GoesOn contents a b l whole) e g
+
   pub goes_on-next : {a b c : Output W} {left whole : List ℕ} (piece rest : List ℕ) → GoesOn contents a b left whole → left ≡ piece ++ rest → Tells contents b c piece
       → GoesOn contents a c rest whole
   goes_on-next piece rest g e t =
