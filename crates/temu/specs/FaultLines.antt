@@ -71,7 +71,7 @@ replay_words replays.OutOfMemory = memory_words
 
 -- what is told of a fault
 abbrev pub fault_words : Fault → List (List ℕ)
-fault_words (fault.File name) = codes "file" ∷ name.bytes ∷ []
+fault_words (fault.File name) = codes "file" ∷ name.bytes.items ∷ []
 fault_words (fault.Wiring f) = wiring_words f
 fault_words (fault.Image n f) = image_words n f
 fault_words (fault.Net f) = net_words f

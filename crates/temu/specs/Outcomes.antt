@@ -94,9 +94,10 @@ last_of r = rounds_end (is_quiet_end r.«end») r.rounds
 abbrev pub report_text : Report → List ℕ
 report_text r = run_text r.notes (view r.net) (last_of r)
 
--- a fault is the one that is due, unless memory was wanted
+-- a fault is the one that is due, unless memory was wanted; nothing was to be written yet
 abbrev pub IsFaultOf : {T : Type 0} → Result T Fault → Fault → Type 0
 IsFaultOf due fault.Memory = Unit {0}
+IsFaultOf due (fault.Output f) = ⊥
 IsFaultOf due f = due ≡ Err f
 
 -- so for a text call, which may have failed to write the text that was due

@@ -23,12 +23,21 @@ pub fn write_fault<W: Write>(fault: &Fault, out: &mut W) -> Result<u8, WriteFaul
     ensures line { IsOut (W.contents out.old) (W.contents out.new) (spec.fault_line fault.now) result }
     ensures status { IfOk result (λ status. status ≡ spec.status_of fault.now) }
 {
+    match write_line(fault, out) {
+        Ok(()) => Ok(fault.status()),
+        Err(failed) => Err(failed),
+    }
+}
+
+/// Writes the line of a fault.
+fn write_line<W: Write>(fault: &Fault, out: &mut W) -> Result<(), WriteFault>
+    ensures { IsOut (W.contents out.old) (W.contents out.new) (spec.fault_line fault.now) result }
+{
     let mut output = Output::new(out);
     output.put(b"temu: ");
     put_fault(&mut output, fault);
     output.put(b"\n");
-    output.finish()?;
-    Ok(fault.status())
+    output.finish()
 }
 
 impl Fault {
