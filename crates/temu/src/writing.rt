@@ -3,6 +3,7 @@
 
 pub mod dump;
 pub mod end;
+pub mod log;
 pub mod node_dump;
 pub mod output;
 pub mod text;
