@@ -1,112 +1,83 @@
-//! The program `temu`: `temu first IMAGE` runs a boot image on one node and prints the memory that it leaves.
+//! The program `temu`: it runs nets of T414 transputers from wiring files, replays logs of events, and shows the instructions of
+//! images.
 #![tactic(auto)]
 
-pub mod dump;
+mod commands;
+pub mod dis;
 pub mod failure;
 pub mod fault;
 pub mod fault_line;
-pub mod first;
-pub mod first_fault;
 #[cfg(test)]
-mod first_tests;
+mod fault_tests;
 pub mod image;
-pub mod last_line;
 pub mod laws;
-pub mod log;
 pub mod log_reading;
 #[cfg(test)]
 mod log_tests;
-pub mod net_dump;
 pub mod opened;
 pub mod options;
 pub mod replaying;
 pub mod run;
-pub mod running;
+#[cfg(test)]
+mod run_tests;
 #[cfg(test)]
 mod tests;
 pub mod text;
-pub mod trace;
 pub mod wiring;
 #[cfg(test)]
 mod wiring_tests;
+pub mod words;
+#[cfg(test)]
+mod words_tests;
 pub mod writing;
+#[cfg(test)]
+mod writing_tests;
 
-use crate::first::first_text;
-use crate::first_fault::FirstFault;
+use crate::commands::do_command;
+use crate::failure::Fault;
+use crate::fault_line::write_fault;
+use crate::words::{Command, CommandFault, read_words};
+use std::alloc::AllocError;
+use std::env;
 use std::process::ExitCode;
-use std::{env, fs, io};
-use thiserror::Error;
-
-/// Why the program printed nothing. Its text is printed behind `temu: ` (own choice).
-#[derive(Debug, Drop, Error)]
-enum Stop {
-    /// The words are not `first IMAGE`.
-    #[error("first words")]
-    Words,
-    /// The file of this name cannot be read.
-    #[error("file {0}")]
-    File(String),
-    /// The text of the image could not be written.
-    #[error(transparent)]
-    First(FirstFault),
-}
-
-impl Stop {
-    /// The exit status.
-    fn status(&self) -> u8 {
-        match self {
-            Stop::Words | Stop::File(_) => 2,
-            Stop::First(fault) => fault.status(),
-        }
-    }
-}
 
 fn main(rt: HostRuntime) -> ExitCode {
-    match do_first(&rt) {
-        Ok(froze) => ExitCode::from(u8::from(froze)),
-        Err(failure) => {
-            // Where standard error fails too, the status alone tells.
-            let _ = eprintln!(rt; "temu: {failure}");
-            ExitCode::from(failure.status())
+    let Ok(words) = given_words(&rt) else {
+        return tell(&rt, &Fault::Memory);
+    };
+    match command(&rt, words.as_slice()) {
+        Ok(command) => match do_command(&rt, &command) {
+            Ok(has_frozen) => ExitCode::from(u8::from(has_frozen)),
+            Err(fault) => tell(&rt, &fault),
+        },
+        Err(fault) => {
+            // Where the output fails too, the status alone tells.
+            let _ = fault.print(&rt);
+            ExitCode::from(fault.exit_code() as u8)
         }
     }
 }
 
-/// Does what the words ask for, and answers whether the node froze.
-fn do_first(rt: &HostRuntime) -> Result<bool, Stop> {
-    let name = image_name(rt)?;
-    let bytes = match fs::read(rt, name.as_str()) {
-        Ok(bytes) => bytes,
-        Err(error) => return Err(unread(name, &error)),
+/// The words of the command line.
+fn given_words(rt: &HostRuntime) -> Result<Vec<String>, AllocError> {
+    let Ok(given) = env::args(rt) else {
+        return Err(AllocError);
     };
-    match first_text(rt.alloc(), bytes.as_slice(), &mut io::writer(rt)) {
-        Ok(froze) => Ok(froze),
-        Err(fault) => Err(Stop::First(fault)),
-    }
+    given.collect(rt.alloc())
 }
 
-/// Why a file was not read: there was no memory for it, or else the file itself.
-fn unread(name: String, error: &io::Error) -> Stop {
-    match error.kind() {
-        io::ErrorKind::OutOfMemory => Stop::First(FirstFault::OutOfMemory),
-        _ => Stop::File(name),
+/// What the words ask for.
+fn command(rt: &HostRuntime, words: &[String]) -> Result<Command, CommandFault> {
+    let mut texts = Vec::new(rt.alloc());
+    for word in words {
+        texts.push(word.as_str())?;
     }
+    read_words(rt.alloc(), texts.as_slice())
 }
 
-/// The file that the words `first IMAGE` name.
-fn image_name(rt: &HostRuntime) -> Result<String, Stop> {
-    let Ok(mut words) = env::args(rt) else {
-        return Err(Stop::First(FirstFault::OutOfMemory));
-    };
-    let _program = words.next();
-    let Some(command) = words.next() else {
-        return Err(Stop::Words);
-    };
-    let Some(name) = words.next() else {
-        return Err(Stop::Words);
-    };
-    if command.as_str() != "first" || words.next().is_some() {
-        return Err(Stop::Words);
-    }
-    Ok(name)
+/// Tells a fault on standard error, and answers the status of the program.
+fn tell(rt: &HostRuntime, fault: &Fault) -> ExitCode {
+    // Where standard error fails too, the status alone tells.
+    let _ = write_fault(fault, &mut rt.stderr());
+    ExitCode::from(fault.status())
 }

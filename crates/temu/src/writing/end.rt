@@ -1,7 +1,7 @@
 //! The last line of what a run prints.
 
 ghost use Rattle.std.specs.Prelude.{codes, if◌then◌else◌};
-ghost use Rattle.temu.specs.Texts.{replay_end, rounds_end, turns_end};
+ghost use Rattle.temu.specs.Texts.{replay_end, rounds_end};
 ghost use Rattle.temu.specs.Outputs.{Tells};
 
 use crate::writing::output::Output;
@@ -27,17 +27,6 @@ fn put_how<W: Write>(out: &mut Output<'_, W>, quiet: bool)
         out.put(b"quiet");
     } else {
         out.put(b"rounds");
-    }
-}
-
-/// The last line of a run by turns: `end quiet`, or `end turns` where the net was not quiet.
-pub(crate) fn put_turns_end<W: Write>(out: &mut Output<'_, W>, quiet: bool)
-    ensures { Tells W.contents out.old out.new (turns_end quiet) }
-{
-    if quiet {
-        out.put(b"end quiet\n");
-    } else {
-        out.put(b"end turns\n");
     }
 }
 
