@@ -24,6 +24,7 @@ pub mod trace;
 pub mod wiring;
 #[cfg(test)]
 mod wiring_tests;
+pub mod words;
 
 use crate::first::first_text;
 use crate::first_fault::FirstFault;
