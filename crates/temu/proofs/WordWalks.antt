@@ -57,7 +57,7 @@ each_joined : {X : Type 0} (P : X → Type 0) (xs ys : List X) → Each P xs →
 each_joined P [] ys h k = k
 each_joined P (x ∷ xs) ys h k = (h.0, each_joined P xs ys h.1 k)
 
-each_found : {X : Type 0} (P : X → Type 0) (test : X → Bool) (xs : List X) (x : X) → Each P xs → find test xs ≡ Some x → P x × (test x ≡ true)
+pub each_found : {X : Type 0} (P : X → Type 0) (test : X → Bool) (xs : List X) (x : X) → Each P xs → find test xs ≡ Some x → P x × (test x ≡ true)
 each_found P test [] x h e = cc
 each_found P test (y ∷ ys) x h e = go (test y) refl (each_found P test ys x h.1) e
   where
@@ -103,19 +103,24 @@ without_passes c id rows h = at_row_passes c id (λ _. []) [] rows h (λ r e p. 
 with_values_passes : (c : List Rule) (a : Rule) (s : ValueSource) (values : List Text) (rows : List Row) → arg_by_id c a.id ≡ Some a → 0 < length values
     → values_fault a values ≡ [] → Rows c rows → Rows c (with_values a.id (reading_by a) s values rows)
 with_values_passes c a s values rows first lt passes h = at_row_passes c a.id (more_values s values) _ rows h
-    (λ r is p. (λ b found.
-    let old = p b found in
-    let id_is : r.id ≡ a.id = (bytes_eq-Decides r.id a.id).0 is in
-    let same : b ≡ a = same_some b a (sym found ∙ (ap (arg_by_id c) id_is ∙ first)) in
-    record {
-      some = longer r.values values old.some;
-      passes = kinds_joined _ _ r.values values old.passes (subst (λ (x : Rule). values_fault x values ≡ []) (sym same) passes);
-      reading = old.reading;
-    }, tt))
-    ((λ b found.
-    let same : a ≡ b = same_some a b (sym first ∙ found) in
-    subst (λ (x : Rule). Holds x (record { id = a.id; values = values; count = None; source = Some s; reading = reading_by a })) same
-    (record { some = lt; passes = passes; reading = refl })), tt)
+    (λ r is p. (
+      λ b found.
+          let old = p b found in
+          let id_is : r.id ≡ a.id = (bytes_eq-Decides r.id a.id).0 is in
+          let same : b ≡ a = same_some b a (sym found ∙ (ap (arg_by_id c) id_is ∙ first)) in
+          record {
+            some = longer r.values values old.some;
+            passes = kinds_joined _ _ r.values values old.passes (subst (λ (x : Rule). values_fault x values ≡ []) (sym same) passes);
+            reading = old.reading;
+          },
+      tt,
+    )) (
+      (λ b found.
+          let same : a ≡ b = same_some a b (sym first ∙ found) in
+          subst (λ (x : Rule). Holds x (record { id = a.id; values = values; count = None; source = Some s; reading = reading_by a })) same
+          (record { some = lt; passes = passes; reading = refl })),
+      tt,
+    )
 
 -- ---- one use of an argument
 

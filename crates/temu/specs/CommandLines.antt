@@ -1,11 +1,13 @@
 -- What the words of a command line ask for, by what `clap` reads of them for these commands.
 -- Source: the forms of the commands, their defaults and their ranges are our own choice; `Rattle.clap.specs` says how `clap`
 -- reads words, and why it refuses them.
-use Rattle.std.specs.Prelude.{ℕ, ◌≡◌, ◌≤◌, pos, true, false, List, [], ◌∷◌, Option, Some, None, is_some, option_map, codes, bytes_eq, if◌then◌else◌}
+use Rattle.std.specs.Prelude.{refl, ℕ, ◌≡◌, ◌≤◌, pos, true, false, List, [], ◌∷◌, Option, Some, None, is_some, option_map, codes, bytes_eq, if◌then◌else◌}
 use Rattle.std.specs.Option.{option_map_or}
 use Rattle.std.specs.Str.Parse.{digits_value, without_leading_plus}
-use Rattle.clap.specs.Words.{Text, Rule, Row, Shape, App, Kinds, IsSignedIn, app_of, new_rule, first_of, one_of, subcommand_of, fault_of, without_minus}
+use Rattle.clap.specs.Words.{Text, Rule, Row, Shape, App, Kinds, IsSignedIn, app_of, new_rule, first_of, one_of, subcommand_of, fault_of, with_subcommand, without_minus}
 use Rattle.clap.specs.Simple.{new_shape}
+use Rattle.clap.proofs.OnLiterals.{clap_on_literals}
+use Rattle.clap.specs.declared.error.kind.ErrorKind.TheVariants.{DisplayHelp, DisplayHelpOnMissingArgumentOrSubcommand, MissingRequiredArgument, UnknownArgument, ValueValidation}
 use Rattle.clap.specs.declared.builder.arg.Arg.{Arg}
 use Rattle.clap.specs.declared.builder.command.Command.{Command as Parser}
 use Rattle.clap.specs.declared.builder.command.Command.TheViews.{out-Command as fields_of}
@@ -21,13 +23,13 @@ use Rattle.temu.specs.declared.words.Command.TheVariants.{Run, Replay, Dis}
 abbrev pub file_rule : Text → Rule
 file_rule id = record (new_rule id) { value_names = 1; required = true }
 
--- an option that names a file
-abbrev pub file_option : Text → Rule
-file_option id = record (new_rule id) { long = Some id; value_names = 1 }
+-- an option with a value
+abbrev pub option_rule : Text → Rule
+option_rule id = record (new_rule id) { long = Some id; value_names = 1 }
 
 -- an option whose value is a number of a range, and what it is where it is not given
 abbrev pub number_rule : Text → ValueParser → Text → Rule
-number_rule id parser default = record (new_rule id) { long = Some id; value_names = 1; parser = Some parser; defaults = default ∷ [] }
+number_rule id parser default = record (option_rule id) { parser = Some parser; defaults = default ∷ [] }
 
 -- the numbers of a range
 abbrev pub between : ℕ → ℕ → ValueParser
@@ -40,7 +42,7 @@ run_shape = record (new_shape (codes "run")) {
       ∷ number_rule (codes "workers") (between 1 64) (codes "1")
       ∷ number_rule (codes "rounds") (between 0 4294967295) (codes "100000")
       ∷ number_rule (codes "slice") (between 1 65536) (codes "64")
-      ∷ file_option (codes "log")
+      ∷ option_rule (codes "log")
       ∷ [];
 }
 
@@ -52,12 +54,16 @@ replay_shape = record (new_shape (codes "replay")) { rules = file_rule (codes "w
 abbrev pub dis_shape : Shape
 dis_shape = record (new_shape (codes "dis")) { rules = file_rule (codes "image") ∷ [] }
 
--- the program: one of the three commands has to be named
-abbrev pub program : App
-program = record {
-  top = record (new_shape (codes "temu")) { is_leaf = false; disable_help_subcommand = true; arg_required_else_help = true; subcommand_required = true };
-  subs = run_shape ∷ replay_shape ∷ dis_shape ∷ [];
+-- the program without its commands, of which one has to be named
+abbrev pub top : App
+top = record {
+  top = record (new_shape (codes "temu")) { disable_help_subcommand = true; arg_required_else_help = true; subcommand_required = true };
+  subs = [];
 }
+
+-- the program
+abbrev pub program : App
+program = with_subcommand (with_subcommand (with_subcommand top run_shape) replay_shape) dis_shape
 
 -- ---- what they ask for
 
@@ -146,6 +152,12 @@ IsReplay rows = HasText (codes "wiring") rows × HasText (codes "log") rows
 abbrev pub IsDis : List Row → Type 0
 IsDis rows = HasText (codes "image") rows
 
+-- the command of this name is one of the three, and its arguments are there
+pub record IsWhole (name : Text) (rows : List Row) : Type 0 where
+  pub run : bytes_eq name (codes "run") ≡ true → IsRun rows
+  pub replay : bytes_eq name (codes "run") ≡ false → bytes_eq name (codes "replay") ≡ true → IsReplay rows
+  pub dis : bytes_eq name (codes "run") ≡ false → bytes_eq name (codes "replay") ≡ false → (bytes_eq name (codes "dis") ≡ true) × IsDis rows
+
 -- a parser reads a command of this shape, and no subcommand
 abbrev pub HasShape : Shape → Parser → Type 0
 HasShape shape c = (app_of c ≡ record { top = shape; subs = [] }) × ((fields_of c).has_globals ≡ false)
@@ -153,3 +165,52 @@ HasShape shape c = (app_of c ≡ record { top = shape; subs = [] }) × ((fields_
 -- the argument is its command's alone
 abbrev pub IsLocal : Arg → Type 0
 IsLocal a = a.global ≡ false
+
+-- ---- examples
+
+abbrev words_of_run : List Text
+words_of_run = codes "temu" ∷ codes "run" ∷ codes "--rounds" ∷ codes "7" ∷ codes "pair.toml" ∷ codes "--log=pair.log" ∷ codes "--workers" ∷ codes "64" ∷ []
+
+-- options in any order, and one by default
+example_run : command_of words_of_run ≡ Some (run (codes "pair.toml") (record { workers = 64; rounds = 7; slice = 64 }) (Some (codes "pair.log")))
+unfolding clap_on_literals
+example_run = refl
+
+-- nothing but the file
+example_defaults : command_of (codes "temu" ∷ codes "run" ∷ codes "pair.toml" ∷ []) ≡ Some (run (codes "pair.toml") (record { workers = 1; rounds = 100000; slice = 64 }) None)
+unfolding clap_on_literals
+example_defaults = refl
+
+example_replay : command_of (codes "temu" ∷ codes "replay" ∷ codes "pair.toml" ∷ codes "pair.log" ∷ []) ≡ Some (replay (codes "pair.toml") (codes "pair.log"))
+unfolding clap_on_literals
+example_replay = refl
+
+example_dis : command_of (codes "temu" ∷ codes "dis" ∷ codes "first.img" ∷ []) ≡ Some (dis (codes "first.img"))
+unfolding clap_on_literals
+example_dis = refl
+
+-- these words are taken
+example_taken : refusals words_of_run ≡ []
+unfolding clap_on_literals
+example_taken = refl
+
+-- a number out of its range, an option that no command has, a file that is missing, no words, and help
+example_workers : refusals (codes "temu" ∷ codes "run" ∷ codes "pair.toml" ∷ codes "--workers" ∷ codes "0" ∷ []) ≡ ValueValidation ∷ []
+unfolding clap_on_literals
+example_workers = refl
+
+example_unknown : refusals (codes "temu" ∷ codes "run" ∷ codes "pair.toml" ∷ codes "--turns" ∷ codes "5" ∷ []) ≡ UnknownArgument ∷ []
+unfolding clap_on_literals
+example_unknown = refl
+
+example_missing : refusals (codes "temu" ∷ codes "replay" ∷ codes "pair.toml" ∷ []) ≡ MissingRequiredArgument ∷ []
+unfolding clap_on_literals
+example_missing = refl
+
+example_nothing : refusals (codes "temu" ∷ []) ≡ DisplayHelpOnMissingArgumentOrSubcommand ∷ []
+unfolding clap_on_literals
+example_nothing = refl
+
+example_help : refusals (codes "temu" ∷ codes "run" ∷ codes "--help" ∷ []) ≡ DisplayHelp ∷ []
+unfolding clap_on_literals
+example_help = refl

@@ -25,6 +25,8 @@ pub mod wiring;
 #[cfg(test)]
 mod wiring_tests;
 pub mod words;
+#[cfg(test)]
+mod words_tests;
 
 use crate::first::first_text;
 use crate::first_fault::FirstFault;
