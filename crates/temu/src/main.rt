@@ -1,6 +1,7 @@
 //! The program `temu`: `temu first IMAGE` runs a boot image on one node and prints the memory that it leaves.
 #![tactic(auto)]
 
+pub mod dis;
 pub mod dump;
 pub mod fault;
 pub mod first;
