@@ -7,8 +7,8 @@ use crate::codes::operation_of;
 use crate::instruction::{Function, Instruction, Operation};
 use std::fmt;
 
-/// The name of a function.
-fn function_name(function: Function) -> &'static str
+/// The name of a function, as it is printed.
+pub fn function_name(function: Function) -> &'static str
     ensures { result.now ≡ (function_entry function).name }
 {
     match function {
@@ -29,8 +29,8 @@ fn function_name(function: Function) -> &'static str
     }
 }
 
-/// The name of an operation.
-fn operation_name(operation: Operation) -> &'static str
+/// The name of an operation, as it is printed.
+pub fn operation_name(operation: Operation) -> &'static str
     ensures { result.now ≡ (operation_entry operation).name }
 {
     match operation {

@@ -7,8 +7,6 @@ pub mod dis;
 pub mod failure;
 pub mod fault;
 pub mod fault_line;
-#[cfg(test)]
-mod fault_tests;
 pub mod image;
 pub mod laws;
 pub mod log_reading;
@@ -19,8 +17,6 @@ pub mod options;
 pub mod replaying;
 pub mod run;
 #[cfg(test)]
-mod run_tests;
-#[cfg(test)]
 mod tests;
 pub mod text;
 pub mod wiring;
@@ -30,8 +26,6 @@ pub mod words;
 #[cfg(test)]
 mod words_tests;
 pub mod writing;
-#[cfg(test)]
-mod writing_tests;
 
 use crate::commands::do_command;
 use crate::failure::Fault;

@@ -1,6 +1,7 @@
 //! Small parts of text.
 
-ghost use Rattle.std.specs.Prelude.{decimal, [], ◌∷◌};
+ghost use Rattle.std.specs.Prelude.{codes, decimal, [], ◌∷◌, if◌then◌else◌};
+ghost use Rattle.std.specs.Fmt.{signed_decimal};
 ghost use Rattle.hex.specs.Hex.{encode_lower};
 ghost use Rattle.temu.specs.Texts.{end_text};
 ghost use Rattle.temu.specs.Outputs.{Tells};
@@ -18,6 +19,23 @@ pub(crate) fn put_decimal<W: Write>(out: &mut Output<'_, W>, number: u64)
     } else {
         put_decimal(out, number / 10);
         out.put(&[b'0' + (number % 10) as u8]);
+    }
+}
+
+/// A number in decimal digits, with a minus sign where it is negative.
+pub(crate) fn put_signed<W: Write>(out: &mut Output<'_, W>, number: i32)
+    ensures { Tells W.contents out.old out.new (signed_decimal number) }
+{
+    put_sign(out, number < 0);
+    put_decimal(out, u64::from(number.unsigned_abs()));
+}
+
+/// The sign of a number.
+fn put_sign<W: Write>(out: &mut Output<'_, W>, negative: bool)
+    ensures { Tells W.contents out.old out.new (if negative then codes "-" else []) }
+{
+    if negative {
+        out.put(b"-");
     }
 }
 
