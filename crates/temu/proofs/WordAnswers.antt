@@ -1,16 +1,14 @@
 -- What the arguments of each command hold where the words are taken.
-use Rattle.std.proofs.Common.{◌≡◌, ◌∙◌, ◌<◌, ◌≤◌, ◌≤ℤ◌, ◌⊎◌, ℕ, ℤ, pos, Bool, cond, true, false, zero, suc, refl, sym, ap, ap₂, subst, arith, List, [], ◌∷◌, length, map, Option, Some, None, Result, Ok, Err, is_some, inl, inr, true≢false, codes}
+use Rattle.std.proofs.Common.{◌≡◌, ◌∙◌, ◌<◌, ℕ, Bool, cond, true, false, refl, sym, ap, ap₂, subst, arith, List, [], ◌∷◌, length, Option, Some, None, is_some, inl, inr, true≢false, codes}
 use Rattle.std.specs.Prelude.{option_map, option_and_then, slice_get}
 use Rattle.std.specs.List.{find}
 use Rattle.std.specs.Option.{option_map_or}
-use Rattle.std.specs.Str.{bytes_eq}
 use Rattle.clap.specs.Facts.{parser_of_value, unwrap_or_range}
-use Rattle.clap.specs.Kinds.{Kinds, or_else, value_kinds, values_kinds}
-use Rattle.clap.specs.Values.{IsSignedIn, read_as, reading_of, refused_kind}
+use Rattle.clap.specs.Kinds.{value_kinds}
+use Rattle.clap.specs.Values.{read_as, reading_of, refused_kind}
 use Rattle.clap.specs.ValueTests.{accepts}
-use Rattle.clap.specs.Lexer.{without_minus}
-use Rattle.clap.specs.Walk.{Names, Row, Rule, Text, action_of, answers_to, arg_by_id, first_of, nothing_held, one_of, reading_by, row_text, rows_after, walk}
-use Rattle.clap.specs.Simple.{App, Shape, argument_words, built, built_leaf, entered, filled, inherited, label_of, marked_built, names_of, rows_at, subcommand_of, with_index, with_leaf_noted}
+use Rattle.clap.specs.Walk.{Row, Rule, Text, action_of, answers_to, arg_by_id, nothing_held, row_text, rows_after, walk}
+use Rattle.clap.specs.Simple.{Shape, argument_words, built, built_leaf, entered, filled, inherited, label_of, marked_built, names_of, rows_at, subcommand_of, with_index, with_leaf_noted}
 use Rattle.clap.specs.Faults.{check_fault, entered_fault, level_fault, values_fault}
 use Rattle.clap.specs.declared.builder.action.ArgAction.TheVariants.{Set, Help}
 use Rattle.clap.specs.declared.builder.value_parser.ValueParser.{ValueParser}
@@ -20,7 +18,7 @@ use Rattle.clap.specs.declared.parser.matches.ArgMatches.{ArgMatches}
 use Rattle.clap.specs.declared.parser.matches.ArgMatches.TheViews.{out-ArgMatches, out-SubCommand}
 use Rattle.std.specs.Box.{box_value}
 use Rattle.clap.proofs.ValueTestLemmas.{accepts-Accepts}
-use Rattle.temu.specs.CommandLines.{HasText, HasNumber, IsWhole, IsRun, IsReplay, IsDis, between, program, refusals, run_shape, replay_shape, dis_shape, file_rule, number_rule}
+use Rattle.temu.specs.CommandLines.{HasText, HasNumber, IsWhole, between, program, refusals, run_shape, replay_shape, dis_shape, file_rule, number_rule}
 use Rattle.temu.proofs.WordWalks.{Each, IsFit, Holds, Rows, Found, default_found, each_found, level_passes, neither, required_found, subcommand_wanted}
 
 -- ---- what a row gives

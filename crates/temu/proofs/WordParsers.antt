@@ -1,7 +1,7 @@
 -- A parser to which arguments are added.
-use Rattle.std.proofs.Common.{◌≡◌, ◌∙◌, ap, ap₂, List, [], ◌∷◌, ◌++◌}
-use Rattle.std.specs.Prelude.{◌||◌, false}
-use Rattle.clap.specs.Words.{AddsArg, App, Rule, Shape, rule_of, with_rule}
+use Rattle.std.proofs.Common.{◌≡◌, ◌∙◌, ap₂, [], ◌∷◌, ◌++◌}
+use Rattle.std.specs.Prelude.{◌||◌}
+use Rattle.clap.specs.Words.{AddsArg, Rule, Shape, rule_of, with_rule}
 use Rattle.clap.specs.declared.builder.arg.Arg.{Arg}
 use Rattle.clap.specs.declared.builder.command.Command.{Command as Parser}
 use Rattle.temu.specs.CommandLines.{HasShape, IsLocal}

@@ -1,6 +1,6 @@
 -- What the getters read of arguments that have a text or a number.
-use Rattle.std.proofs.Common.{◌≡◌, ◌∙◌, ◌<◌, ◌≤◌, ◌^◌, ℕ, ℤ, pos, Bool, true, false, refl, sym, ap, subst, arith, List, [], Option, Some, None, Result, Ok, Err, IfOk, is_some, true≢false, Bor}
-use Rattle.std.specs.Prelude.{option_map, IsSome}
+use Rattle.std.proofs.Common.{◌≡◌, ◌∙◌, ◌<◌, ◌≤◌, ◌^◌, ℕ, pos, Bool, true, false, refl, sym, ap, subst, arith, List, [], Option, Some, None, Result, Ok, is_some, true≢false, Bor}
+use Rattle.std.specs.Prelude.{option_map}
 use Rattle.std.specs.Option.{option_map_or}
 use Rattle.std.specs.Str.Parse.{ParsesUnsigned, digits_value, without_leading_plus}
 use Rattle.std.proofs.lemmas.Int.{ints}
@@ -8,7 +8,7 @@ use Rattle.clap.specs.Lexer.{without_minus}
 use Rattle.clap.specs.Matches.{ReadsOne, first_value, found_of, one_text}
 use Rattle.clap.specs.Values.{IsSignedIn}
 use Rattle.clap.specs.ValueTests.{accepts}
-use Rattle.clap.specs.Walk.{Row, Text, first_of, one_of, rows_of}
+use Rattle.clap.specs.Walk.{Row, Text, first_of, rows_of}
 use Rattle.clap.specs.declared.builder.value_parser.ValueParser.TheVariants.{Unsigned}
 use Rattle.clap.specs.declared.parser.matches.ArgMatches.{ArgMatches}
 use Rattle.clap.proofs.CallerReads.{signed_reads}

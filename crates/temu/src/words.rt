@@ -202,15 +202,15 @@ fn number(given: &ArgMatches, id: &str) -> u32
 fn program<'a>(alloc: Global) -> Result<Parser<'a>, AllocError>
     ensures { IfOk result (λ c. app_of c ≡ spec.program) }
 {
-    top_parser(alloc)
+    top_parser(alloc)?
         .subcommand(run_parser(alloc)?)?
         .subcommand(replay_parser(alloc)?)?
         .subcommand(dis_parser(alloc)?)
 }
 
 /// The program without its commands, of which one has to be named.
-fn top_parser<'a>(alloc: Global) -> Parser<'a>
-    ensures { app_of result ≡ spec.top }
+fn top_parser<'a>(alloc: Global) -> Result<Parser<'a>, AllocError>
+    ensures { IfOk result (λ c. app_of c ≡ spec.top) }
 {
     Parser::new(alloc, "temu")
         .about("Emulates nets of Inmos T414 transputers")
@@ -218,6 +218,7 @@ fn top_parser<'a>(alloc: Global) -> Parser<'a>
         .disable_help_subcommand(true)
         .arg_required_else_help(true)
         .subcommand_required(true)
+        .bin_name("temu")
 }
 
 /// The words of `run`.

@@ -250,7 +250,7 @@ fn help_tells_what_goes_in_and_what_comes_out(rt: HostRuntime) -> Result<(), Fai
             .as_slice(),
         ),
         (
-            ["temu", "dis", "--help"].as_slice(),
+            ["/opt/other", "dis", "--help"].as_slice(),
             ["Usage: temu dis <IMAGE>", "In: ", "Out: ", "Example:"].as_slice(),
         ),
     ] {

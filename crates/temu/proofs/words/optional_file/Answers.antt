@@ -1,6 +1,6 @@
-use Rattle.std.proofs.Common.{◌≡◌, ◌∙◌, ap, Bor, Some, sym}
+use Rattle.std.proofs.Common.{◌∙◌, ap, Bor, Some, sym}
 use Rattle.std.specs.Prelude.{option_map}
-use Rattle.clap.specs.Words.{Text, first_of, found_of, rows_of}
+use Rattle.clap.specs.Words.{Text}
 use Rattle.temu.proofs.WordReads.{text_maybe}
 use Rattle.temu.proofs.words.optional_file.Goals as goal
 

@@ -1,4 +1,4 @@
-use Rattle.std.proofs.Common.{◌≡◌, ◌∙◌, ap, map, Bor}
+use Rattle.std.proofs.Common.{◌∙◌, ap, map, Bor}
 use Rattle.clap.specs.Words.{Text, found_of, rows_of}
 use Rattle.temu.specs.CommandLines.{command_in}
 use Rattle.temu.proofs.WordAnswers.{met}
