@@ -26,6 +26,8 @@ pub mod wiring;
 #[cfg(test)]
 mod wiring_tests;
 pub mod writing;
+#[cfg(test)]
+mod writing_tests;
 
 use crate::first::first_text;
 use crate::first_fault::FirstFault;
