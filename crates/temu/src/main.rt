@@ -26,6 +26,8 @@ pub mod words;
 #[cfg(test)]
 mod words_tests;
 pub mod writing;
+#[cfg(test)]
+mod writing_tests;
 
 use crate::commands::do_command;
 use crate::failure::Fault;
