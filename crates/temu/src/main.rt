@@ -33,6 +33,8 @@ use crate::commands::do_command;
 use crate::failure::Fault;
 use crate::fault_line::write_fault;
 use crate::words::{Command, CommandFault, read_words};
+use crate::writing::output::WriteFault;
+use clap::error::ErrorKind;
 use std::alloc::AllocError;
 use std::env;
 use std::process::ExitCode;
@@ -46,11 +48,12 @@ fn main(rt: HostRuntime) -> ExitCode {
             Ok(has_frozen) => ExitCode::from(u8::from(has_frozen)),
             Err(fault) => tell(&rt, &fault),
         },
-        Err(fault) => {
-            // Where the output fails too, the status alone tells.
-            let _ = fault.print(&rt);
-            ExitCode::from(fault.exit_code() as u8)
-        }
+        Err(fault) if fault.kind() == ErrorKind::OutOfMemory => tell(&rt, &Fault::Memory),
+        Err(fault) => match fault.print(&rt) {
+            Err(_) if !fault.use_stderr() => tell(&rt, &Fault::Output(WriteFault { written: 0 })),
+            // Where standard error fails too, the status alone tells.
+            _ => ExitCode::from(fault.exit_code() as u8),
+        },
     }
 }
 
