@@ -15,15 +15,21 @@ fn fault_of(rt: &HostRuntime, words: &[&str]) -> Option<ErrorKind> {
 
 /// The options of some words, if they ask for a run of `pair.toml` that writes no log.
 fn options_of(rt: &HostRuntime, words: &[&str]) -> Option<Options> {
-    match read_words(rt.alloc(), words) {
-        Ok(
-            Command::Run {
-                wiring,
-                options,
-                log: None,
-            },
-        ) if wiring.as_str() == "pair.toml" => Some(options),
-        _ => None,
+    let Ok(command) = read_words(rt.alloc(), words) else {
+        return None;
+    };
+    let Command::Run {
+        wiring,
+        options,
+        log,
+    } = command
+    else {
+        return None;
+    };
+    if wiring.as_str() == "pair.toml" && log.is_none() {
+        Some(options)
+    } else {
+        None
     }
 }
 
@@ -112,13 +118,14 @@ fn a_run_names_its_log(rt: HostRuntime) -> Result<(), Fail> {
     )?;
     let Command::Run {
         wiring,
-        log: Some(log),
-        ..
+        options: _,
+        log,
     } = command
     else {
-        return Err("no run with a log".into());
+        return Err("no run".into());
     };
     assert_eq!(rt; wiring.as_str(), "pair.toml");
+    let log = log.ok_or("no log")?;
     assert_eq!(rt; log.as_str(), "pair.log");
     Ok(())
 }
@@ -205,17 +212,14 @@ fn other_words_are_mistakes(rt: HostRuntime) {
 
 #[test]
 fn no_words_are_a_mistake(rt: HostRuntime) {
-    for words in [["temu"].as_slice(), [].as_slice()] {
-        let Err(fault) = read_words(rt.alloc(), words) else {
-            panic!(rt; "taken");
-        };
-        assert_eq!(rt;
-            fault.kind(),
-            ErrorKind::DisplayHelpOnMissingArgumentOrSubcommand
-        );
-        assert!(rt; fault.use_stderr());
-        assert_eq!(rt; fault.exit_code(), 2);
-    }
+    let kind = ErrorKind::DisplayHelpOnMissingArgumentOrSubcommand;
+    assert_eq!(rt; fault_of(&rt, &[]), Some(kind));
+    let Err(fault) = read_words(rt.alloc(), &["temu"]) else {
+        panic!(rt; "taken");
+    };
+    assert_eq!(rt; fault.kind(), kind);
+    assert!(rt; fault.use_stderr());
+    assert_eq!(rt; fault.exit_code(), 2);
 }
 
 #[test]
