@@ -5,6 +5,8 @@ pub mod dump;
 pub mod failure;
 pub mod fault;
 pub mod fault_line;
+#[cfg(test)]
+mod fault_tests;
 pub mod first;
 pub mod first_fault;
 #[cfg(test)]
@@ -21,6 +23,8 @@ pub mod opened;
 pub mod options;
 pub mod replaying;
 pub mod run;
+#[cfg(test)]
+mod run_tests;
 pub mod running;
 #[cfg(test)]
 mod tests;
