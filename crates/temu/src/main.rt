@@ -7,6 +7,8 @@ pub mod dis;
 pub mod failure;
 pub mod fault;
 pub mod fault_line;
+#[cfg(test)]
+mod fault_tests;
 pub mod image;
 pub mod laws;
 pub mod log_reading;
@@ -16,6 +18,8 @@ pub mod opened;
 pub mod options;
 pub mod replaying;
 pub mod run;
+#[cfg(test)]
+mod run_tests;
 #[cfg(test)]
 mod tests;
 pub mod text;
