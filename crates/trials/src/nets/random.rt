@@ -1,12 +1,10 @@
 //! Events drawn at random on small nets of real programs. What they come to was worked out by a program that was written
 //! apart, `random_events.py` beside this crate.
 use super::{CODE, LOW, SENDER, event, node, pair, plan, receiver, wire, word};
-use crate::event::{Act, Event};
-use crate::net::Net;
-use crate::plan::{NodePlan, Plan};
 use std::alloc::{AllocError, Global};
 use std::test::Fail;
 use tlink::{Emitted, Mark, Packet, StepFault};
+use tnet::{Act, Event, Net, NodePlan, Plan};
 
 /// The nets, as `random_events.py` explains them.
 #[derive(Clone, Copy, Debug)]

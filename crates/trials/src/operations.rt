@@ -1,9 +1,9 @@
 //! Rows of the instruction set by value: worked examples, and digests of the boundary values.
 
-use super::*;
 use std::process::Abort;
 use std::test::Fail;
 use tcode::{Function, Instruction, Operation};
+use tcpu::{Next, Registers, jumps, local};
 use tword::{Break, Marks, Memory, Word};
 
 /// The address behind the instruction that is done.

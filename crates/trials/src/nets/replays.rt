@@ -1,12 +1,9 @@
 //! Lists of events, replayed with their notes.
 use super::{CODE, LOW, alone, event, node, pair, receiver, sender, word};
-use crate::event::{Act, Event, Note};
-use crate::net::Net;
-use crate::plan::{End, Plan};
-use crate::replays::{ReplayFault, Replayed, replay};
 use std::alloc::{AllocError, Global};
 use std::process::Abort;
 use std::test::Fail;
+use tnet::{Act, End, Event, Net, Note, Plan, ReplayFault, Replayed, replay};
 use tword::Break;
 
 /// `ldc 4; stl 0; ldl 0; adc 1; stl 1; stopp`.

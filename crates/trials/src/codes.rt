@@ -1,9 +1,9 @@
 //! Rows of the instruction set by value: every code of its two tables, and worked examples.
 
-use super::*;
 use std::alloc::Global;
 use std::process::Abort;
 use std::test::Fail;
+use tcode::{DecodeFault, Function, Instruction, decode, decode_bytes, encode};
 use tword::{Break, Marks, Memory, Word};
 
 /// The functions but the prefixes and `opr`: code and name.

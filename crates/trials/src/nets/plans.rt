@@ -1,10 +1,8 @@
 //! Plans with a fault, and what `build` answers: each fault, and each limit from both sides.
 use super::{LOW, alone, event, node, pair, plan, receiver, sender, wire, word};
-use crate::event::Act;
-use crate::net::Net;
-use crate::plan::{BuildFault, Image, NodePlan, Plan, Process, Segment, Wire};
 use std::alloc::{AllocError, Global};
 use std::test::Fail;
+use tnet::{Act, BuildFault, Image, Net, NodePlan, Plan, Process, Segment, Wire};
 use tword::{Break, Items, Word};
 
 /// Nodes that are alike, each with one segment of a byte.

@@ -1,12 +1,10 @@
 //! Worked rows, event by event.
 use super::{CODE, LOW, RECEIVER, SENDER, alone, event, node, pair, receiver, sender, wire, word};
-use crate::event::Act;
-use crate::net::Net;
-use crate::plan::NodePlan;
 use std::alloc::{AllocError, Global};
 use std::process::Abort;
 use std::test::Fail;
 use tlink::{Emitted, Mark, Packet, StepFault};
+use tnet::{Act, Net, NodePlan};
 use tword::Break;
 
 /// `ldc 9; ldlp -63; stnl 0; stopp`, of the process #80000201: 9 is stored at #80000104.
