@@ -40,8 +40,8 @@ use crate::words::{Command, CommandFault, read_words};
 use crate::writing::output::WriteFault;
 use clap::error::ErrorKind;
 use std::alloc::AllocError;
-use std::env;
 use std::process::ExitCode;
+use std::{env, io};
 
 fn main(rt: HostRuntime) -> ExitCode {
     let Ok(words) = given_words(&rt) else {
@@ -61,12 +61,13 @@ fn main(rt: HostRuntime) -> ExitCode {
     }
 }
 
-/// The words of the command line.
+/// The words of the command line, and none where one of them is not UTF-8.
 fn given_words(rt: &HostRuntime) -> Result<Vec<String>, AllocError> {
-    let Ok(given) = env::args(rt) else {
-        return Err(AllocError);
-    };
-    given.collect(rt.alloc())
+    match env::args(rt) {
+        Ok(given) => given.collect(rt.alloc()),
+        Err(error) if error.kind() == io::ErrorKind::OutOfMemory => Err(AllocError),
+        Err(_) => Ok(Vec::new(rt.alloc())),
+    }
 }
 
 /// What the words ask for.

@@ -31,7 +31,7 @@ pub struct Report {
     pub net: Net,
 }
 
-/// Why rounds did not come to their end: the first of these that holds, where memory is wanted last.
+/// Why rounds did not come to their end: `BadWorkers`, else `BadHold`, else `OutOfMemory`.
 #[derive(Clone, Copy, Debug, PartialEq, Eq)]
 pub enum NetFault {
     /// The allocator refused.
