@@ -6,8 +6,8 @@ use Rattle.std.specs.Map.{keys_of}
 use Rattle.toml.specs.Data.{Data, string, integer, float, boolean, datetime, array, table, Items, Members, as_array}
 use Rattle.toml.specs.View.{view, items_view, members_view}
 use Rattle.toml.specs.declared.value.Value.{Value}
-use Rattle.temu.specs.declared.fault.WiringFault.{WiringFault}
-use Rattle.temu.specs.declared.fault.WiringFault.TheVariants.{OutOfMemory, Syntax, UnknownKey, MissingKey, WrongType, BadVersion, BadNumber}
+use Rattle.ttext.specs.declared.wiring.WiringFault.{WiringFault}
+use Rattle.ttext.specs.declared.wiring.WiringFault.TheVariants.{OutOfMemory, Syntax, UnknownKey, MissingKey, WrongType, BadVersion, BadNumber}
 use Rattle.temu.specs.Wirings.{Names, is_one_of, has_unknown, IsWiringAnswer}
 use Rattle.temu.specs.WiringParts.{Part, lower, both, made, known, table_in, one_more, more_in, end_in}
 

@@ -5,7 +5,7 @@ use mathlib.Core.Bool.{or_assoc, or-false, or-true}
 use Rattle.toml.specs.Data.{Data, string, integer, float, boolean, datetime, array, table, Items, no_items, item, Members}
 use Rattle.tnet.specs.declared.plan.End.{End}
 use Rattle.tnet.specs.declared.event.PacketKind.TheVariants as kind
-use Rattle.temu.specs.declared.fault.WiringFault.TheVariants.{UnknownKey, MissingKey, WrongType, BadVersion, BadNumber}
+use Rattle.ttext.specs.declared.wiring.WiringFault.TheVariants.{UnknownKey, MissingKey, WrongType, BadVersion, BadNumber}
 use Rattle.temu.specs.Wirings.{Names, has_unknown, tables_in, tables_of, is_integer, is_text, is_end, is_kind, are_tables, is_tables, fails, is_bad_number, is_version, number_of, text_of, end_of, kind_of}
 use Rattle.temu.specs.WiringParts.{Part, both, made, known, value_or, number, number_in, text_in, end_in, kind_in, version, version_in, one_more, more_in, array_in}
 

@@ -7,8 +7,8 @@ use Rattle.tnet.specs.declared.plan.End.{End}
 use Rattle.tnet.specs.declared.plan.Wire.{Wire}
 use Rattle.tnet.specs.declared.event.PacketKind.{PacketKind}
 use Rattle.tnet.specs.declared.event.Hold.{Hold}
-use Rattle.temu.specs.declared.fault.Wiring.{Wiring}
-use Rattle.temu.specs.declared.fault.WiringNode.{WiringNode}
+use Rattle.ttext.specs.declared.wiring.Wiring.{Wiring}
+use Rattle.ttext.specs.declared.wiring.WiringNode.{WiringNode}
 use Rattle.temu.specs.Wirings.{has_unknown, root_keys, node_keys, wire_keys, hold_keys, lacks_one, tables_at, is_integer, is_text, is_end, is_kind, is_tables, is_wrong, is_bad, is_version, fails, number_of, number_at, text_of, end_of, kind_of, default_timeslice, wiring_value, wiring_of}
 use Rattle.temu.specs.WiringParts.{Part, both, made, known, required, number_in, text_in, end_in, kind_in, version_in, node_in, wire_in, hold_in, held_in, array_at, head_in, arrays_in, wiring_in}
 use Rattle.temu.proofs.WiringTests.{judged, same_judged, both-judged, made-judged, known-judged, required-judged, timeslice-judged, never, is_good_number, number_in-judged, text_in-judged, end_in-judged, kind_in-judged, version_in-judged, array-judged}

@@ -13,7 +13,7 @@ use Rattle.clap.specs.declared.builder.command.Command.{Command as Parser}
 use Rattle.clap.specs.declared.builder.command.Command.TheViews.{out-Command as fields_of}
 use Rattle.clap.specs.declared.builder.value_parser.ValueParser.{ValueParser}
 use Rattle.clap.specs.declared.builder.value_parser.ValueParser.TheVariants.{Signed}
-use Rattle.temu.specs.declared.options.Options.{Options}
+use Rattle.ttext.specs.declared.options.Options.{Options}
 use Rattle.temu.specs.declared.words.Command.{Command}
 use Rattle.temu.specs.declared.words.Command.TheVariants.{Run, Replay, Dis}
 

@@ -3,7 +3,7 @@ use Rattle.std.specs.Prelude.{ℕ, ◌≡◌, pos, List, [], ◌∷◌, ◌++◌
 use Rattle.toml.specs.Data.{string, integer, array, table, no_items, item, Members, no_members, member}
 use Rattle.toml.proofs.OnLiterals.{toml_on_literals}
 use Rattle.tnet.specs.declared.event.PacketKind.TheVariants as kind
-use Rattle.temu.specs.declared.fault.WiringFault.TheVariants.{Syntax, UnknownKey, MissingKey, WrongType, BadVersion, BadNumber}
+use Rattle.ttext.specs.declared.wiring.WiringFault.TheVariants.{Syntax, UnknownKey, MissingKey, WrongType, BadVersion, BadNumber}
 use Rattle.temu.specs.Wirings.{wiring_of, wiring_of_text}
 
 -- lines of a text

@@ -7,10 +7,10 @@ use Rattle.tnet.specs.declared.plan.Wire.{Wire}
 use Rattle.tnet.specs.declared.event.PacketKind.{PacketKind}
 use Rattle.tnet.specs.declared.event.PacketKind.TheVariants as kind
 use Rattle.tnet.specs.declared.event.Hold.{Hold}
-use Rattle.temu.specs.declared.fault.WiringFault.{WiringFault}
-use Rattle.temu.specs.declared.fault.WiringFault.TheVariants.{OutOfMemory, Syntax, UnknownKey, MissingKey, WrongType, BadVersion, BadNumber}
-use Rattle.temu.specs.declared.fault.Wiring.{Wiring}
-use Rattle.temu.specs.declared.fault.WiringNode.{WiringNode}
+use Rattle.ttext.specs.declared.wiring.WiringFault.{WiringFault}
+use Rattle.ttext.specs.declared.wiring.WiringFault.TheVariants.{OutOfMemory, Syntax, UnknownKey, MissingKey, WrongType, BadVersion, BadNumber}
+use Rattle.ttext.specs.declared.wiring.Wiring.{Wiring}
+use Rattle.ttext.specs.declared.wiring.WiringNode.{WiringNode}
 use Rattle.temu.specs.Wirings.{Names, has_unknown, root_keys, node_keys, wire_keys, hold_keys, default_timeslice}
 
 -- what a part stands for, or its lowest fault

@@ -3,45 +3,22 @@
 #![tactic(auto)]
 
 mod commands;
-pub mod dis;
-pub mod failure;
-pub mod fault;
-pub mod fault_line;
-#[cfg(test)]
-mod fault_tests;
-pub mod image;
-pub mod laws;
-pub mod log_reading;
-#[cfg(test)]
-mod log_tests;
-pub mod opened;
-pub mod options;
-pub mod replaying;
-pub mod run;
 #[cfg(test)]
 mod run_tests;
-#[cfg(test)]
-mod tests;
-pub mod text;
 pub mod wiring;
 #[cfg(test)]
 mod wiring_tests;
 pub mod words;
 #[cfg(test)]
 mod words_tests;
-pub mod writing;
-#[cfg(test)]
-mod writing_tests;
 
 use crate::commands::do_command;
-use crate::failure::Fault;
-use crate::fault_line::write_fault;
 use crate::words::{Command, CommandFault, read_words};
-use crate::writing::output::WriteFault;
 use clap::error::ErrorKind;
 use std::alloc::AllocError;
 use std::process::ExitCode;
 use std::{env, io};
+use ttext::{Fault, WriteFault, write_fault};
 
 fn main(rt: HostRuntime) -> ExitCode {
     let Ok(words) = given_words(&rt) else {

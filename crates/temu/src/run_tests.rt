@@ -1,11 +1,5 @@
 //! Runs and replays of wirings and images in memory, against texts worked out by hand.
 
-use crate::failure::Fault;
-use crate::fault_line::write_fault;
-use crate::log_reading::read_log;
-use crate::options::Options;
-use crate::replaying::replay_text;
-use crate::run::run_text;
 use crate::wiring::read_wiring;
 use std::alloc::{AllocError, Global};
 use std::io::{self, Cursor, ErrorKind, Write};
@@ -13,6 +7,7 @@ use std::process::Abort;
 use std::test::Fail;
 use std::thread::Threads;
 use tnet::{Act, Event, Gate, Net, Report};
+use ttext::{Fault, Options, read_log, replay_text, run_text, write_fault};
 use tword::Items;
 
 /// A gate that is always open.

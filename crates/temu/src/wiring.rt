@@ -6,10 +6,10 @@ ghost use Rattle.toml.specs.View.{view, items_view, table_view};
 ghost use Rattle.temu.specs.Wirings.{is_one_of, default_timeslice, wiring_of_text, IsWiringAnswer};
 ghost use Rattle.temu.specs.WiringParts as spec;
 
-use crate::fault::{Wiring, WiringFault, WiringNode};
 use std::alloc::Global;
 use tnet::{End, Hold, PacketKind, Wire};
 use toml::{Table, Value};
+use ttext::{Wiring, WiringFault, WiringNode};
 use tword::Items;
 
 /// The timeslice of a wiring that names none (own choice).
@@ -64,7 +64,7 @@ fn head(root: &Table) -> Part<u32>
 trait Section: Drop {
     ghost use Rattle.std.specs.Prelude.{Result};
     ghost use Rattle.toml.specs.Data.{Members};
-    ghost use Rattle.temu.specs.declared.fault.WiringFault.{WiringFault};
+    ghost use Rattle.ttext.specs.declared.wiring.WiringFault.{WiringFault};
 
     ghost told: { Members → Result Self WiringFault };
 

@@ -1,9 +1,9 @@
 //! Wirings against values worked out by hand.
 
-use crate::fault::{Wiring, WiringFault};
 use crate::wiring::read_wiring;
 use std::test::Fail;
 use tnet::{End, Hold, PacketKind, Wire};
+use ttext::{Wiring, WiringFault};
 
 /// Each key once.
 const WHOLE: &str = "

@@ -6,9 +6,9 @@ ghost use Rattle.clap.specs.declared.builder.command.Command.TheViews.{out-Comma
 ghost use Rattle.temu.specs.CommandLines as spec;
 ghost use Rattle.temu.specs.CommandLines.{IsInRange, asked_of, command_of, refusals};
 
-use crate::options::Options;
 use clap::{Arg, ArgMatches, Command as Parser, value_parser};
 use std::alloc::{AllocError, Global};
+use ttext::Options;
 
 /// Why no command was read: help was asked for, or the words are a mistake, or there was no memory (`kind`). `print` writes
 /// its text where `use_stderr` says.

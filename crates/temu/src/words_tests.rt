@@ -1,9 +1,9 @@
 //! Command lines, by words written by hand.
 
-use crate::options::Options;
 use crate::words::{Command, read_words};
 use clap::error::ErrorKind;
 use std::test::Fail;
+use ttext::Options;
 
 /// The kind of the error of some words, if they are refused.
 fn fault_of(rt: &HostRuntime, words: &[&str]) -> Option<ErrorKind> {
@@ -154,7 +154,7 @@ fn a_disassembly_names_its_image(rt: HostRuntime) -> Result<(), Fail> {
 }
 
 #[test]
-fn other_words_are_mistakes(rt: HostRuntime) {
+fn missing_words_are_mistakes(rt: HostRuntime) {
     for words in [
         ["temu", "run", "--workers", "2"].as_slice(),
         ["temu", "run"].as_slice(),
@@ -168,6 +168,10 @@ fn other_words_are_mistakes(rt: HostRuntime) {
             "at {words:?}"
         );
     }
+}
+
+#[test]
+fn unknown_words_are_mistakes(rt: HostRuntime) {
     for words in [
         ["temu", "run", "pair.toml", "--turns", "5"].as_slice(),
         ["temu", "run", "pair.toml", "more.toml"].as_slice(),
@@ -189,25 +193,27 @@ fn other_words_are_mistakes(rt: HostRuntime) {
             "at {words:?}"
         );
     }
-    assert_eq!(rt;
-        fault_of(
-            &rt,
-            &["temu", "run", "pair.toml", "--slice", "1", "--slice", "2"]
+}
+
+#[test]
+fn other_words_are_mistakes(rt: HostRuntime) {
+    for (words, kind) in [
+        (
+            ["temu", "run", "pair.toml", "--slice", "1", "--slice", "2"].as_slice(),
+            ErrorKind::ArgumentConflict,
         ),
-        Some(ErrorKind::ArgumentConflict)
-    );
-    assert_eq!(rt;
-        fault_of(&rt, &["temu", "run", "pair.toml", "--log"]),
-        Some(ErrorKind::InvalidValue)
-    );
-    assert_eq!(rt;
-        fault_of(&rt, &["temu", "first", "first.img"]),
-        Some(ErrorKind::InvalidSubcommand)
-    );
-    assert_eq!(rt;
-        fault_of(&rt, &["temu", "help"]),
-        Some(ErrorKind::InvalidSubcommand)
-    );
+        (
+            ["temu", "run", "pair.toml", "--log"].as_slice(),
+            ErrorKind::InvalidValue,
+        ),
+        (
+            ["temu", "first", "first.img"].as_slice(),
+            ErrorKind::InvalidSubcommand,
+        ),
+        (["temu", "help"].as_slice(), ErrorKind::InvalidSubcommand),
+    ] {
+        assert_eq!(rt; fault_of(&rt, words), Some(kind), "at {words:?}");
+    }
 }
 
 #[test]
@@ -222,42 +228,43 @@ fn no_words_are_a_mistake(rt: HostRuntime) {
     assert_eq!(rt; fault.exit_code(), 2);
 }
 
+/// Words that ask for help, and what stands in it.
+const HELP: [(&[&str], &[&str]); 4] = [
+    (
+        &["temu", "--help"],
+        &["run", "replay", "dis", "Examples:", "Exit status:"],
+    ),
+    (
+        &["temu", "run", "--help"],
+        &[
+            "Usage: temu run [OPTIONS] <WIRING>",
+            "1 to 64 [default: 1]",
+            "0 to 4294967295 [default: 100000]",
+            "1 to 65536 [default: 64]",
+            "--log <FILE>",
+            "In: ",
+            "Out: ",
+            "Example:",
+        ],
+    ),
+    (
+        &["temu", "replay", "-h"],
+        &[
+            "Usage: temu replay <WIRING> <LOG>",
+            "In: ",
+            "Out: ",
+            "Example:",
+        ],
+    ),
+    (
+        &["/opt/other", "dis", "--help"],
+        &["Usage: temu dis <IMAGE>", "In: ", "Out: ", "Example:"],
+    ),
+];
+
 #[test]
 fn help_tells_what_goes_in_and_what_comes_out(rt: HostRuntime) -> Result<(), Fail> {
-    for (words, parts) in [
-        (
-            ["temu", "--help"].as_slice(),
-            ["run", "replay", "dis", "Examples:", "Exit status:"].as_slice(),
-        ),
-        (
-            ["temu", "run", "--help"].as_slice(),
-            [
-                "Usage: temu run [OPTIONS] <WIRING>",
-                "1 to 64 [default: 1]",
-                "0 to 4294967295 [default: 100000]",
-                "1 to 65536 [default: 64]",
-                "--log <FILE>",
-                "In: ",
-                "Out: ",
-                "Example:",
-            ]
-            .as_slice(),
-        ),
-        (
-            ["temu", "replay", "-h"].as_slice(),
-            [
-                "Usage: temu replay <WIRING> <LOG>",
-                "In: ",
-                "Out: ",
-                "Example:",
-            ]
-            .as_slice(),
-        ),
-        (
-            ["/opt/other", "dis", "--help"].as_slice(),
-            ["Usage: temu dis <IMAGE>", "In: ", "Out: ", "Example:"].as_slice(),
-        ),
-    ] {
+    for (words, parts) in HELP {
         let Err(fault) = read_words(rt.alloc(), words) else {
             return Err("help is not asked".into());
         };

@@ -1,10 +1,8 @@
-//! Tests of the crates below by worked examples, apart from them so that each crate is proved once.
+//! Tests of instructions and of processors by worked examples, apart from their crates so that each crate is proved once.
 #![tactic(auto)]
 
 #[cfg(test)]
 mod codes;
-#[cfg(test)]
-mod nets;
 #[cfg(test)]
 mod operations;
 #[cfg(test)]

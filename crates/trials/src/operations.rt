@@ -76,6 +76,18 @@ const OPERATIONS: [(&str, u32, u64); 43] = [
     ("testhalterr", 0x59, 0x66f5_8ecb_7290_ca80),
 ];
 
+/// What the functions on registers do at boundary values of A, B and the operand, as its digest.
+const FUNCTIONS: [(Function, u64); 8] = [
+    (Function::J, 0xc69e_dd1e_ede6_c780),
+    (Function::Ldlp, 0xe895_a99c_6156_8800),
+    (Function::Ldc, 0xa789_8d51_8e20_7c80),
+    (Function::Ldnlp, 0xb5d5_f5fd_285a_5300),
+    (Function::Adc, 0xd171_7edb_06a7_95c8),
+    (Function::Cj, 0xe651_29ba_b48a_d520),
+    (Function::Ajw, 0x9c9d_9bd1_81f3_b300),
+    (Function::Eqc, 0x3792_83e3_d493_ab40),
+];
+
 /// Operations by value: name, code, A to C before, A to C after, and whether Error is set.
 const ROWS: [(&str, u32, [u32; 3], [u32; 3], bool); 25] = [
     ("add", 0x05, [1, 0x7fff_ffff, 0], [0x8000_0000, 0, 0], true),
@@ -154,6 +166,50 @@ fn instruction(function: Function, operand: u32) -> Instruction {
         operand: Word::new(operand),
         length: 2,
     }
+}
+
+/// Whether an instruction is done, and this follows.
+fn follows(
+    next: Next,
+    registers: &mut Registers,
+    memory: &mut Memory,
+    marks: &Marks,
+    done: Instruction,
+) -> bool {
+    local(registers, memory, marks, done) == Ok(next)
+}
+
+/// Whether it is foretold that an instruction jumps, or that it does not.
+fn is_foretold(
+    jumped: bool,
+    registers: &Registers,
+    memory: &Memory,
+    marks: &Marks,
+    done: Instruction,
+) -> bool {
+    jumps(registers, memory, marks, done) == Ok(jumped)
+}
+
+/// Whether it is foretold that an instruction breaks this rule.
+fn is_foretold_to_break(
+    broken: Break,
+    registers: &Registers,
+    memory: &Memory,
+    marks: &Marks,
+    done: Instruction,
+) -> bool {
+    jumps(registers, memory, marks, done) == Err(broken)
+}
+
+/// Whether an instruction breaks this rule.
+fn breaks(
+    broken: Break,
+    registers: &mut Registers,
+    memory: &mut Memory,
+    marks: &Marks,
+    done: Instruction,
+) -> bool {
+    local(registers, memory, marks, done) == Err(broken)
 }
 
 /// What follows, as `boundary.py` numbers it.
@@ -243,7 +299,13 @@ fn operations_do_what_the_table_says(rt: HostRuntime) -> Result<(), Fail> {
     for (name, code, stack, left, error) in ROWS {
         let mut registers = before(stack[0], stack[1], stack[2]);
         assert!(rt;
-            local(&mut registers, &mut memory, &marks, operation(code)) == Ok(Next::Go),
+            follows(
+                Next::Go,
+                &mut registers,
+                &mut memory,
+                &marks,
+                operation(code)
+            ),
             "{name}"
         );
         assert_eq!(rt; registers.a.get(), left[0], "A of {name}");
@@ -272,38 +334,13 @@ fn operations_agree_at_the_boundaries(rt: HostRuntime) -> Result<(), Fail> {
 fn functions_agree_at_the_boundaries(rt: HostRuntime) -> Result<(), Fail> {
     let mut memory = Memory::new(rt.alloc(), 2048)?;
     let marks = Marks::new(rt.alloc())?;
-    assert_eq!(rt;
-        function_digest(&mut memory, &marks, Function::J),
-        0xc69e_dd1e_ede6_c780
-    );
-    assert_eq!(rt;
-        function_digest(&mut memory, &marks, Function::Ldlp),
-        0xe895_a99c_6156_8800
-    );
-    assert_eq!(rt;
-        function_digest(&mut memory, &marks, Function::Ldc),
-        0xa789_8d51_8e20_7c80
-    );
-    assert_eq!(rt;
-        function_digest(&mut memory, &marks, Function::Ldnlp),
-        0xb5d5_f5fd_285a_5300
-    );
-    assert_eq!(rt;
-        function_digest(&mut memory, &marks, Function::Adc),
-        0xd171_7edb_06a7_95c8
-    );
-    assert_eq!(rt;
-        function_digest(&mut memory, &marks, Function::Cj),
-        0xe651_29ba_b48a_d520
-    );
-    assert_eq!(rt;
-        function_digest(&mut memory, &marks, Function::Ajw),
-        0x9c9d_9bd1_81f3_b300
-    );
-    assert_eq!(rt;
-        function_digest(&mut memory, &marks, Function::Eqc),
-        0x3792_83e3_d493_ab40
-    );
+    for (function, digest) in FUNCTIONS {
+        assert_eq!(rt;
+            function_digest(&mut memory, &marks, function),
+            digest,
+            "{function:?}"
+        );
+    }
     Ok(())
 }
 
@@ -313,7 +350,15 @@ fn seterr_halts(rt: HostRuntime) -> Result<(), Fail> {
     let marks = Marks::new(rt.alloc())?;
     let mut registers = before(1, 2, 3);
     registers.halt_on_error = true;
-    assert!(rt; local(&mut registers, &mut memory, &marks, operation(0x10)) == Ok(Next::Halt));
+    assert!(rt;
+        follows(
+            Next::Halt,
+            &mut registers,
+            &mut memory,
+            &marks,
+            operation(0x10)
+        )
+    );
     assert!(rt; registers.error);
     Ok(())
 }
@@ -331,9 +376,9 @@ fn loops_count_down(rt: HostRuntime) -> Result<(), Fail> {
         memory.write_word(&marks, index, Word::new(5))?;
         memory.write_word(&marks, count, Word::new(old))?;
         let mut registers = before(0x20, 0x8000_0300, 9);
-        assert!(rt; jumps(&registers, &memory, &marks, operation(0x21)) == Ok(jumped));
+        assert!(rt; is_foretold(jumped, &registers, &memory, &marks, operation(0x21)));
         let next = if jumped { Next::Jumped } else { Next::Go };
-        assert!(rt; local(&mut registers, &mut memory, &marks, operation(0x21)) == Ok(next));
+        assert!(rt; follows(next, &mut registers, &mut memory, &marks, operation(0x21)));
         assert_eq!(rt; memory.read_word(&marks, index)?.get(), risen);
         assert_eq!(rt; memory.read_word(&marks, count)?.get(), new);
         assert_eq!(rt; registers.a.get(), 9);
@@ -352,7 +397,15 @@ fn moves_overlap(rt: HostRuntime) -> Result<(), Fail> {
     let from = Word::new(0x8000_0300);
     memory.write_word(&marks, from, Word::new(0x0403_0201))?;
     let mut registers = before(3, 0x8000_0301, 0x8000_0300);
-    assert!(rt; local(&mut registers, &mut memory, &marks, operation(0x4a)) == Ok(Next::Go));
+    assert!(rt;
+        follows(
+            Next::Go,
+            &mut registers,
+            &mut memory,
+            &marks,
+            operation(0x4a)
+        )
+    );
     assert_eq!(rt; memory.read_word(&marks, from)?.get(), 0x0302_0101);
     assert_eq!(rt; registers.a.get(), 0x8000_0300);
     Ok(())
@@ -364,28 +417,38 @@ fn calls_return(rt: HostRuntime) -> Result<(), Fail> {
     let marks = Marks::new(rt.alloc())?;
     let mut registers = before(11, 12, 13);
     assert!(rt;
-        local(
+        follows(
+            Next::Go,
             &mut registers,
             &mut memory,
             &marks,
             instruction(Function::Call, 0x40)
-        ) == Ok(Next::Go)
+        )
     );
     assert_eq!(rt; registers.a.get(), AFTER);
     assert_eq!(rt; registers.iptr.get(), AFTER + 0x40);
     assert_eq!(rt; registers.wptr.get(), WORKSPACE - 16);
     for (operand, word) in [(3, 13), (2, 12), (1, 11), (0, AFTER)] {
         assert!(rt;
-            local(
+            follows(
+                Next::Go,
                 &mut registers,
                 &mut memory,
                 &marks,
                 instruction(Function::Ldl, operand)
-            ) == Ok(Next::Go)
+            )
         );
         assert_eq!(rt; registers.a.get(), word);
     }
-    assert!(rt; local(&mut registers, &mut memory, &marks, operation(0x20)) == Ok(Next::Go));
+    assert!(rt;
+        follows(
+            Next::Go,
+            &mut registers,
+            &mut memory,
+            &marks,
+            operation(0x20)
+        )
+    );
     assert_eq!(rt; registers.iptr.get(), AFTER);
     assert_eq!(rt; registers.wptr.get(), WORKSPACE);
     Ok(())
@@ -397,12 +460,13 @@ fn stores_are_loaded_back(rt: HostRuntime) -> Result<(), Fail> {
     let marks = Marks::new(rt.alloc())?;
     let mut registers = before(0x0102_0304, 0x1122_3344, 13);
     assert!(rt;
-        local(
+        follows(
+            Next::Go,
             &mut registers,
             &mut memory,
             &marks,
             instruction(Function::Stl, 2)
-        ) == Ok(Next::Go)
+        )
     );
     assert_eq!(rt;
         memory.read_word(&marks, Word::new(WORKSPACE + 8))?.get(),
@@ -410,28 +474,46 @@ fn stores_are_loaded_back(rt: HostRuntime) -> Result<(), Fail> {
     );
     let mut registers = before(WORKSPACE, 0x1122_3344, 13);
     assert!(rt;
-        local(
+        follows(
+            Next::Go,
             &mut registers,
             &mut memory,
             &marks,
             instruction(Function::Stnl, 1)
-        ) == Ok(Next::Go)
+        )
     );
     assert_eq!(rt; registers.a.get(), 13);
     let mut registers = before(WORKSPACE, 5, 13);
     assert!(rt;
-        local(
+        follows(
+            Next::Go,
             &mut registers,
             &mut memory,
             &marks,
             instruction(Function::Ldnl, 1)
-        ) == Ok(Next::Go)
+        )
     );
     assert_eq!(rt; registers.a.get(), 0x1122_3344);
     let mut registers = before(WORKSPACE + 6, 0x7f5, 13);
-    assert!(rt; local(&mut registers, &mut memory, &marks, operation(0x3b)) == Ok(Next::Go));
+    assert!(rt;
+        follows(
+            Next::Go,
+            &mut registers,
+            &mut memory,
+            &marks,
+            operation(0x3b)
+        )
+    );
     let mut registers = before(WORKSPACE + 6, 5, 13);
-    assert!(rt; local(&mut registers, &mut memory, &marks, operation(0x01)) == Ok(Next::Go));
+    assert!(rt;
+        follows(
+            Next::Go,
+            &mut registers,
+            &mut memory,
+            &marks,
+            operation(0x01)
+        )
+    );
     assert_eq!(rt; registers.a.get(), 0xf5);
     assert_eq!(rt;
         memory.read_word(&marks, Word::new(WORKSPACE + 4))?.get(),
@@ -453,21 +535,22 @@ fn breaks_change_nothing(rt: HostRuntime) -> Result<(), Fail> {
         (Function::Opr, 0x21, Break::Unaligned),
         (Function::Opr, 0xff, Break::NoSuchOperation),
     ] {
-        assert!(rt;
-            jumps(&registers, &memory, &marks, instruction(function, operand)) == Err(broken)
-        );
-        assert!(rt;
-            local(
-                &mut registers,
-                &mut memory,
-                &marks,
-                instruction(function, operand)
-            ) == Err(broken)
-        );
+        let done = instruction(function, operand);
+        assert!(rt; is_foretold_to_break(broken, &registers, &memory, &marks, done));
+        let done = instruction(function, operand);
+        assert!(rt; breaks(broken, &mut registers, &mut memory, &marks, done));
         assert!(rt; registers == old);
     }
     let mut registers = before(WORKSPACE + 4, 2, 3);
-    assert!(rt; local(&mut registers, &mut memory, &marks, operation(0x3c)) == Ok(Next::Go));
+    assert!(rt;
+        follows(
+            Next::Go,
+            &mut registers,
+            &mut memory,
+            &marks,
+            operation(0x3c)
+        )
+    );
     assert_eq!(rt; registers.wptr.get(), WORKSPACE + 4);
     assert_eq!(rt; registers.a.get(), WORKSPACE);
     Ok(())
@@ -480,8 +563,13 @@ fn the_scheduler_keeps_its_operations(rt: HostRuntime) -> Result<(), Fail> {
     let mut registers = before(1, 2, 3);
     let old = before(1, 2, 3);
     assert!(rt;
-        local(&mut registers, &mut memory, &marks, operation(0x15))
-            == Ok(Next::Schedule(Operation::Stopp))
+        follows(
+            Next::Schedule(Operation::Stopp),
+            &mut registers,
+            &mut memory,
+            &marks,
+            operation(0x15)
+        )
     );
     assert!(rt; registers == old);
     Ok(())

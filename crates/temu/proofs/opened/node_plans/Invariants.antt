@@ -1,5 +1,0 @@
-use Rattle.temu.proofs.OpenedFiles.{ArePlannedSoFar}
-use Rattle.temu.proofs.opened.node_plans.Given as goal
-
-abbrev pub invariant-loop-node : goal.invariant-loop-node
-invariant-loop-node l = ArePlannedSoFar l.nodes l.files l.node l.plans.items

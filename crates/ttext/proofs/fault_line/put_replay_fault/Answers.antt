@@ -1,0 +1,9 @@
+use Rattle.std.proofs.Common.{ap, sym}
+use Rattle.ttext.proofs.Told.{tells_as}
+use Rattle.tnet.specs.declared.replays.ReplayFault.{ReplayFault}
+use Rattle.ttext.specs.Texts.{words}
+use Rattle.ttext.specs.FaultLines.{replay_words}
+use Rattle.ttext.proofs.fault_line.put_replay_fault.Goals as goal
+
+pub returns-in-NotEnabled : goal.returns-in-NotEnabled
+returns-in-NotEnabled g c = tells_as c.put_numbered.ensures (ap (λ (f : ReplayFault). words (replay_words f)) (sym c.in-NotEnabled.is))

@@ -1,0 +1,98 @@
+-- The line and the status by which the program tells why it printed nothing, or not all.
+-- Source: own choice.
+use Rattle.std.specs.Prelude.{ℕ, List, [], ◌∷◌, ◌++◌, codes, decimal}
+use Rattle.tword.specs.declared.breaks.Break.{Break}
+use Rattle.tnet.specs.declared.plan.BuildFault.{BuildFault}
+use Rattle.tnet.specs.declared.plan.BuildFault.TheVariants as build
+use Rattle.tnet.specs.declared.report.NetFault.{NetFault}
+use Rattle.tnet.specs.declared.report.NetFault.TheVariants as rounds
+use Rattle.tnet.specs.declared.replays.ReplayFault.{ReplayFault}
+use Rattle.tnet.specs.declared.replays.ReplayFault.TheVariants as replays
+use Rattle.ttext.specs.declared.image.ImageFault.{ImageFault}
+use Rattle.ttext.specs.declared.image.ImageFault.TheVariants as image
+use Rattle.ttext.specs.declared.wiring.WiringFault.{WiringFault}
+use Rattle.ttext.specs.declared.wiring.WiringFault.TheVariants as wiring
+use Rattle.ttext.specs.declared.log_reading.LogFault.{LogFault}
+use Rattle.ttext.specs.declared.log_reading.LogFault.TheVariants as log
+use Rattle.ttext.specs.declared.fault.Fault.{Fault}
+use Rattle.ttext.specs.declared.fault.Fault.TheVariants as fault
+use Rattle.ttext.specs.Logs.{line}
+use Rattle.ttext.specs.Texts.{break_name, words}
+
+-- want of memory has the same line wherever it was met
+abbrev pub memory_words : List (List ℕ)
+memory_words = codes "memory" ∷ []
+
+-- a fault of the image of a node
+abbrev pub image_words : ℕ → ImageFault → List (List ℕ)
+image_words n image.BadMagic = codes "image" ∷ decimal n ∷ codes "I1 BadMagic" ∷ []
+image_words n image.TooMany = codes "image" ∷ decimal n ∷ codes "I2 TooMany" ∷ []
+image_words n image.Truncated = codes "image" ∷ decimal n ∷ codes "I3 Truncated" ∷ []
+image_words n image.Trailing = codes "image" ∷ decimal n ∷ codes "I4 Trailing" ∷ []
+image_words n image.OutOfMemory = memory_words
+
+-- a fault of a wiring
+abbrev pub wiring_words : WiringFault → List (List ℕ)
+wiring_words wiring.Syntax = codes "wiring L1 Syntax" ∷ []
+wiring_words wiring.UnknownKey = codes "wiring L2 UnknownKey" ∷ []
+wiring_words wiring.MissingKey = codes "wiring L3 MissingKey" ∷ []
+wiring_words wiring.WrongType = codes "wiring L4 WrongType" ∷ []
+wiring_words wiring.BadVersion = codes "wiring L5 BadVersion" ∷ []
+wiring_words wiring.BadNumber = codes "wiring L6 BadNumber" ∷ []
+wiring_words wiring.OutOfMemory = memory_words
+
+-- a fault of a plan, with its places
+abbrev pub net_words : BuildFault → List (List ℕ)
+net_words build.TooMany = codes "net N1 TooMany" ∷ []
+net_words (build.BadSize n) = codes "net N2 BadSize" ∷ decimal n ∷ []
+net_words build.BadTimeslice = codes "net N3 BadTimeslice" ∷ []
+net_words (build.BadEnd w) = codes "net N4 BadEnd" ∷ decimal w ∷ []
+net_words (build.SameEnd w) = codes "net N5 SameEnd" ∷ decimal w ∷ []
+net_words (build.EndTwice w) = codes "net N6 EndTwice" ∷ decimal w ∷ []
+net_words (build.BadSegment n s) = codes "net N7 BadSegment" ∷ decimal n ∷ decimal s ∷ []
+net_words (build.BadProcess n p b) = codes "net N8 BadProcess" ∷ decimal n ∷ decimal p ∷ break_name b ∷ []
+net_words build.OutOfMemory = memory_words
+
+-- a fault of rounds
+abbrev pub rounds_words : NetFault → List (List ℕ)
+rounds_words rounds.BadWorkers = codes "rounds BadWorkers" ∷ []
+rounds_words (rounds.BadHold h) = codes "rounds BadHold" ∷ decimal h ∷ []
+rounds_words rounds.OutOfMemory = memory_words
+
+-- a fault of a log
+abbrev pub log_words : LogFault → List (List ℕ)
+log_words (log.BadLine n) = codes "log line" ∷ decimal n ∷ []
+log_words log.OutOfMemory = memory_words
+
+-- a fault of a replay
+abbrev pub replay_words : ReplayFault → List (List ℕ)
+replay_words (replays.NotEnabled place) = codes "replay event" ∷ decimal place ∷ []
+replay_words replays.OutOfMemory = memory_words
+
+-- what is told of a fault
+abbrev pub fault_words : Fault → List (List ℕ)
+fault_words (fault.File name) = codes "file" ∷ name.bytes.items ∷ []
+fault_words (fault.Wiring f) = wiring_words f
+fault_words (fault.Image n f) = image_words n f
+fault_words (fault.Net f) = net_words f
+fault_words (fault.Rounds f) = rounds_words f
+fault_words (fault.Log f) = log_words f
+fault_words (fault.Replay f) = replay_words f
+fault_words (fault.Output f) = codes "output" ∷ []
+fault_words fault.Memory = memory_words
+
+-- the line of a fault
+abbrev pub fault_line : Fault → List ℕ
+fault_line f = line (codes "temu: " ++ words (fault_words f))
+
+-- 3 where the output failed, 4 where there was no memory, else the input was bad
+abbrev pub status_of : Fault → ℕ
+status_of (fault.Output f) = 3
+status_of fault.Memory = 4
+status_of (fault.Wiring wiring.OutOfMemory) = 4
+status_of (fault.Image n image.OutOfMemory) = 4
+status_of (fault.Net build.OutOfMemory) = 4
+status_of (fault.Rounds rounds.OutOfMemory) = 4
+status_of (fault.Log log.OutOfMemory) = 4
+status_of (fault.Replay replays.OutOfMemory) = 4
+status_of f = 2

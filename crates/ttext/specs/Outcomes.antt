@@ -1,0 +1,140 @@
+-- What a run of a wiring with its images answers and writes, and what it has in common with a replay.
+-- Source: own choice; the run itself is that of the net's definitions.
+use Rattle.std.specs.Prelude.{ℕ, suc, ◌≡◌, List, [], ◌∷◌, map, zip, Option, Some, None, Result, Ok, Err, IfOk, Bool, true, false}
+use Rattle.std.specs.Io.KnownBytes.{Appends}
+use Rattle.tnet.specs.declared.event.Event.{Event}
+use Rattle.tnet.specs.declared.event.Hold.{Hold}
+use Rattle.tnet.specs.declared.plan.Image.{Image}
+use Rattle.tnet.specs.declared.plan.NodePlan.{NodePlan}
+use Rattle.tnet.specs.declared.plan.Plan.{Plan}
+use Rattle.tnet.specs.declared.plan.BuildFault.{BuildFault}
+use Rattle.tnet.specs.declared.report.Report.{Report}
+use Rattle.tnet.specs.declared.report.NetFault.{NetFault}
+use Rattle.tnet.specs.declared.report.Ending.{Ending}
+use Rattle.tnet.specs.declared.report.Ending.TheVariants as ending
+use Rattle.tnet.specs.Net.{NetState}
+use Rattle.tnet.specs.Building.{opening_configuration}
+use Rattle.tnet.specs.Notes.{notes}
+use Rattle.tnet.specs.Reports.{refusal, report}
+use Rattle.tnet.specs.Runs.{IsSeenRun}
+use Rattle.tnet.specs.View.{view}
+use Rattle.ttext.specs.declared.wiring.Wiring.{Wiring}
+use Rattle.ttext.specs.declared.wiring.WiringNode.{WiringNode}
+use Rattle.ttext.specs.declared.image.ImageFault.{ImageFault}
+use Rattle.ttext.specs.declared.options.Options.{Options}
+use Rattle.ttext.specs.declared.fault.Fault.{Fault}
+use Rattle.ttext.specs.declared.fault.Fault.TheVariants as fault
+use Rattle.ttext.specs.Images.{image_of}
+use Rattle.ttext.specs.Plans.{node_of, plan_of, net_of}
+use Rattle.ttext.specs.Texts.{run_text, rounds_end}
+use Rattle.ttext.specs.Outputs.{IsCut}
+
+-- the image of a node, or its fault
+abbrev pub as_image : ℕ → Result Image ImageFault → Result Image Fault
+as_image n (Ok image) = Ok image
+as_image n (Err f) = Err (fault.Image n f)
+
+-- an image before those of the files behind it; the first fault counts
+abbrev pub onto_images : Result Image Fault → Result (List Image) Fault → Result (List Image) Fault
+onto_images (Err f) rest = Err f
+onto_images (Ok image) (Ok images) = Ok (image ∷ images)
+onto_images (Ok image) (Err f) = Err f
+
+-- the images of files, whose nodes are numbered from here
+abbrev pub images_from : ℕ → List (List ℕ) → Result (List Image) Fault
+images_from n [] = Ok []
+images_from n (file ∷ files) = onto_images (as_image n (image_of file)) (images_from (suc n) files)
+
+-- the images of all nodes, or the first bad one
+abbrev pub images_of : List (List ℕ) → Result (List Image) Fault
+images_of files = images_from 0 files
+
+-- a net, or the fault of its plan
+abbrev pub as_opened : Result NetState BuildFault → Result NetState Fault
+as_opened (Ok net) = Ok net
+as_opened (Err f) = Err (fault.Net f)
+
+-- the net of a wiring and its images, where these are good
+abbrev pub opened_with : Wiring → Result (List Image) Fault → Result NetState Fault
+opened_with w (Ok images) = as_opened (net_of w images)
+opened_with w (Err f) = Err f
+
+-- the net that a wiring and the files of its images stand for, before its first event
+abbrev pub opened_of : Wiring → List (List ℕ) → Result NetState Fault
+opened_of w files = opened_with w (images_of files)
+
+-- a report, unless it is refused to make one
+abbrev pub unless_refused : Option NetFault → Report → Result Report Fault
+unless_refused None r = Ok r
+unless_refused (Some f) r = Err (fault.Rounds f)
+
+-- rounds of a net with these holds
+abbrev pub rounds_of : List Hold → Options → NetState → Result Report Fault
+rounds_of holds o net = unless_refused (refusal o.workers holds net) (report holds o.slice o.rounds net)
+
+-- so for the net of a wiring, where there is one
+abbrev pub rounds_with : Wiring → Options → Result NetState Fault → Result Report Fault
+rounds_with w o (Ok net) = rounds_of w.holds o net
+rounds_with w o (Err f) = Err f
+
+-- the report of the rounds of a wiring with its images, or the first fault
+abbrev pub run_of : Wiring → List (List ℕ) → Options → Result Report Fault
+run_of w files o = rounds_with w o (opened_of w files)
+
+-- rounds ended because nothing is enabled
+abbrev pub is_quiet_end : Ending → Bool
+is_quiet_end ending.Quiet = true
+is_quiet_end ending.Rounds = false
+
+-- the last line of rounds
+abbrev pub last_of : Report → List ℕ
+last_of r = rounds_end (is_quiet_end r.«end») r.rounds
+
+-- what is printed of a report
+abbrev pub report_text : Report → List ℕ
+report_text r = run_text r.notes (view r.net) (last_of r)
+
+-- a fault is the one that is due, unless memory was wanted; nothing was to be written yet
+abbrev pub IsFaultOf : {T : Type 0} → Result T Fault → Fault → Type 0
+IsFaultOf due fault.Memory = Unit {0}
+IsFaultOf due (fault.Output f) = ⊥
+IsFaultOf due f = due ≡ Err f
+
+-- so for a text call, which may have failed to write the text that was due
+abbrev pub IsDue : {T : Type 0} → Result T Fault → Fault → Type 0
+IsDue due (fault.Output f) = IfOk due (λ _. Unit {0})
+IsDue due f = IsFaultOf due f
+
+-- what has gone out where a text call answers a fault: the beginning of the text that was due, or nothing
+abbrev pub IsLeft : {T W : Type 0} → (W → Option (List ℕ)) → (T → List ℕ) → Result T Fault → W → W → Fault → Type 0
+IsLeft contents text due old new (fault.Output f) = IfOk due (λ r. IsCut (contents old) (contents new) (text r) f.written)
+IsLeft contents text due old new f = new ≡ old
+
+-- the plans of nodes with the images of files
+pub record ArePlansOf (nodes : List WiringNode) (files : List (List ℕ)) (plans : List NodePlan) : Type 0 where
+  pub images : List Image
+  pub read : images_of files ≡ Ok images
+  pub planned : plans ≡ map node_of (zip nodes images)
+
+-- the plan of a wiring with the images of files
+pub record IsPlanOf (w : Wiring) (files : List (List ℕ)) (plan : Plan) : Type 0 where
+  pub images : List Image
+  pub read : images_of files ≡ Ok images
+  pub planned : plan ≡ plan_of w images
+
+-- a net is the opening of a wiring and the files of its images: nothing is offered in it
+pub record IsOpening (w : Wiring) (files : List (List ℕ)) (opened : NetState) : Type 0 where
+  pub images : List Image
+  pub read : images_of files ≡ Ok images
+  pub made : net_of w images ≡ Ok opened
+  pub alike : view opened ≡ opening_configuration (plan_of w images)
+
+-- the headline of a text: it is that of one run of the rendezvous machine from the opening of the plan, whose steps are the images of these events
+pub record ShowsOneRun (w : Wiring) (files : List (List ℕ)) (events : List Event) (last : List ℕ) (old new : Option (List ℕ)) : Type 0 where
+  pub opened : NetState
+  pub left : NetState
+  pub opening : IsOpening w files opened
+  -- the events, and what is seen of them
+  pub run : IsSeenRun opened events left
+  -- what is printed: the notes of this run, and the memories that it leaves
+  pub printed : Appends old new (run_text (notes events opened) (view left) last)

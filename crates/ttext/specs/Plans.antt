@@ -1,0 +1,28 @@
+-- Which plan a wiring and its images give.
+-- Source: own choice.
+use Rattle.std.specs.Prelude.{List, map, zip, Result}
+use Rattle.tnet.specs.declared.plan.Image.{Image}
+use Rattle.tnet.specs.declared.plan.NodePlan.{NodePlan}
+use Rattle.tnet.specs.declared.plan.Plan.{Plan}
+use Rattle.tnet.specs.declared.plan.BuildFault.{BuildFault}
+use Rattle.tnet.specs.Net.{NetState}
+use Rattle.tnet.specs.Building.{built}
+use Rattle.ttext.specs.declared.wiring.Wiring.{Wiring}
+use Rattle.ttext.specs.declared.wiring.WiringNode.{WiringNode}
+
+-- a node with its image
+abbrev pub node_of : WiringNode × Image → NodePlan
+node_of p = record { memory = p.0.memory; image = p.1 }
+
+-- each node has its own memory and image, in the order of the wiring
+unfoldable pub plan_of : Wiring → List Image → Plan
+plan_of w images =
+    record {
+      timeslice = w.timeslice;
+      nodes = map node_of (zip w.nodes images);
+      wires = w.wires;
+    }
+
+-- the net of a wiring with one image for each node, or the lowest fault
+abbrev pub net_of : Wiring → List Image → Result NetState BuildFault
+net_of w images = built (plan_of w images)

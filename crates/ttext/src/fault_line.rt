@@ -1,0 +1,181 @@
+//! How the program says why it printed nothing, or not all: one line, and its exit status.
+
+ghost use Rattle.std.specs.Prelude.{◌≡◌, ◌++◌, IfOk, codes, decimal};
+ghost use Rattle.ttext.specs.Texts.{words};
+ghost use Rattle.ttext.specs.Outputs.{IsOut, Tells};
+ghost use Rattle.ttext.specs.FaultLines as spec;
+
+use crate::break_names::break_name;
+use crate::fault::Fault;
+use crate::image::ImageFault;
+use crate::log_reading::LogFault;
+use crate::wiring::WiringFault;
+use crate::writing::output::{Output, WriteFault};
+use crate::writing::text::put_decimal;
+use std::io::Write;
+use tnet::{BuildFault, NetFault, ReplayFault};
+
+/// Writes the line of a fault (own choice of format), as `temu: net N6 EndTwice 1`, and answers the exit status of the
+/// program: 2 for bad input, 3 where the output failed, 4 where there was no memory.
+///
+/// # Errors
+/// Where the writer fails or takes nothing. Just so many of the first bytes are written as the fault tells.
+pub fn write_fault<W: Write>(fault: &Fault, out: &mut W) -> Result<u8, WriteFault>
+    ensures line { IsOut (W.contents out.old) (W.contents out.new) (spec.fault_line fault.now) result }
+    ensures status { IfOk result (λ status. status ≡ spec.status_of fault.now) }
+{
+    match write_line(fault, out) {
+        Ok(()) => Ok(fault.status()),
+        Err(failed) => Err(failed),
+    }
+}
+
+/// Writes the line of a fault.
+fn write_line<W: Write>(fault: &Fault, out: &mut W) -> Result<(), WriteFault>
+    ensures { IsOut (W.contents out.old) (W.contents out.new) (spec.fault_line fault.now) result }
+{
+    let mut output = Output::new(out);
+    output.put(b"temu: ");
+    put_fault(&mut output, fault);
+    output.put(b"\n");
+    output.finish()
+}
+
+impl Fault {
+    /// The exit status of the program: 2 for bad input, 3 where the output failed, 4 where there was no memory.
+    pub fn status(&self) -> u8
+        ensures { result ≡ spec.status_of self.now }
+    {
+        match self {
+            Fault::Output(_) => 3,
+            Fault::Memory
+            | Fault::Wiring(WiringFault::OutOfMemory)
+            | Fault::Image(_, ImageFault::OutOfMemory)
+            | Fault::Net(BuildFault::OutOfMemory)
+            | Fault::Rounds(NetFault::OutOfMemory)
+            | Fault::Log(LogFault::OutOfMemory)
+            | Fault::Replay(ReplayFault::OutOfMemory) => 4,
+            _ => 2,
+        }
+    }
+}
+
+/// What is told of a fault.
+fn put_fault<W: Write>(out: &mut Output<'_, W>, fault: &Fault)
+    ensures { Tells W.contents out.old out.new (words (spec.fault_words fault.now)) }
+{
+    match fault {
+        Fault::File(name) => {
+            out.put(b"file ");
+            out.put(name.as_bytes());
+        }
+        Fault::Wiring(fault) => out.put(wiring_text(*fault)),
+        Fault::Image(node, fault) => put_image_fault(out, *node, *fault),
+        Fault::Net(fault) => put_net_fault(out, fault),
+        Fault::Rounds(fault) => put_rounds_fault(out, *fault),
+        Fault::Log(fault) => put_log_fault(out, *fault),
+        Fault::Replay(fault) => put_replay_fault(out, *fault),
+        Fault::Output(_) => out.put(b"output"),
+        Fault::Memory => out.put(b"memory"),
+    }
+}
+
+/// A fault of a wiring.
+fn wiring_text(fault: WiringFault) -> &'static [u8]
+    ensures { result.now ≡ words (spec.wiring_words fault) }
+{
+    match fault {
+        WiringFault::Syntax => b"wiring L1 Syntax",
+        WiringFault::UnknownKey => b"wiring L2 UnknownKey",
+        WiringFault::MissingKey => b"wiring L3 MissingKey",
+        WiringFault::WrongType => b"wiring L4 WrongType",
+        WiringFault::BadVersion => b"wiring L5 BadVersion",
+        WiringFault::BadNumber => b"wiring L6 BadNumber",
+        WiringFault::OutOfMemory => b"memory",
+    }
+}
+
+/// A fault of the image of a node.
+fn put_image_fault<W: Write>(out: &mut Output<'_, W>, node: usize, fault: ImageFault)
+    ensures { Tells W.contents out.old out.new (words (spec.image_words node fault)) }
+{
+    match fault {
+        ImageFault::BadMagic => put_image(out, node, b" I1 BadMagic"),
+        ImageFault::TooMany => put_image(out, node, b" I2 TooMany"),
+        ImageFault::Truncated => put_image(out, node, b" I3 Truncated"),
+        ImageFault::Trailing => put_image(out, node, b" I4 Trailing"),
+        ImageFault::OutOfMemory => out.put(b"memory"),
+    }
+}
+
+/// The image of a node, and what is wrong with it.
+fn put_image<W: Write>(out: &mut Output<'_, W>, node: usize, wrong: &[u8])
+    ensures { Tells W.contents out.old out.new (codes "image " ++ (decimal node ++ wrong.now)) }
+{
+    put_numbered(out, b"image ", node);
+    out.put(wrong);
+}
+
+/// A fault of a plan, with its places.
+fn put_net_fault<W: Write>(out: &mut Output<'_, W>, fault: &BuildFault)
+    ensures { Tells W.contents out.old out.new (words (spec.net_words fault.now)) }
+{
+    match fault {
+        BuildFault::TooMany => out.put(b"net N1 TooMany"),
+        BuildFault::BadSize(node) => put_numbered(out, b"net N2 BadSize ", *node),
+        BuildFault::BadTimeslice => out.put(b"net N3 BadTimeslice"),
+        BuildFault::BadEnd(wire) => put_numbered(out, b"net N4 BadEnd ", *wire),
+        BuildFault::SameEnd(wire) => put_numbered(out, b"net N5 SameEnd ", *wire),
+        BuildFault::EndTwice(wire) => put_numbered(out, b"net N6 EndTwice ", *wire),
+        BuildFault::BadSegment(node, segment) => {
+            put_numbered(out, b"net N7 BadSegment ", *node);
+            put_numbered(out, b" ", *segment);
+        }
+        BuildFault::BadProcess(node, process, broken) => {
+            put_numbered(out, b"net N8 BadProcess ", *node);
+            put_numbered(out, b" ", *process);
+            out.put(b" ");
+            out.put(break_name(*broken));
+        }
+        BuildFault::OutOfMemory => out.put(b"memory"),
+    }
+}
+
+/// A fault of rounds.
+fn put_rounds_fault<W: Write>(out: &mut Output<'_, W>, fault: NetFault)
+    ensures { Tells W.contents out.old out.new (words (spec.rounds_words fault)) }
+{
+    match fault {
+        NetFault::BadWorkers => out.put(b"rounds BadWorkers"),
+        NetFault::BadHold(hold) => put_numbered(out, b"rounds BadHold ", hold),
+        NetFault::OutOfMemory => out.put(b"memory"),
+    }
+}
+
+/// A fault of a log.
+fn put_log_fault<W: Write>(out: &mut Output<'_, W>, fault: LogFault)
+    ensures { Tells W.contents out.old out.new (words (spec.log_words fault)) }
+{
+    match fault {
+        LogFault::BadLine(line) => put_numbered(out, b"log line ", line),
+        LogFault::OutOfMemory => out.put(b"memory"),
+    }
+}
+
+/// A fault of a replay.
+fn put_replay_fault<W: Write>(out: &mut Output<'_, W>, fault: ReplayFault)
+    ensures { Tells W.contents out.old out.new (words (spec.replay_words fault)) }
+{
+    match fault {
+        ReplayFault::NotEnabled(place) => put_numbered(out, b"replay event ", place),
+        ReplayFault::OutOfMemory => out.put(b"memory"),
+    }
+}
+
+/// Some text with a number behind it.
+fn put_numbered<W: Write>(out: &mut Output<'_, W>, text: &[u8], number: usize)
+    ensures { Tells W.contents out.old out.new (text.now ++ decimal number) }
+{
+    out.put(text);
+    put_decimal(out, number as u64);
+}

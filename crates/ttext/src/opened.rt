@@ -1,0 +1,87 @@
+//! The net of a wiring file and its images.
+
+ghost use Rattle.std.specs.Prelude.{◌≡◌, Ok, IfOk, MatchResult, length};
+ghost use Rattle.tnet.specs.Building.{built, opening_configuration};
+ghost use Rattle.tnet.specs.View.{view};
+ghost use Rattle.ttext.specs.Images.{image_of};
+ghost use Rattle.ttext.specs.Outcomes.{as_image, as_opened, images_of, opened_of, ArePlansOf, IsFaultOf, IsOpening, IsPlanOf};
+
+use crate::fault::Fault;
+use crate::image::{ImageFault, read_image};
+use crate::wiring::{Wiring, WiringNode};
+use std::alloc::Global;
+use tnet::plan::Image;
+use tnet::{BuildFault, Net, NodePlan, Plan};
+use tword::Items;
+
+/// The net that a wiring and the files of its images stand for, one file a node, before its first event.
+///
+/// # Errors
+/// `Image` with the number of the first node whose file is no image, else `Net` with the lowest fault of the plan. `Memory`
+/// where the allocator refused.
+pub fn open_net(alloc: Global, wiring: &Wiring, files: &[Items<u8>]) -> Result<Net, Fault>
+    requires { length files.now ≡ length wiring.now.nodes }
+    ensures answer { MatchResult result (λ net. opened_of wiring.now files.now ≡ Ok net) (IsFaultOf (opened_of wiring.now files.now)) }
+
+    // nothing is offered in it
+    ensures opening { IfOk result (IsOpening wiring.now files.now) }
+{
+    let plan = plan(alloc, wiring, files)?;
+    build(alloc, plan)
+}
+
+/// The net of a plan.
+fn build(alloc: Global, plan: Plan) -> Result<Net, Fault>
+    ensures answer { MatchResult result (λ net. built plan ≡ Ok net) (IsFaultOf (as_opened (built plan))) }
+    ensures alike { IfOk result (λ net. view net ≡ opening_configuration plan) }
+{
+    match Net::build(alloc, plan) {
+        Ok(net) => Ok(net),
+        Err(BuildFault::OutOfMemory) => Err(Fault::Memory),
+        Err(fault) => Err(Fault::Net(fault)),
+    }
+}
+
+/// The plan of a wiring and the files of its images.
+#[tactic(auto, unfolding(crate::specs::Plans::plan_of))]
+fn plan(alloc: Global, wiring: &Wiring, files: &[Items<u8>]) -> Result<Plan, Fault>
+    requires { length files.now ≡ length wiring.now.nodes }
+    ensures { MatchResult result (IsPlanOf wiring.now files.now) (IsFaultOf (images_of files.now)) }
+{
+    let nodes = node_plans(alloc, wiring.nodes.as_slice(), files)?;
+    let wires = Vec::from_slice(alloc, wiring.wires.as_slice())?;
+    Ok(Plan {
+        timeslice: wiring.timeslice,
+        nodes,
+        wires: Items::new(wires),
+    })
+}
+
+/// Each node with the image of its file.
+fn node_plans(
+    alloc: Global,
+    nodes: &[WiringNode],
+    files: &[Items<u8>],
+) -> Result<Items<NodePlan>, Fault>
+    requires { length files.now ≡ length nodes.now }
+    ensures { MatchResult result (ArePlansOf nodes.now files.now) (IsFaultOf (images_of files.now)) }
+{
+    let mut plans = Vec::new(alloc);
+    for (node, file) in files.iter().enumerate() {
+        let image = image_of_node(alloc, node, file.as_slice())?;
+        let memory = nodes[node].memory;
+        plans.push(NodePlan { memory, image })?;
+    }
+    Ok(Items::new(plans))
+}
+
+/// The image of a node.
+fn image_of_node(alloc: Global, node: usize, file: &[u8]) -> Result<Image, Fault>
+    ensures { MatchResult result (λ image. image_of file.now ≡ Ok image) (IsFaultOf (as_image node (image_of file.now))) }
+{
+    match read_image(alloc, file) {
+        Ok(image) => Ok(image),
+        Err(ImageFault::OutOfMemory) => Err(Fault::Memory),
+        Err(fault) => Err(Fault::Image(node, fault)),
+    }
+}
