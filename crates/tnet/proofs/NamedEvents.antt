@@ -1,5 +1,5 @@
 -- Events that are done name a node of the net, and no link from the fourth on.
-use Rattle.std.proofs.Common.{◌≡◌, ℕ, ◌<◌, ◌≤◌, refl, sym, ap, ◌∙◌, subst, List, [], ◌∷◌, length, Bool, true, false, Ok, Err, Option, Some, None, ⊎_elim, All, arith}
+use Rattle.std.proofs.Common.{◌≡◌, ℕ, ◌≤◌, refl, sym, ap, ◌∙◌, subst, [], ◌∷◌, length, Bool, true, false, Ok, Err, Option, Some, None, ⊎_elim, All, arith}
 use Rattle.std.proofs.lemmas.Bool.{cases_lt, or_parts, ltb-false, true≢false}
 use Rattle.std.proofs.lemmas.List.{length-map, length-set}
 use Rattle.std.proofs.lemmas.List.Elements.{All-nil, All-cons}
@@ -18,7 +18,7 @@ use Rattle.std.specs.Prelude.{nat_lt}
 use Rattle.tnet.specs.declared.plan.Plan.{Plan}
 use Rattle.tnet.specs.declared.plan.BuildFault.{BuildFault}
 use Rattle.tnet.specs.declared.plan.BuildFault.TheVariants.{TooMany}
-use Rattle.tnet.specs.Building.{too_many, when, or_else, fault_of, machines_of, opening_net, built, unless_fault}
+use Rattle.tnet.specs.Building.{too_many, when, or_else, fault_of, machines_of, opening_net, unless_fault}
 use Rattle.tnet.specs.Wires.{end_at, far_end}
 use Rattle.tnet.specs.Net.{NetState, node_at, with_node}
 use Rattle.tnet.specs.Packets.{NetAnswer, node_event, received, delivered, sent_off, net_answer, answer_of, net_happens, with_frozen, after_answer, after_event, then_after, after_events, is_done, is_enabled}

@@ -1,5 +1,5 @@
 -- What a node answers to each kind of event, and what its part of a round comes to.
-use Rattle.std.proofs.Common.{◌≡◌, ℕ, refl, sym, ap, ◌∙◌, subst, List, [], ◌∷◌, ◌++◌, set, Bool, true, false, Result, Ok, Err, is_ok, Option, Some, None, ◌⊎◌, inl, inr}
+use Rattle.std.proofs.Common.{◌≡◌, ℕ, refl, sym, ap, ◌∙◌, List, [], ◌∷◌, ◌++◌, set, Bool, true, false, Result, Ok, Err, is_ok, Option, Some, None, ◌⊎◌, inl, inr}
 use Rattle.std.specs.Prelude.{⊤, slice_index_or, slice_set, ◌+◌, ◌&&◌, ◌==◌, not, nat_lt, if◌then◌else◌, is_none, IsSome, IfSome, ◌≤◌}
 use Rattle.std.proofs.lemmas.List.{append-nil, get_or-set_other}
 use Rattle.tword.specs.declared.breaks.Break.{Break}
@@ -18,7 +18,6 @@ use Rattle.tproc.proofs.Resting.{halting_halts}
 use Rattle.tlink.specs.declared.counts.Arrival.{Arrival}
 use Rattle.tlink.specs.declared.counts.Counts.{Counts}
 use Rattle.tlink.specs.declared.event.Packet.{Packet}
-use Rattle.tlink.specs.declared.event.Packet.TheVariants as packet
 use Rattle.tlink.specs.declared.event.NodeEvent.{NodeEvent}
 use Rattle.tlink.specs.declared.event.NodeEvent.TheVariants.{Run, Send, Data, Take, Ack}
 use Rattle.tlink.specs.declared.event.Mark.TheVariants.{Nothing, Halted, Completed}
@@ -26,7 +25,7 @@ use Rattle.tlink.specs.declared.event.Emitted.{Emitted}
 use Rattle.tlink.specs.declared.event.StepFault.{StepFault}
 use Rattle.tlink.specs.declared.event.StepFault.TheVariants.{NotEnabled, Frozen}
 use Rattle.tlink.specs.Node.{NodeState, counts_at, with_counts, with_machine, output_at, input_at, is_wired, frozen}
-use Rattle.tlink.specs.Events.{Answer, happens, unless_frozen, after_run, after_send, after_data, after_take, after_ack, take_marked, stored, noticed_by, silently, emitting, ended, node_left_by, node_answered}
+use Rattle.tlink.specs.Events.{Answer, happens, unless_frozen, after_run, after_send, after_take, after_ack, take_marked, stored, noticed_by, silently, emitting, ended, node_left_by, node_answered}
 use Rattle.tnet.specs.declared.event.Act.{Act}
 use Rattle.tnet.specs.declared.event.Act.TheVariants as act
 use Rattle.tnet.specs.declared.cell.Letter.{Letter}
@@ -36,7 +35,7 @@ use Rattle.tnet.specs.declared.event.Note.{Note}
 use Rattle.tnet.specs.declared.event.Note.TheVariants.{Halt, Freeze}
 use Rattle.tnet.specs.Wires.{end_at}
 use Rattle.tnet.specs.Notes.{message_note, input_bytes}
-use Rattle.tnet.specs.Parts.{Part, Seat, box_at, asked, emptied, part_asked, answered_part, part_does, letters, marked}
+use Rattle.tnet.specs.Parts.{Part, box_at, asked, emptied, answered_part, part_does, letters}
 use Rattle.tnet.proofs.Places.{part_kept}
 
 -- the pending inputs stay

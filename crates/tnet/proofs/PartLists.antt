@@ -1,7 +1,6 @@
 -- Steps of a loop that changes each element in turn.
-use Rattle.std.proofs.Common.{◌≡◌, ℕ, ◌+◌, ◌<◌, List, [], ◌∷◌, ◌++◌, map, length, get_or, take, drop, set, refl, sym, ap, ◌∙◌, arith, add-zero, ◌≤◌, ◌⊎◌, inl, inr, ◌*◌, subst}
+use Rattle.std.proofs.Common.{◌≡◌, ℕ, ◌+◌, ◌<◌, List, [], ◌∷◌, ◌++◌, map, length, get_or, take, drop, set, sym, ap, ◌∙◌, arith, add-zero}
 use Rattle.std.proofs.lemmas.List.{get_or-drop, map-set, take_more_set, map_more, get_or-map, drop-set-lt, drop-drop, length-map}
-use Rattle.std.proofs.Math.Nat.{mul-le-mul_right}
 
 module _ {A : Type 0} where
   pub same_at : (xs ys : List A) (i : ℕ) (d : A) → drop i xs ≡ drop i ys → get_or xs i d ≡ get_or ys i d

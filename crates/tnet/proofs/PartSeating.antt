@@ -1,7 +1,7 @@
 -- The nodes of a net, taken out one after another and put back.
-use Rattle.std.proofs.Common.{◌≡◌, ℕ, zero, suc, ◌+◌, ◌-◌, ◌<◌, ◌≤◌, min, refl, sym, ap, ◌∙◌, List, [], ◌∷◌, ◌++◌, length, get_or, map, take, drop, reverse, replicate, Option, Some, None, ◌⊎◌, inl, inr, arith}
+use Rattle.std.proofs.Common.{◌≡◌, ℕ, zero, suc, ◌+◌, ◌-◌, ◌<◌, ◌≤◌, refl, sym, ap, ◌∙◌, List, [], ◌∷◌, ◌++◌, length, get_or, map, take, drop, reverse, replicate, Option, Some, None, ◌⊎◌, inl, inr, arith}
 use Rattle.std.specs.Prelude.{slice_get, slice_index_or}
-use Rattle.std.proofs.lemmas.List.{append-nil, take-take, take-append-le, drop_all, length-take, length-reverse, reverse-reverse, get_or-take, get_or-reverse, take_more, take_all, length-map, length-append, map-append, append_assoc, get_or_past, get_or_at, get_or_default}
+use Rattle.std.proofs.lemmas.List.{append-nil, take-take, drop_all, length-take, get_or-take, get_or-reverse, take_more, take_all, length-append, map-append, append_assoc, get_or_past, get_or_at, get_or_default}
 use Rattle.std.proofs.lemmas.Bool.{cases_lt}
 use Rattle.std.proofs.lemmas.Option.{same_Some}
 use Rattle.tlink.specs.Node.{NodeState}
@@ -9,9 +9,9 @@ use Rattle.tnet.specs.declared.plan.End.{End}
 use Rattle.tnet.specs.declared.plan.Wire.{Wire}
 use Rattle.tnet.specs.declared.inbox.Inbox.{Inbox}
 use Rattle.tnet.specs.declared.cell.Cell.{Cell}
-use Rattle.tnet.specs.Wires.{end_at, far_end}
+use Rattle.tnet.specs.Wires.{end_at}
 use Rattle.tnet.specs.FarEnds.{AgreesWith, far_in}
-use Rattle.tnet.specs.Parts.{Seat, far_at, net_of, AreSeated}
+use Rattle.tnet.specs.Parts.{Seat, net_of, AreSeated}
 use Rattle.tnet.specs.Cells.{seat_of, seats_of}
 
 module _ {A : Type 0} where

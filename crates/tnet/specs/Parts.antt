@@ -1,7 +1,7 @@
 -- A node's part of a round, done by itself: it sees only what lay at its own links, and what it sends goes into its mail.
 -- Source: own choice, how rounds are shared out.
-use Rattle.std.specs.Prelude.{◌≡◌, ℕ, zero, suc, Bool, true, false, not, ◌&&◌, List, [], ◌∷◌, ◌++◌, length, map, fold, Option, Some, None, Ok, Err, is_some, slice_get, slice_set, slice_index_or, if◌then◌else◌}
-use Rattle.std.specs.List.{flat_map, list_all}
+use Rattle.std.specs.Prelude.{◌≡◌, ℕ, zero, suc, Bool, false, not, ◌&&◌, List, [], ◌∷◌, ◌++◌, map, fold, Option, Some, None, Ok, Err, is_some, slice_get, slice_set, slice_index_or, if◌then◌else◌}
+use Rattle.std.specs.List.{flat_map}
 use Rattle.tlink.specs.declared.event.Packet.{Packet}
 use Rattle.tlink.specs.declared.event.NodeEvent.{NodeEvent}
 use Rattle.tlink.specs.declared.event.NodeEvent.TheVariants as at_node
@@ -24,7 +24,7 @@ use Rattle.tnet.specs.declared.inbox.Inbox.{Inbox}
 use Rattle.tnet.specs.declared.cell.Letter.{Letter}
 use Rattle.tnet.specs.Wires.{end_at, far_end}
 use Rattle.tnet.specs.Net.{NetState, empty_inbox}
-use Rattle.tnet.specs.Packets.{with_carried, put_in, all_acts}
+use Rattle.tnet.specs.Packets.{with_carried, put_in}
 use Rattle.tnet.specs.Notes.{message_note, input_bytes}
 use Rattle.tnet.specs.Rounds.{is_held, taking, four_links}
 

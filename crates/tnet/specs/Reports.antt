@@ -1,6 +1,6 @@
 -- What a run of rounds answers.
 -- Source: own choice.
-use Rattle.std.specs.Prelude.{◌≡◌, ℕ, ◌≤◌, ◌||◌, ◌==◌, nat_lt, List, Option, Some, None, option_map, if◌then◌else◌}
+use Rattle.std.specs.Prelude.{◌≡◌, ℕ, ◌≤◌, ◌||◌, ◌==◌, nat_lt, List, Option, Some, option_map, if◌then◌else◌}
 use Rattle.tnet.specs.declared.event.Hold.{Hold}
 use Rattle.tnet.specs.declared.report.Report.{Report}
 use Rattle.tnet.specs.declared.report.NetFault.{NetFault}

@@ -1,7 +1,7 @@
 -- Claims agree with a control after each change of its lists.
-use Rattle.std.proofs.Common.{◌≡◌, ◌≢◌, ◌∙◌, ℕ, zero, suc, ◌+◌, ◌<◌, ◌≤◌, ◌%◌, refl, sym, ap, cond, not, ◌&&◌, ◌||◌, Bool, true, false, List, [], ◌∷◌, ◌++◌, map, set, get_or, length, Some, None, Option, arith, AllPairs, length-append}
+use Rattle.std.proofs.Common.{◌≡◌, ◌≢◌, ◌∙◌, ℕ, zero, suc, ◌+◌, ◌<◌, ◌≤◌, ◌%◌, refl, sym, ap, not, ◌&&◌, ◌||◌, Bool, true, false, List, [], ◌∷◌, ◌++◌, map, set, get_or, length, Some, None, Option, arith, AllPairs, length-append}
 use Rattle.std.specs.List.{list_any}
-use Rattle.std.specs.Prelude.{IsSome, IfSome, ◌==◌, filter, find, option_map, option_to_list}
+use Rattle.std.specs.Prelude.{IsSome, IfSome, ◌==◌, option_map, option_to_list}
 use Rattle.std.proofs.lemmas.Bool.{eqb-true, eqb-false, eq-eqb, ne_eqb, or_right}
 use Rattle.std.proofs.lemmas.List.{map-append, map-set, set-get_or, length-map}
 use Rattle.std.proofs.lemmas.List.Folds.{list_any-append}
@@ -14,9 +14,9 @@ use Rattle.tproc.specs.declared.waiting.LinkEnd.{LinkEnd}
 use Rattle.tproc.specs.Queues.{appended, waiting_for, without_waiter}
 use Rattle.tproc.specs.declared.offer.Offer.{Offer}
 use Rattle.tproc.specs.LinkChannels.{link_end, with_link, quiet_end}
-use Rattle.tproc.specs.Agreement.{AgreesOn, AgreesWith, Agrees, Settles, Unsettles, Leaves, AreSaved, IsPlain, StillSaved, StillAgrees}
+use Rattle.tproc.specs.Agreement.{AgreesWith, Agrees, Settles, Unsettles, Leaves, IsPlain, StillSaved, StillAgrees}
 use Rattle.tword.specs.Accesses.{Frees, with_input, with_output, without_input, without_output}
-use Rattle.tproc.proofs.Occurs.{occurs, hits, occurs-append, occurring_once, found-occurs, occurs-found, same_once}
+use Rattle.tproc.proofs.Occurs.{occurs, occurs-append, occurring_once, found-occurs, same_once}
 use Rattle.tproc.proofs.ClaimState.{workspaces_of, HasWaiter}
 use Rattle.tproc.proofs.Waiters.{without, without_none, waiter_occurs, found_waiter, filter_step}
 

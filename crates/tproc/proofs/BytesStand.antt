@@ -1,13 +1,11 @@
 -- The buffers of pending messages stand.
-use Rattle.std.proofs.Common.{◌≡◌, ℕ, [], ◌∷◌, List, length, Option, Some, ◌⊎◌, inl, inr, arith}
+use Rattle.std.proofs.Common.{◌≡◌, [], ◌∷◌, List, length, Option, Some, ◌⊎◌, inl, inr, arith}
 use Rattle.tword.specs.Stores.{Store, bytes_at}
 use Rattle.tword.specs.declared.span.Span.{Span}
 use Rattle.tword.proofs.Standing.{Stands as CellsStand}
 use Rattle.tword.proofs.Buffers.{stands_bytes}
-use Rattle.tproc.specs.declared.offer.Offer.{Offer}
-use Rattle.tproc.specs.Machine.{Machine, buffer_of}
+use Rattle.tproc.specs.Machine.{buffer_of}
 use Rattle.tproc.specs.LinkChannels.{link_end}
-use Rattle.tproc.specs.Placement.{IsPlaced, IsBuffer}
 use Rattle.tproc.specs.Messages.{output_of, input_of}
 use Rattle.tproc.specs.Keeping.{ClaimedBytesStand}
 use Rattle.tproc.proofs.Handing.{Lies, buffer_lies}

@@ -1,5 +1,5 @@
 -- What holds of each answer of an action and of the store that it leaves, where each check that came before is known to have passed. One induction gives it for a run.
-use Rattle.std.proofs.Common.{◌≡◌, ℕ, refl, ap, subst, [], ◌∷◌, length, Bool, true, false, cond, ◌%◌, Ok, None, unwrap_or}
+use Rattle.std.proofs.Common.{◌≡◌, refl, subst, [], ◌∷◌, length, Bool, true, false, cond, ◌%◌, Ok, None, unwrap_or}
 use Rattle.tword.specs.Stores.{Store, word_at, with_word, with_cells, as_cells, byte_at, cells}
 use Rattle.tword.specs.Claims.{Claims, saving}
 use Rattle.tword.specs.Touches.{Writes, span_break, word_break, deschedule_break, copy_break, byte_span}

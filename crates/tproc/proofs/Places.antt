@@ -1,9 +1,9 @@
 -- There is a place for one more, since no more than may live do.
-use Rattle.std.proofs.Common.{◌≡◌, ◌≢◌, ℕ, ◌+◌, ◌≤◌, ◌<◌, true, false, refl, cond, not, ◌==◌, List, [], ◌∷◌, ◌++◌, length, map, Bool, Option, Some, None, arith, AllPairs, length-append}
-use Rattle.std.specs.Prelude.{IsSome, filter, find, option_map}
+use Rattle.std.proofs.Common.{◌≡◌, ℕ, ◌+◌, ◌≤◌, ◌<◌, true, refl, ◌++◌, length, map, Option, Some, None, arith, length-append}
+use Rattle.std.specs.Prelude.{IsSome}
 use Rattle.std.proofs.lemmas.List.{length-map}
 use Rattle.tword.specs.Claims.{Claims}
-use Rattle.tproc.specs.Machine.{Control, workspace_of, descheduled}
+use Rattle.tproc.specs.Machine.{Control, workspace_of}
 use Rattle.tproc.specs.declared.waiting.Reason.{Reason}
 use Rattle.tproc.specs.declared.waiting.Waiter.{Waiter}
 use Rattle.tproc.specs.Standing.{has_room, reason_of}

@@ -1,16 +1,15 @@
 -- Processes that are queued or wait have their words saved.
-use Rattle.std.proofs.Common.{◌≡◌, ◌∙◌, ℕ, ◌-◌, ◌||◌, Bool, false, zero, suc, true, length, Some, None, Option, List, [], ◌∷◌, ◌++◌, map, refl}
+use Rattle.std.proofs.Common.{◌≡◌, ◌∙◌, ℕ, ◌-◌, ◌||◌, Bool, false, zero, suc, true, length, Some, None, Option, List, [], ◌∷◌, ◌++◌, refl}
 use Rattle.std.specs.Prelude.{IfSome, IsSome, slice_get, ◌==◌}
-use Rattle.std.proofs.lemmas.Bool.{eq-eqb, or_right, or_left}
+use Rattle.std.proofs.lemmas.Bool.{eq-eqb, or_right}
 use Rattle.std.proofs.lemmas.List.Folds.{list_any_at, list_any-append}
 use Rattle.std.proofs.lemmas.Option.{slice_get_within, get_or_from_slice_get}
 use Rattle.tword.specs.Claims.{Claims, has_saved, saving}
 use Rattle.tproc.specs.Machine.{Control, workspace_of, priority_of, descheduled}
-use Rattle.tproc.specs.declared.waiting.Waiter.{Waiter}
 use Rattle.tproc.specs.declared.waiting.Reason.{Reason}
 use Rattle.tproc.specs.Standing.{queue, is_among, is_queued, reason_of}
 use Rattle.tproc.specs.Queues.{last_of}
-use Rattle.tproc.specs.Agreement.{AgreesWith, Agrees, AreSaved, IsPlain}
+use Rattle.tproc.specs.Agreement.{AgreesWith, Agrees, AreSaved}
 use Rattle.tproc.proofs.Occurs.{occurs-found}
 use Rattle.tproc.proofs.Waiters.{waiter_occurs}
 use Rattle.tproc.proofs.ClaimState.{HasWaiter, workspaces_of}

@@ -1,42 +1,38 @@
 -- The first guard that is true and ready when it is disabled is selected.
-use Rattle.std.proofs.Common.{◌≡◌, ◌≢◌, ℕ, zero, suc, ◌+◌, ◌-◌, ◌<◌, ◌≤◌, ◌^◌, refl, sym, ap, subst, cond, ◌∙◌, List, [], ◌∷◌, length, Bool, true, false, not, ◌&&◌, Result, Ok, Err, Option, Some, None, arith}
+use Rattle.std.proofs.Common.{◌≡◌, ◌≢◌, ℕ, zero, suc, ◌+◌, ◌<◌, ◌^◌, refl, sym, ap, subst, cond, ◌∙◌, List, [], ◌∷◌, length, Bool, true, false, not, ◌&&◌, Result, Ok, Err, Option, Some, None, arith}
 use Rattle.std.specs.Prelude.{◌==◌, IfSome, is_none, unwrap_or, option_map, option_and_then, find}
-use Rattle.std.proofs.lemmas.Bool.{eqb-true, eq-eqb, ne_eqb}
+use Rattle.std.proofs.lemmas.Bool.{eq-eqb, ne_eqb}
 use Rattle.tword.specs.declared.breaks.Break.{Break}
-use Rattle.tword.specs.declared.breaks.Break.TheVariants.{Unaligned, ChannelMisuse, LinkBusy, WrongEnd}
 use Rattle.tword.specs.Words.{word_below, plus}
 use Rattle.tword.specs.Stores.{Store, word_at, with_word}
-use Rattle.tword.specs.Claims.{Claims, saving, has_saved}
+use Rattle.tword.specs.Claims.{Claims, saving}
 use Rattle.tword.specs.Touches.{Writes, word_break, deschedule_break}
-use Rattle.tword.specs.Actions.{Action, answer, done, breaks, require, read_word, take_word, write_word, deschedule, set_saved_word, run, run_from, value_of, with_saved_word, is_slot, ◌>>=◌, ◌>>◌}
+use Rattle.tword.specs.Actions.{answer, done, write_word, deschedule, set_saved_word, run, value_of, with_saved_word, is_slot, ◌>>=◌, ◌>>◌}
 use Rattle.tword.proofs.Passing.{deschedule-words}
 use Rattle.tcode.specs.declared.instruction.Function.{Function}
 use Rattle.tcode.specs.declared.instruction.Function.TheVariants as function
 use Rattle.tcode.specs.declared.instruction.Operation.{Operation}
 use Rattle.tcode.specs.declared.instruction.Operation.TheVariants.{Altwt, Disc, Diss}
 use Rattle.tcode.specs.declared.instruction.Instruction.{Instruction as Decoded}
-use Rattle.tcode.specs.Table.{operation_at}
 use Rattle.tcode.specs.Decoding.{decode}
 use Rattle.tcpu.specs.declared.registers.Registers.{Registers}
 use Rattle.tcpu.specs.declared.registers.Next.TheVariants.{Schedule}
 use Rattle.tcpu.specs.Outcomes.{all_to, flag}
 use Rattle.tcpu.specs.Operations.{operation_effect}
-use Rattle.tcpu.specs.Effects.{effect, effect_at, selected_effect}
+use Rattle.tcpu.specs.Effects.{effect, effect_at}
 use Rattle.tproc.specs.declared.offer.Ran.{Ran}
 use Rattle.tproc.specs.declared.offer.Ran.TheVariants.{Instruction}
-use Rattle.tproc.specs.declared.waiting.LinkEnd.{LinkEnd}
 use Rattle.tproc.specs.declared.waiting.Reason.TheVariants.{Sends, Receives, Chooses, LinkInput, LinkOutput}
 use Rattle.tproc.specs.Machine.{Control, Machine, claims_of}
 use Rattle.tproc.specs.Standing.{Standing, Waits, Queued, Runs, Interrupted, Unknown, standing}
 use Rattle.tproc.specs.Queues.{iptr_word, state_word, not_process, waiting_for}
-use Rattle.tproc.specs.Channels.{StepAction, Input, goes_on, waiting_state, ready, is_choosing}
-use Rattle.tproc.specs.LinkChannels.{is_link, link_of, link_end, with_link, check_end, check_free, is_right_end, is_free}
-use Rattle.tproc.specs.Alternatives.{none_selected, choice_state, awaits_choice, disable_found, disable_internal, disable_link, disable, selects, disables_channel}
+use Rattle.tproc.specs.Channels.{StepAction, Input, goes_on, waiting_state, ready}
+use Rattle.tproc.specs.LinkChannels.{is_link, link_of, link_end, with_link, check_end, check_free}
+use Rattle.tproc.specs.Alternatives.{none_selected, awaits_choice, disable_found, disable_internal, disable_link, disable, selects, disables_channel}
 use Rattle.tproc.specs.Scheduler.{operation_step, counted_by}
 use Rattle.tproc.specs.Steps.{step, acted, control_step, running_step, low_step, instruction_step, after}
-use Rattle.tproc.specs.Placement.{IsPlaced, AreWords}
-use Rattle.tproc.specs.Doing.{moved_on, onward}
-use Rattle.tproc.specs.Selection.{operation_of, operation_by, next_operation, outputs_on, is_ready, Guard, guard_of, next_guard, IsDisabled, Turn, Disables, Passes, AreTurns, left_by, guards, first_ready, IsChoice, FirstReadyIsSelected, SelectedIsTold}
+use Rattle.tproc.specs.Doing.{moved_on}
+use Rattle.tproc.specs.Selection.{operation_of, operation_by, next_operation, outputs_on, is_ready, Guard, guard_of, IsDisabled, Turn, Disables, Passes, AreTurns, left_by, guards, IsChoice, FirstReadyIsSelected, SelectedIsTold}
 use Rattle.tproc.proofs.Ends.{Ends, ends_run, ends_bind, ends_if}
 use Rattle.tproc.proofs.WordsApart.{LiesWord, lies_word, length-with_word, other_word, word_set, saved_other, below_other}
 use Rattle.tproc.proofs.Quiet.{begins_decode}

@@ -1,13 +1,13 @@
 -- What the checks of a touch tell of the calls of the memory that follow.
-use Rattle.std.proofs.Common.{◌≡◌, ◌∙◌, ℕ, ◌+◌, ◌-◌, ◌*◌, ◌≤◌, ◌<◌, ◌%◌, ◌^◌, Bool, true, false, not, ◌&&◌, ◌||◌, cond, Option, Some, None, Result, Ok, Err, refl, sym, [], ◌∷◌, arith, length}
-use Rattle.std.specs.Prelude.{nat_le, ◌==◌}
-use Rattle.std.proofs.lemmas.Bool.{and_parts, leb-true, le-leb, eqb-true, or_right, or_cases, eq-eqb}
+use Rattle.std.proofs.Common.{◌≡◌, ◌∙◌, ℕ, ◌+◌, ◌-◌, ◌≤◌, ◌<◌, ◌%◌, ◌^◌, Bool, true, false, not, ◌||◌, cond, Option, Some, None, Result, Ok, Err, refl, sym, [], arith}
+use Rattle.std.specs.Prelude.{◌==◌}
+use Rattle.std.proofs.lemmas.Bool.{and_parts, leb-true, le-leb, eqb-true, or_right}
 use Rattle.tword.specs.declared.breaks.Break.{Break}
 use Rattle.tword.specs.declared.breaks.Break.TheVariants.{BadAddress, Reserved, Unaligned, InTransit, SavedWord}
 use Rattle.tword.specs.declared.span.Span.{Span}
 use Rattle.tword.specs.Accesses.{IsClaimableWorkspace, Frees}
 use Rattle.tword.specs.Claims.{Claims, is_saved, overlap, saved_words, has_saved, saving}
-use Rattle.tword.specs.Touches.{Mode, Reads, Writes, is_inside, is_open, is_in_transit, is_aligned, span_break, word_break, word_span, byte_span, deschedule_break, copy_break, claim_break, first_break}
+use Rattle.tword.specs.Touches.{Mode, Reads, Writes, is_inside, is_open, is_in_transit, is_aligned, span_break, word_break, word_span, deschedule_break, copy_break, claim_break, first_break}
 use Rattle.tword.specs.Words.{most_neg, mem_start, word_below}
 use Rattle.tword.specs.Actions.{is_slot, unmet, or_break}
 use Rattle.tword.proofs.Passing.{Passes, span_break-none, word_break-aligned, word_break-passes, both_none, deschedule-words}

@@ -1,16 +1,15 @@
 -- A word that is set is there, and each other word stands.
-use Rattle.std.proofs.Common.{◌≡◌, ◌≢◌, ℕ, ◌+◌, ◌-◌, ◌<◌, ◌≤◌, ◌%◌, ◌^◌, refl, sym, ap, cond, ◌∙◌, [], ◌∷◌, length, take, drop, get_or, map, Bool, true, false, ◌&&◌, ◌||◌, Option, Some, None, unwrap_or, ◌⊎◌, inl, inr, arith, length-take, length-drop, get_or-take, get_or-drop}
+use Rattle.std.proofs.Common.{◌≡◌, ◌≢◌, ℕ, ◌+◌, ◌-◌, ◌<◌, ◌≤◌, ◌%◌, ◌^◌, refl, ap, cond, ◌∙◌, [], ◌∷◌, length, drop, Bool, true, false, ◌&&◌, Some, None, ◌⊎◌, inl, inr, arith, length-take, length-drop, get_or-take, get_or-drop}
 use Rattle.std.specs.Int.{w32, from_le_bytes, to_le_bytes}
 use Rattle.std.proofs.lemmas.Bool.{eqb-true}
 use Rattle.std.proofs.lemmas.List.{ext_get_or}
 use Rattle.std.proofs.lemmas.Nat.{from_le_bytes-to_le_bytes_4}
 use Rattle.tword.specs.Words.{most_neg, word_below}
-use Rattle.tword.specs.Stores.{Store, place, cells, with_cells, with_word, word_at, as_cells, shown}
-use Rattle.tword.specs.declared.span.Span.{Span}
+use Rattle.tword.specs.Stores.{Store, place, cells, with_word, word_at, as_cells, shown}
 use Rattle.tword.specs.Claims.{Claims, overlap, has_saved}
-use Rattle.tword.specs.Touches.{Mode, Writes, word_break, word_span, deschedule_break}
+use Rattle.tword.specs.Touches.{Mode, word_break, word_span}
 use Rattle.tword.specs.Actions.{with_saved_word, is_slot}
-use Rattle.tword.proofs.Passing.{Passes, word_break-passes, word_break-aligned, inside_bounds, deschedule-words}
+use Rattle.tword.proofs.Passing.{Passes, word_break-passes, word_break-aligned, inside_bounds}
 use Rattle.tword.proofs.Hiding.{overlap-parts}
 use Rattle.tword.proofs.Blind.{Clear}
 use Rattle.tword.proofs.Standing.{stands_self, with_cells-stands}

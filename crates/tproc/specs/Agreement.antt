@@ -1,6 +1,6 @@
 -- How the claims that a memory keeps agree with a control, and what the code of a step needs to know of a control.
 -- Source: own choice, words for contracts.
-use Rattle.std.specs.Prelude.{◌≡◌, ◌≢◌, ◌<◌, ◌≤◌, ◌%◌, ◌+◌, ℕ, zero, suc, Bool, ◌&&◌, nat_le, nat_lt, not, true, false, [], ◌∷◌, ◌==◌, ◌++◌, AllPairs, List, map, length, Option, Some, None, IfSome, IsSome, option_map}
+use Rattle.std.specs.Prelude.{◌≡◌, ◌≢◌, ◌<◌, ◌≤◌, ◌%◌, ◌+◌, ℕ, zero, suc, Bool, ◌&&◌, nat_le, nat_lt, true, false, [], ◌∷◌, ◌++◌, AllPairs, List, map, length, IfSome, IsSome, option_map}
 use Rattle.tword.specs.Claims.{Claims, has_saved}
 use Rattle.tproc.specs.Machine.{Control, workspace_of, descheduled, buffer_of}
 use Rattle.tproc.specs.Standing.{is_among, live, most_processes}

@@ -14,7 +14,7 @@ use Rattle.tproc.specs.Channels.{StepAction, goes_on}
 use Rattle.tproc.specs.LinkChannels.{link_end, with_link}
 use Rattle.tproc.specs.Doing.{onward}
 use Rattle.tproc.specs.declared.guards.Guard.{Guard}
-use Rattle.tproc.specs.declared.guards.Guard.TheVariants.{Link, Enabled, Ready, NotReady}
+use Rattle.tproc.specs.declared.guards.Guard.TheVariants.{Link, Enabled, Ready}
 
 -- the control once the guard is disabled
 abbrev pub control_after : Guard → Control → Control

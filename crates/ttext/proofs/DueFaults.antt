@@ -2,8 +2,6 @@
 use Rattle.std.proofs.Common.{◌≡◌, ◌∙◌, ap, Result, Ok, Err, List, ℕ}
 use Rattle.tnet.specs.Net.{NetState}
 use Rattle.tnet.specs.declared.event.Event.{Event}
-use Rattle.tnet.specs.declared.report.Report.{Report}
-use Rattle.tnet.specs.declared.replays.Replayed.{Replayed}
 use Rattle.ttext.specs.declared.wiring.Wiring.{Wiring}
 use Rattle.ttext.specs.declared.options.Options.{Options}
 use Rattle.ttext.specs.declared.fault.Fault.{Fault}

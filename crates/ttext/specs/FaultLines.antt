@@ -1,7 +1,6 @@
 -- The line and the status by which the program tells why it printed nothing, or not all.
 -- Source: own choice.
 use Rattle.std.specs.Prelude.{ℕ, List, [], ◌∷◌, ◌++◌, codes, decimal}
-use Rattle.tword.specs.declared.breaks.Break.{Break}
 use Rattle.tnet.specs.declared.plan.BuildFault.{BuildFault}
 use Rattle.tnet.specs.declared.plan.BuildFault.TheVariants as build
 use Rattle.tnet.specs.declared.report.NetFault.{NetFault}

@@ -1,4 +1,4 @@
-use Rattle.std.proofs.Common.{◌≡◌, ◌-◌, take, drop, vec_len, vec_capacity}
+use Rattle.std.proofs.Common.{◌≡◌, ◌-◌, take, drop, vec_capacity}
 use Rattle.tnet.proofs.cell.message.Given as goal
 
 abbrev pub invariant-loop-at : goal.invariant-loop-at

@@ -4,7 +4,6 @@ use Rattle.tlink.specs.Node.{NodeState}
 use Rattle.tnet.specs.Net.{NetState}
 use Rattle.tnet.specs.declared.plan.End.{End}
 use Rattle.tnet.specs.declared.inbox.Inbox.{Inbox}
-use Rattle.tnet.specs.declared.cell.Cell.{Cell}
 use Rattle.tnet.specs.Cells.{seat_of, seats_of}
 use Rattle.tnet.proofs.PartSeating.{last_removed, last_read, seat_more, all_laid, same_seat}
 use Rattle.tnet.proofs.seating.seat.Goals as goal

@@ -1,4 +1,4 @@
-use Rattle.std.proofs.Common.{◌≡◌, ℕ, refl, sym, ap, ◌∙◌, arith, length, reverse, List}
+use Rattle.std.proofs.Common.{◌≡◌, refl, ap, ◌∙◌, arith, length, List}
 use Rattle.std.proofs.lemmas.List.{length-reverse}
 use Rattle.tnet.specs.declared.cell.Cell.{Cell}
 use Rattle.tnet.proofs.PartSeating.{last_removed, last_read, put_back, all_back}

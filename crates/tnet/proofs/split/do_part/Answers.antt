@@ -1,6 +1,5 @@
 use Rattle.std.proofs.Common.{◌<◌, arith, length, subst, sym}
 use Rattle.tnet.specs.Parts.{part_of_round}
-use Rattle.tnet.specs.declared.cell.Cell.{Cell}
 use Rattle.tnet.specs.Cells.{part_of, seat_of, IsReady}
 use Rattle.tnet.proofs.PartLists.{same_at, same_after, one_more}
 use Rattle.tnet.proofs.split.do_part.Goals as goal

@@ -1,4 +1,4 @@
-use Rattle.std.proofs.Common.{rules, refl}
+use Rattle.std.proofs.Common.{rules}
 use Rattle.tproc.proofs.Agreeing.{still_linked}
 use Rattle.tproc.proofs.guards.disable.Goals as goal
 

@@ -1,4 +1,4 @@
-use Rattle.std.proofs.Common.{◌≡◌, ℕ, sym, ap, ◌∙◌, arith, List, ◌++◌, None, slice_index_or}
+use Rattle.std.proofs.Common.{ℕ, sym, ap, ◌∙◌, arith, List, ◌++◌, None, slice_index_or}
 use Rattle.tproc.specs.LinkChannels.{link_end}
 use Rattle.tproc.specs.Machine.{Machine}
 use Rattle.tlink.specs.Node.{NodeState, input_at}
