@@ -363,41 +363,29 @@ fn seterr_halts(rt: HostRuntime) -> Result<(), Fail> {
     Ok(())
 }
 
-/// Does a `lend` of a loop with index 5 and this count that jumps as it was foretold, or does not. Gives index, count, A and Iptr.
-fn end_of_loop(memory: &mut Memory, marks: &Marks, count: u32, jumped: bool) -> Option<[u32; 4]> {
-    let place = Word::new(0x8000_0300);
-    let mut registers = before(0x20, place.get(), 9);
-    memory.write_word(marks, place, Word::new(5)).ok()?;
-    memory
-        .write_word(marks, place.plus(Word::new(4)), Word::new(count))
-        .ok()?;
-    let next = if jumped { Next::Jumped } else { Next::Go };
-    if !is_foretold(jumped, &registers, memory, marks, operation(0x21))
-        || !follows(next, &mut registers, memory, marks, operation(0x21))
-    {
-        return None;
-    }
-    Some([
-        memory.read_word(marks, place).ok()?.get(),
-        memory
-            .read_word(marks, place.plus(Word::new(4)))
-            .ok()?
-            .get(),
-        registers.a.get(),
-        registers.iptr.get(),
-    ])
-}
-
 #[test]
 fn loops_count_down(rt: HostRuntime) -> Result<(), Fail> {
     let mut memory = Memory::new(rt.alloc(), 2048)?;
     let marks = Marks::new(rt.alloc())?;
-    for (count, jumped, left) in [
-        (2, true, [6, 1, 9, AFTER - 0x20]),
-        (1, false, [5, 0, 9, AFTER]),
-        (0x8000_0000, true, [6, 0x7fff_ffff, 9, AFTER - 0x20]),
+    let (index, count) = (Word::new(0x8000_0300), Word::new(0x8000_0304));
+    for (old, new, risen, jumped) in [
+        (2, 1, 6, true),
+        (1, 0, 5, false),
+        (0x8000_0000, 0x7fff_ffff, 6, true),
     ] {
-        assert!(rt; end_of_loop(&mut memory, &marks, count, jumped) == Some(left));
+        memory.write_word(&marks, index, Word::new(5))?;
+        memory.write_word(&marks, count, Word::new(old))?;
+        let mut registers = before(0x20, 0x8000_0300, 9);
+        assert!(rt; is_foretold(jumped, &registers, &memory, &marks, operation(0x21)));
+        let next = if jumped { Next::Jumped } else { Next::Go };
+        assert!(rt; follows(next, &mut registers, &mut memory, &marks, operation(0x21)));
+        assert_eq!(rt; memory.read_word(&marks, index)?.get(), risen);
+        assert_eq!(rt; memory.read_word(&marks, count)?.get(), new);
+        assert_eq!(rt; registers.a.get(), 9);
+        assert_eq!(rt;
+            registers.iptr.get(),
+            if jumped { AFTER - 0x20 } else { AFTER }
+        );
     }
     Ok(())
 }
@@ -467,7 +455,7 @@ fn calls_return(rt: HostRuntime) -> Result<(), Fail> {
 }
 
 #[test]
-fn local_words_are_stored(rt: HostRuntime) -> Result<(), Fail> {
+fn stores_are_loaded_back(rt: HostRuntime) -> Result<(), Fail> {
     let mut memory = Memory::new(rt.alloc(), 2048)?;
     let marks = Marks::new(rt.alloc())?;
     let mut registers = before(0x0102_0304, 0x1122_3344, 13);
@@ -484,13 +472,6 @@ fn local_words_are_stored(rt: HostRuntime) -> Result<(), Fail> {
         memory.read_word(&marks, Word::new(WORKSPACE + 8))?.get(),
         0x0102_0304
     );
-    Ok(())
-}
-
-#[test]
-fn stored_words_are_loaded_back(rt: HostRuntime) -> Result<(), Fail> {
-    let mut memory = Memory::new(rt.alloc(), 2048)?;
-    let marks = Marks::new(rt.alloc())?;
     let mut registers = before(WORKSPACE, 0x1122_3344, 13);
     assert!(rt;
         follows(
@@ -513,15 +494,6 @@ fn stored_words_are_loaded_back(rt: HostRuntime) -> Result<(), Fail> {
         )
     );
     assert_eq!(rt; registers.a.get(), 0x1122_3344);
-    Ok(())
-}
-
-#[test]
-fn stored_bytes_are_loaded_back(rt: HostRuntime) -> Result<(), Fail> {
-    let mut memory = Memory::new(rt.alloc(), 2048)?;
-    let marks = Marks::new(rt.alloc())?;
-    let word = Word::new(WORKSPACE + 4);
-    memory.write_word(&marks, word, Word::new(0x1122_3344))?;
     let mut registers = before(WORKSPACE + 6, 0x7f5, 13);
     assert!(rt;
         follows(
@@ -543,7 +515,10 @@ fn stored_bytes_are_loaded_back(rt: HostRuntime) -> Result<(), Fail> {
         )
     );
     assert_eq!(rt; registers.a.get(), 0xf5);
-    assert_eq!(rt; memory.read_word(&marks, word)?.get(), 0x11f5_3344);
+    assert_eq!(rt;
+        memory.read_word(&marks, Word::new(WORKSPACE + 4))?.get(),
+        0x11f5_3344
+    );
     Ok(())
 }
 
