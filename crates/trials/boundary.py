@@ -1,5 +1,5 @@
 #!/usr/bin/env python3
-"""Digests of what the instructions on registers do at boundary values, for src/operations.rt.
+"""Digests of what the instructions on registers do at boundary values, for src/boundaries.rt.
 
 Written from the tables of the instruction set alone, in whole numbers. It prints a line (name, code, digest) for each
 operation, and for each function with an operand; with a name, each case of that instruction.

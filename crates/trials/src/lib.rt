@@ -1,9 +1,17 @@
-//! Tests of instructions and of processors by worked examples, apart from their crates so that each crate is proved once.
+//! Proved tests of what no case of the built program can show, by subject.
 #![tactic(auto)]
 
 #[cfg(test)]
-mod codes;
+mod boundaries;
 #[cfg(test)]
-mod operations;
+mod encodings;
+#[cfg(test)]
+mod events;
+#[cfg(test)]
+mod plans;
 #[cfg(test)]
 mod processors;
+#[cfg(test)]
+mod rounds;
+#[cfg(test)]
+mod writers;

@@ -1,5 +1,5 @@
 #!/usr/bin/env python3
-"""What small nets of real programs do at events drawn at random: the table of src/nets/random.rt.
+"""What small nets of real programs do at events drawn at random: the table of src/events.rt.
 
 Written from the rules of the machine alone (docs/MACHINE.md), apart from our code: the scheduler, internal channels,
 alternatives, links and packets, with the instructions that the programs below use. It prints a line for each case:

@@ -1,10 +1,12 @@
-//! Events drawn at random on small nets of real programs. What they come to was worked out by a program that was written
-//! apart, `random_events.py` beside this crate.
-use super::{CODE, LOW, SENDER, event, node, pair, plan, receiver, wire, word};
+//! Events drawn at random on small nets of real programs. What they come to was worked out by a program that was
+//! written apart, `random_events.py` beside src/.
+
+use crate::plans::{CODE, LOW, SENDER, event, node, pair, plan, receiver, wire};
 use std::alloc::{AllocError, Global};
 use std::test::Fail;
 use tlink::{Emitted, Mark, Packet, StepFault};
-use tnet::{Act, Event, Net, NodePlan, Plan};
+use tnet::Net;
+use tplan::{Act, Event, NodePlan, Plan};
 
 /// The nets, as `random_events.py` explains them.
 #[derive(Clone, Copy, Debug)]
@@ -246,28 +248,6 @@ fn events_at_random_come_to_what_another_program_says(rt: HostRuntime) -> Result
             wanted,
             "{program:?} {seed}"
         );
-    }
-    Ok(())
-}
-
-#[test]
-fn any_order_ends_alike(rt: HostRuntime) -> Result<(), Fail> {
-    let mut net = Net::build(rt.alloc(), ring(rt.alloc())?)?;
-    draw(&mut net, 3, 500_000);
-    assert!(rt; net.is_quiet());
-    for node in 0..3 {
-        for (address, wanted) in [
-            (0x8000_00fc, [0x93, 0, 0, 0x80]),
-            (0x8000_0104, [42, 0, 0, 0]),
-            (0x8000_0108, [99, 0, 0, 0]),
-            (0x8000_010c, [0, 0, 0, 0]),
-        ] {
-            assert_eq!(rt;
-                word(&net, node, address),
-                Some(wanted),
-                "node {node} at {address}"
-            );
-        }
     }
     Ok(())
 }

@@ -1,82 +1,23 @@
-//! Worked rows by rounds, with any number of workers.
-use super::{RECEIVER, SENDER, event, node};
-use std::alloc::{AllocError, Global};
+//! Rounds of a net: what is refused, what is left where memory was refused, and when each worker enters.
+
+use crate::plans::{CODE, LOW, event, node, plan, transfer};
+use std::alloc::Global;
 use std::process::Abort;
 use std::sync::atomic::{AtomicU64, Ordering};
 use std::test::Fail;
 use std::thread::Threads;
-use tnet::{
-    Act, End, Ending, Gate, Hold, Net, NetFault, NodePlan, Note, PacketKind, Plan, Report, Wire,
-    run_rounds,
-};
+use tnet::Net;
+use tplan::{Act, End, Hold, Note, PacketKind, Plan};
 use tproc::Processor;
-use tword::{Break, Items, Word};
+use trounds::{Ending, Gate, NetFault, Report, run_rounds};
+use tword::Word;
 
 /// A gate that is always open.
 #[derive(Drop)]
-struct Open;
+pub struct Open;
 
 impl Gate for Open {
     fn enter(&self, _worker: usize, _round: u32) {}
-}
-
-/// The sender with length 8.
-const LONG_SENDER: [u8; 8] = [0x11, 0x24, 0xf2, 0x51, 0x48, 0xfb, 0x21, 0xf5];
-
-/// Code that outputs the byte 42 on link 0, and code that takes a byte on link 1.
-const ONE_OUT: [u8; 7] = [0x24, 0xf2, 0x22, 0x4a, 0xfe, 0x21, 0xf5];
-
-const ONE_IN: [u8; 8] = [0x11, 0x24, 0xf2, 0x55, 0x41, 0xf7, 0x21, 0xf5];
-
-/// A plan of these nodes and wires.
-fn plan(alloc: Global, nodes: Vec<NodePlan>, wires: &[Wire]) -> Result<Plan, AllocError> {
-    Ok(Plan {
-        timeslice: 1_024,
-        nodes: Items::new(nodes),
-        wires: Items::new(Vec::from_slice(alloc, wires)?),
-    })
-}
-
-/// A node that sends four bytes to another, by this code.
-fn pair(alloc: Global, code: &[u8]) -> Result<Plan, AllocError> {
-    let mut nodes = Vec::new(alloc);
-    let first = node(
-        alloc,
-        &[(0x8000_0080, code), (0x8000_0104, &[1, 2, 3, 4])],
-        &[(0x8000_0101, 0x8000_0080)],
-    )?;
-    let second = node(
-        alloc,
-        &[(0x8000_0080, &RECEIVER)],
-        &[(0x8000_0101, 0x8000_0080)],
-    )?;
-    nodes.push(first)?;
-    nodes.push(second)?;
-    let wire = Wire {
-        a: End { node: 0, link: 1 },
-        b: End { node: 1, link: 2 },
-    };
-    plan(alloc, nodes, &[wire])
-}
-
-/// A plan of one node.
-fn single(alloc: Global, only: NodePlan, wires: &[Wire]) -> Result<Plan, AllocError> {
-    let mut nodes = Vec::new(alloc);
-    nodes.push(only)?;
-    plan(alloc, nodes, wires)
-}
-
-/// Runs a plan by rounds with slices of 64.
-fn ran<R: Threads + Sync>(
-    rt: &R,
-    alloc: Global,
-    plan: Plan,
-    rounds: u32,
-    holds: &[Hold],
-    workers: usize,
-) -> Option<Report> {
-    let net = Net::build(alloc, plan).ok()?;
-    run_rounds(rt, alloc, net, rounds, 64, holds, workers, &Open).ok()
 }
 
 /// The fault of rounds that are refused.
@@ -116,10 +57,10 @@ fn is_one_message(notes: &[Note], sender: End, receiver: End, message: &[u8]) ->
         }
 }
 
-/// The message of the pair has come over whole.
-fn assert_message(rt: &impl Abort, report: &Report, rounds: u32) {
+/// The message of the pair has come over whole, in nine rounds.
+fn assert_message(rt: &impl Abort, report: &Report) {
     assert!(rt; report.end == Ending::Quiet);
-    assert_eq!(rt; report.rounds, rounds);
+    assert_eq!(rt; report.rounds, 9);
     assert_eq!(rt; report.events.as_slice().len(), 32);
     let whole = is_one_message(
         report.notes.as_slice(),
@@ -142,179 +83,40 @@ const HELD: Hold = Hold {
 };
 
 #[test]
-fn a_message_with_any_number_of_workers(rt: HostRuntime) -> Result<(), Fail> {
-    for workers in [1, 2, 64] {
-        let report = ran(
-            &rt,
-            rt.alloc(),
-            pair(rt.alloc(), &SENDER)?,
-            20,
-            &[],
-            workers,
-        );
-        assert!(rt; report.is_some());
-        if let Some(report) = report {
-            assert_message(&rt, &report, 9);
-        }
-    }
-    Ok(())
-}
-
-#[test]
-fn a_message_that_is_held(rt: HostRuntime) -> Result<(), Fail> {
-    for workers in [1, 2, 64] {
-        let report = ran(
-            &rt,
-            rt.alloc(),
-            pair(rt.alloc(), &SENDER)?,
-            20,
-            &[HELD],
-            workers,
-        );
-        assert!(rt; report.is_some());
-        if let Some(report) = report {
-            assert_message(&rt, &report, 13);
-        }
-    }
-    Ok(())
-}
-
-#[test]
-fn the_quiet_test_comes_before_the_count(rt: HostRuntime) -> Result<(), Fail> {
-    let nine = ran(&rt, rt.alloc(), pair(rt.alloc(), &SENDER)?, 9, &[], 1);
-    assert!(rt; nine.is_some());
-    if let Some(nine) = nine {
-        assert_message(&rt, &nine, 9);
-    }
-    let eight = ran(&rt, rt.alloc(), pair(rt.alloc(), &SENDER)?, 8, &[], 1);
-    assert!(rt; eight.is_some());
-    if let Some(eight) = eight {
-        assert!(rt; eight.end == Ending::Rounds);
-        assert_eq!(rt; eight.rounds, 8);
-    }
-    let nodes = Vec::new(rt.alloc());
-    let none = ran(&rt, rt.alloc(), plan(rt.alloc(), nodes, &[])?, 0, &[], 1);
-    assert!(rt; none.is_some());
-    if let Some(none) = none {
-        assert!(rt; none.end == Ending::Quiet);
-        assert_eq!(rt; none.rounds, 0);
-    }
-    Ok(())
-}
-
-#[test]
-fn a_message_on_its_way(rt: HostRuntime) -> Result<(), Fail> {
-    let report = ran(&rt, rt.alloc(), pair(rt.alloc(), &SENDER)?, 4, &[], 2);
-    assert!(rt; report.is_some());
-    if let Some(report) = report {
-        assert!(rt; report.end == Ending::Rounds);
-        assert_eq!(rt; report.rounds, 4);
-        assert!(rt; report.notes.as_slice().is_empty());
-        assert_eq!(rt; word(&report.net, 1, 0x8000_00fc), Some([0x86, 0, 0, 0x80]));
-        assert_eq!(rt; word(&report.net, 1, 0x8000_0100), Some([0, 0, 0, 0]));
-    }
-    Ok(())
-}
-
-#[test]
-fn lengths_that_differ_freeze_the_receiver(rt: HostRuntime) -> Result<(), Fail> {
-    let report = ran(&rt, rt.alloc(), pair(rt.alloc(), &LONG_SENDER)?, 20, &[], 2);
-    assert!(rt; report.is_some());
-    if let Some(report) = report {
-        assert!(rt; report.end == Ending::Quiet);
-        assert_eq!(rt; report.rounds, 8);
-        let notes = report.notes.as_slice();
-        assert_eq!(rt; notes.len(), 1);
-        let frozen = matches!(notes.get(0), Some(Note::Freeze(1, Break::LengthMismatch)));
-        assert!(rt; frozen);
-    }
-    Ok(())
-}
-
-#[test]
-fn a_node_wired_to_itself(rt: HostRuntime) -> Result<(), Fail> {
-    let alloc = rt.alloc();
-    let only = node(
-        alloc,
-        &[(0x8000_0080, &ONE_OUT), (0x8000_0090, &ONE_IN)],
-        &[(0x8000_0101, 0x8000_0080), (0x8000_0201, 0x8000_0090)],
-    )?;
-    let wire = Wire {
-        a: End { node: 0, link: 0 },
-        b: End { node: 0, link: 1 },
-    };
-    let report = ran(&rt, alloc, single(alloc, only, &[wire])?, 20, &[], 1);
-    assert!(rt; report.is_some());
-    if let Some(report) = report {
-        assert!(rt; report.end == Ending::Quiet);
-        assert_eq!(rt; report.rounds, 3);
-        let whole = is_one_message(
-            report.notes.as_slice(),
-            End { node: 0, link: 0 },
-            End { node: 0, link: 1 },
-            &[0x2a],
-        );
-        assert!(rt; whole);
-        assert_eq!(rt; word(&report.net, 0, 0x8000_0100), Some([42, 0, 0, 0]));
-        assert_eq!(rt; word(&report.net, 0, 0x8000_00f8), Some([0, 2, 0, 0x80]));
-    }
-    Ok(())
-}
-
-#[test]
-fn an_output_without_a_wire_waits(rt: HostRuntime) -> Result<(), Fail> {
-    let alloc = rt.alloc();
-    let only = node(
-        alloc,
-        &[(0x8000_0080, &SENDER), (0x8000_0104, &[1, 2, 3, 4])],
-        &[(0x8000_0101, 0x8000_0080)],
-    )?;
-    let report = ran(&rt, alloc, single(alloc, only, &[])?, 20, &[], 1);
-    assert!(rt; report.is_some());
-    if let Some(report) = report {
-        assert!(rt; report.end == Ending::Quiet);
-        assert_eq!(rt; report.rounds, 1);
-        assert!(rt; report.notes.as_slice().is_empty());
-        assert_eq!(rt; word(&report.net, 0, 0x8000_00fc), Some([0x86, 0, 0, 0x80]));
-    }
-    Ok(())
-}
-
-#[test]
 fn bad_workers_and_holds(rt: HostRuntime) -> Result<(), Fail> {
     let alloc = rt.alloc();
     let mut holds = Vec::new(alloc);
     for _hold in 0..256 {
         holds.push(HELD)?;
     }
-    let good = refused(&rt, alloc, pair(alloc, &SENDER)?, &holds, 1);
+    let good = refused(&rt, alloc, transfer(alloc)?, &holds, 1);
     assert_eq!(rt; good, None);
     holds.push(HELD)?;
-    let many = refused(&rt, alloc, pair(alloc, &SENDER)?, &holds, 64);
+    let many = refused(&rt, alloc, transfer(alloc)?, &holds, 64);
     assert_eq!(rt; many, Some(NetFault::BadHold(256)));
     let unwired = Hold {
         end: End { node: 0, link: 0 },
         ..HELD
     };
-    let second = refused(&rt, alloc, pair(alloc, &SENDER)?, &[HELD, unwired], 1);
+    let second = refused(&rt, alloc, transfer(alloc)?, &[HELD, unwired], 1);
     assert_eq!(rt; second, Some(NetFault::BadHold(1)));
     let backward = Hold {
         from: 5,
         until: 4,
         ..HELD
     };
-    let first = refused(&rt, alloc, pair(alloc, &SENDER)?, &[backward, unwired], 1);
+    let first = refused(&rt, alloc, transfer(alloc)?, &[backward, unwired], 1);
     assert_eq!(rt; first, Some(NetFault::BadHold(0)));
-    let none = refused(&rt, alloc, pair(alloc, &SENDER)?, &[backward], 0);
+    let none = refused(&rt, alloc, transfer(alloc)?, &[backward], 0);
     assert_eq!(rt; none, Some(NetFault::BadWorkers));
-    let over = refused(&rt, alloc, pair(alloc, &SENDER)?, &[], 65);
+    let over = refused(&rt, alloc, transfer(alloc)?, &[], 65);
     assert_eq!(rt; over, Some(NetFault::BadWorkers));
     Ok(())
 }
 
 /// The net of the pair, where memory is had for it.
 fn opened(alloc: Global) -> Option<Net> {
-    let plan = pair(alloc, &SENDER).ok()?;
+    let plan = transfer(alloc).ok()?;
     Net::build(alloc, plan).ok()
 }
 
@@ -382,7 +184,7 @@ fn a_refused_run_stops_after_whole_rounds(rt: HostRuntime) -> Result<(), Fail> {
         return Ok(());
     };
     match run_rounds(&rt, alloc, net, 20, 64, &[], 1, &Open) {
-        Ok(report) => assert_message(&rt, &report, 9),
+        Ok(report) => assert_message(&rt, &report),
         Err((fault, stopped)) => {
             assert_eq!(rt; fault, NetFault::OutOfMemory);
             assert!(rt; is_after_whole_rounds(&rt, alloc, &stopped));
@@ -432,7 +234,7 @@ fn two_workers_overlap(rt: HostRuntime) -> Result<(), Fail> {
         second_saw: AtomicU64::new(0),
     };
     let alloc = rt.alloc();
-    if let Ok(net) = Net::build(alloc, pair(alloc, &SENDER)?) {
+    if let Ok(net) = Net::build(alloc, transfer(alloc)?) {
         let report = run_rounds(&rt, alloc, net, 20, 64, &[], 2, &flags).ok();
         assert!(rt; report.is_some());
     }
@@ -465,14 +267,10 @@ fn each_started_worker_enters_once_a_round(rt: HostRuntime) -> Result<(), Fail> 
     };
     let mut nodes = Vec::new(alloc);
     for _node in 0..7 {
-        let only = node(
-            alloc,
-            &[(0x8000_0080, &[0x60, 0x0e])],
-            &[(0x8000_0101, 0x8000_0080)],
-        )?;
+        let only = node(alloc, &[(CODE, &[0x60, 0x0e])], &[LOW])?;
         nodes.push(only)?;
     }
-    if let Ok(net) = Net::build(alloc, plan(alloc, nodes, &[])?) {
+    if let Ok(net) = Net::build(alloc, plan(alloc, 1_024, nodes, &[])?) {
         let report = run_rounds(&rt, alloc, net, 5, 64, &[], 3, &entries).ok();
         assert!(rt; report.is_some());
         if let Some(report) = report {
