@@ -1,7 +1,8 @@
 //! What a benchmark answers.
 
 use std::alloc::AllocError;
-use tnet::{BuildFault, NetFault};
+use tplan::BuildFault;
+use trounds::NetFault;
 use tword::{Break, MemoryFault};
 
 /// What was done, and a checksum of what came out.

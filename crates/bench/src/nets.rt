@@ -4,7 +4,8 @@ use crate::answer::{Answer, BEGIN, Fault, checksum, mixed};
 use crate::programs::{PING, PONG, START};
 use std::alloc::{AllocError, Global};
 use tlink::StepFault;
-use tnet::{Act, End, Event, Image, Net, NodePlan, Plan, Process, Segment, Wire};
+use tnet::Net;
+use tplan::{Act, End, Event, Image, NodePlan, Plan, Process, Segment, Wire};
 use tword::{Items, Word};
 
 const MEMORY: u32 = 16_384;

@@ -5,7 +5,9 @@ use crate::nets::{BACK, BUFFER, ONWARD, answered, node, wired};
 use crate::programs::{LOOP, PING, PONG};
 use std::alloc::{AllocError, Global};
 use std::thread::Threads;
-use tnet::{Gate, Net, Plan, run_rounds};
+use tnet::Net;
+use tplan::Plan;
+use trounds::{Gate, run_rounds};
 
 const NODES: u32 = 64;
 

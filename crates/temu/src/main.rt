@@ -3,22 +3,15 @@
 #![tactic(auto)]
 
 mod commands;
-#[cfg(test)]
-mod run_tests;
-pub mod wiring;
-#[cfg(test)]
-mod wiring_tests;
-pub mod words;
-#[cfg(test)]
-mod words_tests;
 
 use crate::commands::do_command;
-use crate::words::{Command, CommandFault, read_words};
 use clap::error::ErrorKind;
 use std::alloc::AllocError;
 use std::process::ExitCode;
 use std::{env, io};
-use ttext::{Fault, WriteFault, write_fault};
+use tfiles::WriteFault;
+use ttext::{Fault, write_fault};
+use twords::{Command, CommandFault, read_words};
 
 fn main(rt: HostRuntime) -> ExitCode {
     let Ok(words) = given_words(&rt) else {

@@ -4,8 +4,8 @@ use Rattle.std.specs.Prelude.{if◌then◌else◌}
 use Rattle.std.specs.List.{list_any}
 use Rattle.std.proofs.Math.Seq.{take-suc, drop-cons}
 use Rattle.std.proofs.lemmas.List.Folds.{list_any-append}
-use Rattle.tnet.specs.declared.plan.End.{End}
-use Rattle.tnet.specs.declared.plan.Wire.{Wire}
+use Rattle.tplan.specs.declared.plan.End.{End}
+use Rattle.tplan.specs.declared.plan.Wire.{Wire}
 use Rattle.tnet.specs.Wires.{same_end, joins, far_end}
 use Rattle.tnet.specs.Building.{end_twice_from}
 

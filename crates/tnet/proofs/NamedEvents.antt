@@ -10,14 +10,14 @@ use Rattle.tlink.specs.declared.event.NodeEvent.{NodeEvent}
 use Rattle.tlink.specs.declared.event.StepFault.TheVariants.{NotEnabled, Frozen}
 use Rattle.tlink.specs.Node.{NodeState, frozen}
 use Rattle.tlink.specs.Events.{Answer, happens}
-use Rattle.tnet.specs.declared.event.Act.{Act}
-use Rattle.tnet.specs.declared.event.Act.TheVariants.{Run, Send, Data, Take, Ack}
-use Rattle.tnet.specs.declared.event.Event.{Event}
-use Rattle.tnet.specs.declared.plan.End.{End}
+use Rattle.tplan.specs.declared.event.Act.{Act}
+use Rattle.tplan.specs.declared.event.Act.TheVariants.{Run, Send, Data, Take, Ack}
+use Rattle.tplan.specs.declared.event.Event.{Event}
+use Rattle.tplan.specs.declared.plan.End.{End}
 use Rattle.std.specs.Prelude.{nat_lt}
-use Rattle.tnet.specs.declared.plan.Plan.{Plan}
-use Rattle.tnet.specs.declared.plan.BuildFault.{BuildFault}
-use Rattle.tnet.specs.declared.plan.BuildFault.TheVariants.{TooMany}
+use Rattle.tplan.specs.declared.plan.Plan.{Plan}
+use Rattle.tplan.specs.declared.plan.BuildFault.{BuildFault}
+use Rattle.tplan.specs.declared.plan.BuildFault.TheVariants.{TooMany}
 use Rattle.tnet.specs.Building.{too_many, when, or_else, fault_of, machines_of, opening_net, unless_fault}
 use Rattle.tnet.specs.Wires.{end_at, far_end}
 use Rattle.tnet.specs.Net.{NetState, node_at, with_node}
@@ -26,7 +26,7 @@ use Rattle.tnet.specs.Sound.{IsSound}
 use Rattle.tnet.specs.Corollaries.{NamesLink, NamesPlace, EventsNamePlaces, NetsAreSmall}
 use Rattle.tnet.proofs.OpenedNets.{length-fresh_nodes}
 use Rattle.tnet.proofs.SoundEvents.{stays_sound}
-use Rattle.tnet.proofs.RoundsQuiet.{event_at, not_there, no_send, no_data, no_take, no_ack}
+use Rattle.tnet.proofs.QuietEvents.{event_at, not_there, no_send, no_data, no_take, no_ack}
 
 -- packets come and go, and nodes stay
 received_nodes : (n : ℕ) (act : Act) (net : NetState) → (received n act net).nodes ≡ net.nodes

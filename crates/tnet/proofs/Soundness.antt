@@ -3,7 +3,7 @@ use Rattle.std.proofs.Common.{◌≡◌, refl, sym, subst, Result, Ok, Err}
 use Rattle.tlink.specs.declared.event.Emitted.{Emitted}
 use Rattle.tlink.specs.declared.event.StepFault.{StepFault}
 use Rattle.tlink.specs.declared.event.StepFault.TheVariants.{NotEnabled, Frozen}
-use Rattle.tnet.specs.declared.event.Event.{Event}
+use Rattle.tplan.specs.declared.event.Event.{Event}
 use Rattle.tnet.specs.Net.{NetState}
 use Rattle.tnet.specs.Packets.{NetAnswer, net_happens, net_left_by}
 use Rattle.tnet.specs.Sound.{IsSound}

@@ -11,9 +11,9 @@ use Rattle.tproc.specs.Opening.{Adds, empty_machine, loaded, added}
 use Rattle.tproc.proofs.Opening.{IsReadyMachine, is_ready_loaded, is_ready_added}
 use Rattle.tlink.specs.Node.{fresh_node}
 use Rattle.tlink.specs.Whole.{IsWhole}
-use Rattle.tnet.specs.declared.plan.Segment.{Segment}
-use Rattle.tnet.specs.declared.plan.Process.{Process}
-use Rattle.tnet.specs.declared.plan.NodePlan.{NodePlan}
+use Rattle.tplan.specs.declared.plan.Segment.{Segment}
+use Rattle.tplan.specs.declared.plan.Process.{Process}
+use Rattle.tplan.specs.declared.plan.NodePlan.{NodePlan}
 use Rattle.tnet.specs.Sound.{IsSoundNode}
 use Rattle.tnet.specs.Building.{IsUnstarted, is_bad_segment, bad_segment, built_machine, added_from, loaded_machine, or_loaded}
 use Rattle.tnet.proofs.OpenedPlans.{opened-links, no_position}

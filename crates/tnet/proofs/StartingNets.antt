@@ -5,11 +5,11 @@ use Rattle.std.proofs.lemmas.Bool.{or_parts, ltb-false}
 use Rattle.std.proofs.lemmas.List.{length-map}
 use Rattle.tword.specs.declared.breaks.Break.{Break}
 use Rattle.tlink.specs.Node.{NodeState}
-use Rattle.tnet.specs.declared.plan.Wire.{Wire}
-use Rattle.tnet.specs.declared.plan.NodePlan.{NodePlan}
-use Rattle.tnet.specs.declared.plan.Plan.{Plan}
-use Rattle.tnet.specs.declared.plan.BuildFault.{BuildFault}
-use Rattle.tnet.specs.declared.plan.BuildFault.TheVariants.{OutOfMemory, BadProcess}
+use Rattle.tplan.specs.declared.plan.Wire.{Wire}
+use Rattle.tplan.specs.declared.plan.NodePlan.{NodePlan}
+use Rattle.tplan.specs.declared.plan.Plan.{Plan}
+use Rattle.tplan.specs.declared.plan.BuildFault.{BuildFault}
+use Rattle.tplan.specs.declared.plan.BuildFault.TheVariants.{OutOfMemory, BadProcess}
 use Rattle.tnet.specs.declared.inbox.Inbox.{Inbox}
 use Rattle.tnet.specs.Wires.{same_end}
 use Rattle.tnet.specs.Net.{NetState, empty_inbox}

@@ -7,12 +7,12 @@ use Rattle.std.proofs.lemmas.List.Elements.{All-nil, All-cons, All-append}
 use Rattle.tword.specs.declared.breaks.Break.{Break}
 use Rattle.tproc.specs.Machine.{Machine}
 use Rattle.tlink.specs.Node.{NodeState, fresh_node}
-use Rattle.tnet.specs.declared.plan.Wire.{Wire}
-use Rattle.tnet.specs.declared.plan.NodePlan.{NodePlan}
-use Rattle.tnet.specs.declared.plan.BuildFault.{BuildFault}
-use Rattle.tnet.specs.declared.plan.BuildFault.TheVariants.{BadProcess}
+use Rattle.tplan.specs.declared.plan.Wire.{Wire}
+use Rattle.tplan.specs.declared.plan.NodePlan.{NodePlan}
+use Rattle.tplan.specs.declared.plan.BuildFault.{BuildFault}
+use Rattle.tplan.specs.declared.plan.BuildFault.TheVariants.{BadProcess}
 use Rattle.tnet.specs.Sound.{IsSoundNode}
-use Rattle.tnet.specs.declared.plan.Plan.{Plan}
+use Rattle.tplan.specs.declared.plan.Plan.{Plan}
 use Rattle.tnet.specs.Building.{AreOpened, IsWellFormed, is_bad_size, bad_segment, machines_of, IsOpened, IsFaultOf, built_machine, bad_process, node_fault, first_fault_from, loaded_machine, or_loaded, wired_links, fresh_nodes}
 use Rattle.tnet.proofs.OpenedPlans.{opened, no_position, no_fault}
 

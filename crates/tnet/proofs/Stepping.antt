@@ -8,9 +8,9 @@ use Rattle.tlink.specs.declared.event.StepFault.{StepFault}
 use Rattle.tlink.specs.declared.event.StepFault.TheVariants.{NotEnabled, Frozen}
 use Rattle.tlink.specs.Node.{NodeState}
 use Rattle.tlink.specs.Events.{Answer, happens, node_left_by, node_answered, is_node_done, is_node_enabled}
-use Rattle.tnet.specs.declared.event.Act.{Act}
-use Rattle.tnet.specs.declared.event.Act.TheVariants.{Run, Send, Data, Take, Ack}
-use Rattle.tnet.specs.declared.event.Event.{Event}
+use Rattle.tplan.specs.declared.event.Act.{Act}
+use Rattle.tplan.specs.declared.event.Act.TheVariants.{Run, Send, Data, Take, Ack}
+use Rattle.tplan.specs.declared.event.Event.{Event}
 use Rattle.tnet.specs.Net.{NetState, node_at, with_node}
 use Rattle.tnet.specs.Packets.{node_event, received, sent_off, net_answer, answer_of, net_happens, is_done, is_enabled}
 use Rattle.tnet.specs.Answers.{DoesNet, DoesAt}

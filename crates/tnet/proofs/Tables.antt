@@ -2,15 +2,15 @@
 use Rattle.std.proofs.Common.{◌≡◌, ℕ, zero, suc, ◌<◌, ◌≤◌, refl, sym, ap, ◌∙◌, List, [], get_or, Option, Some, None, ◌⊎◌, inl, inr, arith, All}
 use Rattle.std.proofs.lemmas.Bool.{cases_lt}
 use Rattle.std.proofs.lemmas.List.{get_or_past}
-use Rattle.tnet.specs.declared.plan.End.{End}
-use Rattle.tnet.specs.declared.plan.Wire.{Wire}
+use Rattle.tplan.specs.declared.plan.End.{End}
+use Rattle.tplan.specs.declared.plan.Wire.{Wire}
 use Rattle.tnet.specs.Wires.{end_at, far_end}
 use Rattle.tnet.specs.Sound.{IsEnd}
 use Rattle.tnet.proofs.OpenedWires.{wired_ends}
 use Rattle.tnet.specs.FarEnds.{far_in, AgreesWith, row_of, AgreesBelow}
 
 -- an end that is none has no wire
-nowhere : (nodes : ℕ) (wires : List Wire) (e : End) → All (λ w. IsEnd nodes w.a × IsEnd nodes w.b) wires → (IsEnd nodes e → ⊥) → far_end wires e ≡ None
+pub nowhere : (nodes : ℕ) (wires : List Wire) (e : End) → All (λ w. IsEnd nodes w.a × IsEnd nodes w.b) wires → (IsEnd nodes e → ⊥) → far_end wires e ≡ None
 nowhere nodes wires e ends h = by (far_end wires e) refl
   where
     by : (o : Option End) → far_end wires e ≡ o → o ≡ None
@@ -18,7 +18,7 @@ nowhere nodes wires e ends h = by (far_end wires e) refl
     by (Some f) k = absurd (h (wired_ends nodes wires e f ends k).0)
 
 -- a link of a row
-link_of_row : (wires : List Wire) (n l : ℕ) → l < 4 → get_or (row_of wires n) l None ≡ far_end wires (end_at n l)
+pub link_of_row : (wires : List Wire) (n l : ℕ) → l < 4 → get_or (row_of wires n) l None ≡ far_end wires (end_at n l)
 link_of_row wires n zero h = refl
 link_of_row wires n (suc zero) h = refl
 link_of_row wires n (suc (suc zero)) h = refl

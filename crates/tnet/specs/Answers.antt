@@ -7,7 +7,7 @@ use Rattle.tlink.specs.declared.event.StepFault.{StepFault}
 use Rattle.tlink.specs.declared.event.StepFault.TheVariants.{NotEnabled}
 use Rattle.tlink.specs.Node.{NodeState}
 use Rattle.tlink.specs.Events.{happens, node_left_by, node_answered}
-use Rattle.tnet.specs.declared.event.Event.{Event}
+use Rattle.tplan.specs.declared.event.Event.{Event}
 use Rattle.tnet.specs.Net.{NetState, with_node}
 use Rattle.tnet.specs.Packets.{NetAnswer, net_left_by, answered}
 

@@ -4,7 +4,7 @@ ghost use Rattle.std.specs.List.{list_any};
 ghost use Rattle.tnet.specs.Wires.{same_end, joins};
 ghost use Rattle.tnet.specs.Building.{is_too_large, too_many, is_bad_size, is_bad_timeslice, is_bad_end, has_bad_end, end_twice_from, is_bad_segment, bad_segment, first_fault_from, fault_of, IsWellFormed};
 
-use crate::plan::{BuildFault, End, Image, NodePlan, Plan, Segment, Wire};
+use tplan::{BuildFault, End, Image, NodePlan, Plan, Segment, Wire};
 
 const MOST_NODES: usize = 64;
 

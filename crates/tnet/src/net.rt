@@ -1,28 +1,25 @@
-ghost use Rattle.std.specs.Prelude.{◌≡◌, ◌≢◌, ℕ, IsTrue, IfOk, IfErr, vec_len, ◌↔◌};
+ghost use Rattle.std.specs.Prelude.{◌≡◌, ◌≢◌, ◌≤◌, ℕ, length, IsTrue, IfOk, ◌↔◌};
 ghost use Rattle.tlink.specs.Node.{NodeState};
 ghost use Rattle.tnet.specs.Net.{NetState};
 ghost use Rattle.tnet.specs.Packets.{net_happens, answered, net_left_by, after_event, applied_from, is_enabled, IsQuiet};
 ghost use Rattle.tnet.specs.Sound.{IsSound};
 ghost use Rattle.tnet.specs.Answers.{Did};
 ghost use Rattle.tnet.specs.View.{view};
-ghost use Rattle.tnet.specs.declared.plan.BuildFault.TheVariants.{OutOfMemory};
+ghost use Rattle.tplan.specs.declared.plan.BuildFault.TheVariants.{OutOfMemory};
 ghost use Rattle.tnet.specs.Building.{built, opening_configuration};
 ghost use Rattle.tnet.specs.Wires.{far_end};
-ghost use Rattle.tnet.specs.Parts.{net_of};
-ghost use Rattle.tnet.specs.Cells.{seats_of, Seats, HasPlaces};
+ghost use Rattle.tnet.specs.NetParts.{net_of_parts};
 ghost use Rattle.tnet.specs.Runs.{IsSeenRun, refused, done, done_one};
 ghost use Rattle.tnet.specs.WireLaw.{WiresCarryInOrder};
 
-use crate::cell::Cell;
-use crate::event::Event;
 use crate::faults::first_fault;
 use crate::opening::open;
 use crate::parts::Parts;
-use crate::plan::{BuildFault, End, Plan};
-use crate::seating::{Frame, seat, unseat};
+use crate::wires::{NetParts, Wires};
 use std::alloc::Global;
 use std::marker::Model;
 use tlink::{Emitted, Node, StepFault};
+use tplan::{BuildFault, End, Event, Plan};
 
 /// A net of nodes and wires, with the packets that lie at the ends of its wires.
 ///
@@ -128,36 +125,41 @@ impl Net {
     }
 
     /// The far end of an end, if it is a wired link.
-    pub(crate) fn far_end(&self, end: End) -> Option<End>
+    pub fn far_end(&self, end: End) -> Option<End>
         ensures { result ≡ far_end self.now.wires end }
     {
         self.parts.far_end(end)
     }
 
-    /// Takes the nodes out of the net, each into its cell.
-    ///
-    /// # Errors
-    /// The allocator refused: the net as it was.
-    pub(crate) fn seat(self, alloc: Global) -> Result<(Vec<Cell>, Frame), Net>
-        ensures seated { IfOk result (λ r. Seats self r.0.items r.1) }
+    /// The nodes, the wires and the packets of the net. It takes no memory.
+    pub fn into_parts(self) -> NetParts
+        ensures same { net_of_parts result ≡ self }
         ensures sound { IsSound self }
-        ensures err { IfErr result (λ net. net ≡ self) }
+        ensures few { length self.nodes ≤ 64 }
     {
         let Net { parts } = self;
-        match seat(alloc, parts) {
-            Ok(seated) => Ok(seated),
-            Err(parts) => Err(Net { parts }),
+        let (nodes, wires, far, inboxes) = parts.into_fields();
+        NetParts {
+            nodes,
+            wires: Wires::new(wires, far),
+            inboxes,
         }
     }
 
-    /// The net with its nodes put back.
-    pub(crate) fn unseat(cells: Vec<Cell>, frame: Frame) -> Net
-        requires places { HasPlaces (vec_len cells) frame }
-        requires sound { IsSound (net_of frame.wires (seats_of cells.items)) }
-        ensures { result ≡ net_of frame.wires (seats_of cells.items) }
+    /// The net of these parts. It takes no memory.
+    pub fn from_parts(parts: NetParts) -> Net
+        requires sound { IsSound (net_of_parts parts) }
+        requires few { length parts.nodes.items ≤ 64 }
+        ensures { result ≡ net_of_parts parts }
     {
+        let NetParts {
+            nodes,
+            wires,
+            inboxes,
+        } = parts;
+        let (wires, far) = wires.into_fields();
         Net {
-            parts: unseat(cells, frame),
+            parts: Parts::new(nodes, wires, far, inboxes),
         }
     }
 
@@ -174,7 +176,7 @@ impl Net {
     }
 
     /// A net is sound between events.
-    pub(crate) fn know_sound(&self)
+    pub fn know_sound(&self)
         ensures { IsSound self.now }
     {
         let _parts = &self.parts;

@@ -1,18 +1,17 @@
 ghost use Rattle.std.specs.Prelude.{◌≡◌, ◌<◌, ℕ, not, slice_set, Option, None};
 ghost use Rattle.std.specs.List.{list_all};
 ghost use Rattle.tlink.specs.Node.{NodeState};
-ghost use Rattle.tnet.specs.Rounds.{node_events, is_quiet, is_quiet_from};
+ghost use Rattle.tnet.specs.Quiet.{node_events, is_quiet, is_quiet_from};
 ghost use Rattle.tnet.specs.Wires.{end_at, far_end};
 ghost use Rattle.tnet.specs.Net.{NetState, node_at, inbox_at, with_inbox, empty_inbox};
 ghost use Rattle.tnet.specs.Packets.{node_event, received, delivered, sent_off, put_in, net_happens, is_enabled};
 ghost use Rattle.tnet.specs.Answers.{DoesAt, DoesNet};
 ghost use Rattle.tnet.specs.FarEnds.{IsLaidOut, box_in, with_box};
 
-use crate::event::{Act, Event};
 use crate::inbox::Inbox;
-use crate::plan::{End, Wire};
 use std::marker::Model;
 use tlink::{Arrival, Emitted, Node, NodeEvent, Packet, StepFault};
+use tplan::{Act, End, Event, Wire};
 use tword::Items;
 
 /// The parts of a net, with no claim that they fit.

@@ -3,8 +3,8 @@ ghost use Rattle.tnet.specs.Wires.{far_end};
 ghost use Rattle.tnet.specs.Sound.{IsEnd};
 ghost use Rattle.tnet.specs.FarEnds.{AgreesWith, row_of};
 
-use crate::plan::{End, Wire};
 use std::alloc::{AllocError, Global};
+use tplan::{End, Wire};
 
 /// The far end of an end, sought among the wires.
 pub fn sought(wires: &[Wire], end: End) -> Option<End>

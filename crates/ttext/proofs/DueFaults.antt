@@ -1,14 +1,14 @@
 -- Faults that are handed on to whoever asked.
 use Rattle.std.proofs.Common.{◌≡◌, ◌∙◌, ap, Result, Ok, Err, List, ℕ}
 use Rattle.tnet.specs.Net.{NetState}
-use Rattle.tnet.specs.declared.event.Event.{Event}
-use Rattle.ttext.specs.declared.wiring.Wiring.{Wiring}
-use Rattle.ttext.specs.declared.options.Options.{Options}
+use Rattle.tplan.specs.declared.event.Event.{Event}
+use Rattle.tplan.specs.declared.wiring.Wiring.{Wiring}
+use Rattle.tplan.specs.declared.options.Options.{Options}
 use Rattle.ttext.specs.declared.fault.Fault.{Fault}
 use Rattle.ttext.specs.declared.fault.Fault.TheVariants as fault
 use Rattle.ttext.specs.Outcomes.{opened_of, rounds_of, rounds_with, run_of, IsDue, IsFaultOf}
 use Rattle.ttext.specs.Replays.{as_replayed, replayed_with, replay_of}
-use Rattle.tnet.specs.Replays.{replayed}
+use Rattle.trounds.specs.Replays.{replayed}
 
 -- what is due to one is due to the other
 pub handed_on : {A B : Type 0} (a : Result A Fault) (b : Result B Fault) → ((f : Fault) → a ≡ Err f → b ≡ Err f) → (f : Fault) → IsFaultOf a f → IsDue b f

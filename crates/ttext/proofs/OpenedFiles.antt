@@ -1,14 +1,14 @@
 -- Files that are read as images one after another, and the plan of them.
 use Rattle.std.proofs.Common.{◌≡◌, ◌<◌, ℕ, suc, refl, sym, ap, ◌∙◌, List, [], ◌∷◌, ◌++◌, length, length-append, drop, get_or, Result, Ok, Err, append_assoc, append-nil, add-one, zip, map, arith, ◌+◌, ◌≤◌}
 use Rattle.std.proofs.lemmas.List.{at_drop_more, at_drop_all, map-append}
-use Rattle.tnet.specs.declared.plan.Image.{Image}
-use Rattle.tnet.specs.declared.plan.NodePlan.{NodePlan}
+use Rattle.tplan.specs.declared.plan.Image.{Image}
+use Rattle.tplan.specs.declared.plan.NodePlan.{NodePlan}
 use Rattle.ttext.specs.declared.fault.Fault.{Fault}
 use Rattle.ttext.specs.declared.fault.Fault.TheVariants as fault
-use Rattle.ttext.specs.declared.image.ImageFault.{ImageFault}
-use Rattle.ttext.specs.declared.wiring.WiringNode.{WiringNode}
+use Rattle.tfiles.specs.declared.image.ImageFault.{ImageFault}
+use Rattle.tplan.specs.declared.wiring.WiringNode.{WiringNode}
 use Rattle.ttext.specs.Plans.{node_of}
-use Rattle.ttext.specs.Images.{image_of}
+use Rattle.tfiles.specs.Images.{image_of}
 use Rattle.ttext.specs.Outcomes.{as_image, onto_images, images_from, images_of, ArePlansOf, IsFaultOf}
 
 -- some images stand before those of the other files

@@ -1,22 +1,22 @@
 -- The line and the status by which the program tells why it printed nothing, or not all.
 -- Source: own choice.
 use Rattle.std.specs.Prelude.{ℕ, List, [], ◌∷◌, ◌++◌, codes, decimal}
-use Rattle.tnet.specs.declared.plan.BuildFault.{BuildFault}
-use Rattle.tnet.specs.declared.plan.BuildFault.TheVariants as build
-use Rattle.tnet.specs.declared.report.NetFault.{NetFault}
-use Rattle.tnet.specs.declared.report.NetFault.TheVariants as rounds
-use Rattle.tnet.specs.declared.replays.ReplayFault.{ReplayFault}
-use Rattle.tnet.specs.declared.replays.ReplayFault.TheVariants as replays
-use Rattle.ttext.specs.declared.image.ImageFault.{ImageFault}
-use Rattle.ttext.specs.declared.image.ImageFault.TheVariants as image
-use Rattle.ttext.specs.declared.wiring.WiringFault.{WiringFault}
-use Rattle.ttext.specs.declared.wiring.WiringFault.TheVariants as wiring
-use Rattle.ttext.specs.declared.log_reading.LogFault.{LogFault}
-use Rattle.ttext.specs.declared.log_reading.LogFault.TheVariants as log
+use Rattle.tplan.specs.declared.plan.BuildFault.{BuildFault}
+use Rattle.tplan.specs.declared.plan.BuildFault.TheVariants as build
+use Rattle.trounds.specs.declared.report.NetFault.{NetFault}
+use Rattle.trounds.specs.declared.report.NetFault.TheVariants as rounds
+use Rattle.trounds.specs.declared.replays.ReplayFault.{ReplayFault}
+use Rattle.trounds.specs.declared.replays.ReplayFault.TheVariants as replays
+use Rattle.tfiles.specs.declared.image.ImageFault.{ImageFault}
+use Rattle.tfiles.specs.declared.image.ImageFault.TheVariants as image
+use Rattle.tplan.specs.declared.wiring.WiringFault.{WiringFault}
+use Rattle.tplan.specs.declared.wiring.WiringFault.TheVariants as wiring
+use Rattle.tfiles.specs.declared.log_reading.LogFault.{LogFault}
+use Rattle.tfiles.specs.declared.log_reading.LogFault.TheVariants as log
 use Rattle.ttext.specs.declared.fault.Fault.{Fault}
 use Rattle.ttext.specs.declared.fault.Fault.TheVariants as fault
-use Rattle.ttext.specs.Logs.{line}
-use Rattle.ttext.specs.Texts.{break_name, words}
+use Rattle.tfiles.specs.Logs.{line}
+use Rattle.tfiles.specs.Texts.{break_name, words}
 
 -- want of memory has the same line wherever it was met
 abbrev pub memory_words : List (List ℕ)

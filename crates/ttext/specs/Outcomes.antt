@@ -2,32 +2,32 @@
 -- Source: own choice; the run itself is that of the net's definitions.
 use Rattle.std.specs.Prelude.{ℕ, suc, ◌≡◌, List, [], ◌∷◌, map, zip, Option, Some, None, Result, Ok, Err, IfOk, Bool, true, false}
 use Rattle.std.specs.Io.KnownBytes.{Appends}
-use Rattle.tnet.specs.declared.event.Event.{Event}
-use Rattle.tnet.specs.declared.event.Hold.{Hold}
-use Rattle.tnet.specs.declared.plan.Image.{Image}
-use Rattle.tnet.specs.declared.plan.NodePlan.{NodePlan}
-use Rattle.tnet.specs.declared.plan.Plan.{Plan}
-use Rattle.tnet.specs.declared.plan.BuildFault.{BuildFault}
-use Rattle.tnet.specs.declared.report.Report.{Report}
-use Rattle.tnet.specs.declared.report.NetFault.{NetFault}
-use Rattle.tnet.specs.declared.report.Ending.{Ending}
-use Rattle.tnet.specs.declared.report.Ending.TheVariants as ending
+use Rattle.tplan.specs.declared.event.Event.{Event}
+use Rattle.tplan.specs.declared.event.Hold.{Hold}
+use Rattle.tplan.specs.declared.plan.Image.{Image}
+use Rattle.tplan.specs.declared.plan.NodePlan.{NodePlan}
+use Rattle.tplan.specs.declared.plan.Plan.{Plan}
+use Rattle.tplan.specs.declared.plan.BuildFault.{BuildFault}
+use Rattle.trounds.specs.declared.report.Report.{Report}
+use Rattle.trounds.specs.declared.report.NetFault.{NetFault}
+use Rattle.trounds.specs.declared.report.Ending.{Ending}
+use Rattle.trounds.specs.declared.report.Ending.TheVariants as ending
 use Rattle.tnet.specs.Net.{NetState}
 use Rattle.tnet.specs.Building.{opening_configuration}
 use Rattle.tnet.specs.Notes.{notes}
-use Rattle.tnet.specs.Reports.{refusal, report}
+use Rattle.trounds.specs.Reports.{refusal, report}
 use Rattle.tnet.specs.Runs.{IsSeenRun}
 use Rattle.tnet.specs.View.{view}
-use Rattle.ttext.specs.declared.wiring.Wiring.{Wiring}
-use Rattle.ttext.specs.declared.wiring.WiringNode.{WiringNode}
-use Rattle.ttext.specs.declared.image.ImageFault.{ImageFault}
-use Rattle.ttext.specs.declared.options.Options.{Options}
+use Rattle.tplan.specs.declared.wiring.Wiring.{Wiring}
+use Rattle.tplan.specs.declared.wiring.WiringNode.{WiringNode}
+use Rattle.tfiles.specs.declared.image.ImageFault.{ImageFault}
+use Rattle.tplan.specs.declared.options.Options.{Options}
 use Rattle.ttext.specs.declared.fault.Fault.{Fault}
 use Rattle.ttext.specs.declared.fault.Fault.TheVariants as fault
-use Rattle.ttext.specs.Images.{image_of}
+use Rattle.tfiles.specs.Images.{image_of}
 use Rattle.ttext.specs.Plans.{node_of, plan_of, net_of}
-use Rattle.ttext.specs.Texts.{run_text, rounds_end}
-use Rattle.ttext.specs.Outputs.{IsCut}
+use Rattle.tfiles.specs.Texts.{run_text, rounds_end}
+use Rattle.tfiles.specs.Outputs.{IsCut}
 
 -- the image of a node, or its fault
 abbrev pub as_image : ℕ → Result Image ImageFault → Result Image Fault

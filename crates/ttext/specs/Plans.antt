@@ -1,14 +1,14 @@
 -- Which plan a wiring and its images give.
 -- Source: own choice.
 use Rattle.std.specs.Prelude.{List, map, zip, Result}
-use Rattle.tnet.specs.declared.plan.Image.{Image}
-use Rattle.tnet.specs.declared.plan.NodePlan.{NodePlan}
-use Rattle.tnet.specs.declared.plan.Plan.{Plan}
-use Rattle.tnet.specs.declared.plan.BuildFault.{BuildFault}
+use Rattle.tplan.specs.declared.plan.Image.{Image}
+use Rattle.tplan.specs.declared.plan.NodePlan.{NodePlan}
+use Rattle.tplan.specs.declared.plan.Plan.{Plan}
+use Rattle.tplan.specs.declared.plan.BuildFault.{BuildFault}
 use Rattle.tnet.specs.Net.{NetState}
 use Rattle.tnet.specs.Building.{built}
-use Rattle.ttext.specs.declared.wiring.Wiring.{Wiring}
-use Rattle.ttext.specs.declared.wiring.WiringNode.{WiringNode}
+use Rattle.tplan.specs.declared.wiring.Wiring.{Wiring}
+use Rattle.tplan.specs.declared.wiring.WiringNode.{WiringNode}
 
 -- a node with its image
 abbrev pub node_of : WiringNode × Image → NodePlan

@@ -3,12 +3,12 @@
 ghost use Rattle.std.specs.Prelude.{◌≡◌};
 ghost use Rattle.ttext.specs.declared.fault.Fault.TheVariants.{Memory};
 
-use crate::image::ImageFault;
-use crate::log_reading::LogFault;
-use crate::wiring::WiringFault;
-use crate::writing::output::WriteFault;
 use std::alloc::{AllocError, AllocFailed};
-use tnet::{BuildFault, NetFault, ReplayFault};
+use tfiles::image::ImageFault;
+use tfiles::log_reading::LogFault;
+use tfiles::writing::output::WriteFault;
+use tplan::{BuildFault, WiringFault};
+use trounds::{NetFault, ReplayFault};
 
 /// Why a command printed nothing, or not all.
 #[derive(Drop)]

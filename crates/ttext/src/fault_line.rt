@@ -1,19 +1,19 @@
 //! How the program says why it printed nothing, or not all: one line, and its exit status.
 
 ghost use Rattle.std.specs.Prelude.{◌≡◌, ◌++◌, IfOk, codes, decimal};
-ghost use Rattle.ttext.specs.Texts.{words};
-ghost use Rattle.ttext.specs.Outputs.{IsOut, Tells};
+ghost use Rattle.tfiles.specs.Texts.{words};
+ghost use Rattle.tfiles.specs.Outputs.{IsOut, Tells};
 ghost use Rattle.ttext.specs.FaultLines as spec;
 
-use crate::break_names::break_name;
 use crate::fault::Fault;
-use crate::image::ImageFault;
-use crate::log_reading::LogFault;
-use crate::wiring::WiringFault;
-use crate::writing::output::{Output, WriteFault};
-use crate::writing::text::put_decimal;
 use std::io::Write;
-use tnet::{BuildFault, NetFault, ReplayFault};
+use tfiles::break_names::break_name;
+use tfiles::image::ImageFault;
+use tfiles::log_reading::LogFault;
+use tfiles::writing::output::{Output, WriteFault};
+use tfiles::writing::text::put_decimal;
+use tplan::{BuildFault, WiringFault};
+use trounds::{NetFault, ReplayFault};
 
 /// Writes the line of a fault (own choice of format), as `temu: net N6 EndTwice 1`, and answers the exit status of the
 /// program: 2 for bad input, 3 where the output failed, 4 where there was no memory.

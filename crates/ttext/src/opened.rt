@@ -3,15 +3,15 @@
 ghost use Rattle.std.specs.Prelude.{◌≡◌, Ok, IfOk, MatchResult, length};
 ghost use Rattle.tnet.specs.Building.{built, opening_configuration};
 ghost use Rattle.tnet.specs.View.{view};
-ghost use Rattle.ttext.specs.Images.{image_of};
+ghost use Rattle.tfiles.specs.Images.{image_of};
 ghost use Rattle.ttext.specs.Outcomes.{as_image, as_opened, images_of, opened_of, ArePlansOf, IsFaultOf, IsOpening, IsPlanOf};
 
 use crate::fault::Fault;
-use crate::image::{ImageFault, read_image};
-use crate::wiring::{Wiring, WiringNode};
 use std::alloc::Global;
-use tnet::plan::Image;
-use tnet::{BuildFault, Net, NodePlan, Plan};
+use tfiles::image::{ImageFault, read_image};
+use tnet::Net;
+use tplan::plan::Image;
+use tplan::{BuildFault, NodePlan, Plan, Wiring, WiringNode};
 use tword::Items;
 
 /// The net that a wiring and the files of its images stand for, one file a node, before its first event.

@@ -13,7 +13,7 @@ pub struct Span {
 impl Span {
     /// The address of its first byte and that behind its last, as whole numbers.
     #[inline(always)]
-    pub fn bounds(&self) -> (u64, u64)
+    pub(crate) fn bounds(&self) -> (u64, u64)
         ensures first { result.0 ≡ self.now.start }
         ensures behind { result.1 ≡ self.now.start + self.now.size }
         ensures within { result.1 < 2 ^ 33 }

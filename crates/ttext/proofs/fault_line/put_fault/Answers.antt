@@ -1,8 +1,8 @@
 use Rattle.std.proofs.Common.{ap, sym}
 use Rattle.ttext.specs.declared.fault.Fault.{Fault}
-use Rattle.ttext.specs.Texts.{words}
+use Rattle.tfiles.specs.Texts.{words}
 use Rattle.ttext.specs.FaultLines.{fault_words}
-use Rattle.ttext.proofs.Told.{tells_as, tells_then}
+use Rattle.tfiles.proofs.Told.{tells_as, tells_then}
 use Rattle.ttext.proofs.fault_line.put_fault.Goals as goal
 
 pub returns-in-File : goal.returns-in-File

@@ -1,5 +1,5 @@
 use Rattle.std.proofs.Common.{append_assoc, codes, decimal}
-use Rattle.ttext.proofs.Told.{tells_as, tells_then}
+use Rattle.tfiles.proofs.Told.{tells_as, tells_then}
 use Rattle.ttext.proofs.fault_line.put_image.Goals as goal
 
 pub returns : goal.returns

@@ -1,7 +1,7 @@
 use Rattle.std.proofs.Common.{ap, sym}
-use Rattle.ttext.proofs.Told.{tells_as}
-use Rattle.ttext.specs.declared.image.ImageFault.{ImageFault}
-use Rattle.ttext.specs.Texts.{words}
+use Rattle.tfiles.proofs.Told.{tells_as}
+use Rattle.tfiles.specs.declared.image.ImageFault.{ImageFault}
+use Rattle.tfiles.specs.Texts.{words}
 use Rattle.ttext.specs.FaultLines.{image_words}
 use Rattle.ttext.proofs.fault_line.put_image_fault.Goals as goal
 

@@ -1,7 +1,7 @@
 use Rattle.std.proofs.Common.{◌∙◌, ap, append_assoc, codes, decimal, sym}
-use Rattle.ttext.proofs.Told.{tells_as, tells_then}
-use Rattle.tnet.specs.declared.plan.BuildFault.{BuildFault}
-use Rattle.ttext.specs.Texts.{words}
+use Rattle.tfiles.proofs.Told.{tells_as, tells_then}
+use Rattle.tplan.specs.declared.plan.BuildFault.{BuildFault}
+use Rattle.tfiles.specs.Texts.{words}
 use Rattle.ttext.specs.FaultLines.{net_words}
 use Rattle.ttext.proofs.fault_line.put_net_fault.Goals as goal
 

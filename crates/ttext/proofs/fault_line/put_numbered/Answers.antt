@@ -1,4 +1,4 @@
-use Rattle.ttext.proofs.Told.{tells_then}
+use Rattle.tfiles.proofs.Told.{tells_then}
 use Rattle.ttext.proofs.fault_line.put_numbered.Goals as goal
 
 pub returns : goal.returns

@@ -1,7 +1,7 @@
 use Rattle.std.proofs.Common.{ap, sym}
-use Rattle.ttext.proofs.Told.{tells_as}
-use Rattle.tnet.specs.declared.report.NetFault.{NetFault}
-use Rattle.ttext.specs.Texts.{words}
+use Rattle.tfiles.proofs.Told.{tells_as}
+use Rattle.trounds.specs.declared.report.NetFault.{NetFault}
+use Rattle.tfiles.specs.Texts.{words}
 use Rattle.ttext.specs.FaultLines.{rounds_words}
 use Rattle.ttext.proofs.fault_line.put_rounds_fault.Goals as goal
 

@@ -1,5 +1,5 @@
 use Rattle.std.proofs.Common.{rules}
-use Rattle.ttext.proofs.Told.{tells_then, written_out}
+use Rattle.tfiles.proofs.Told.{tells_then, written_out}
 use Rattle.ttext.proofs.fault_line.write_line.Goals as goal
 
 pub returns : goal.returns

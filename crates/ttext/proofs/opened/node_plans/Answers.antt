@@ -1,5 +1,5 @@
 use Rattle.std.proofs.Common.{◌∙◌, ap, sym}
-use Rattle.ttext.specs.Images.{image_of}
+use Rattle.tfiles.specs.Images.{image_of}
 use Rattle.ttext.proofs.OpenedFiles.{none_planned, one_planned}
 use Rattle.ttext.proofs.opened.node_plans.Goals as goal
 

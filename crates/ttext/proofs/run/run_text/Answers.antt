@@ -1,5 +1,5 @@
 use Rattle.std.proofs.Common.{rules, subst, List}
-use Rattle.tnet.specs.declared.event.Hold.{Hold}
+use Rattle.tplan.specs.declared.event.Hold.{Hold}
 use Rattle.ttext.specs.Outcomes.{rounds_of, run_of, IsDue, IsFaultOf}
 use Rattle.ttext.proofs.DueFaults.{run_refused}
 use Rattle.ttext.proofs.run.run_text.Goals as goal

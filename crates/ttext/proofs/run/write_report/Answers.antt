@@ -1,7 +1,7 @@
 use Rattle.std.proofs.Common.{ap, rules, Bool, List}
-use Rattle.tnet.specs.declared.event.Note.{Note}
-use Rattle.ttext.specs.Texts.{rounds_end, trace_text}
-use Rattle.ttext.proofs.Told.{tells_as, tells_then, written_out}
+use Rattle.tplan.specs.declared.event.Note.{Note}
+use Rattle.tfiles.specs.Texts.{rounds_end, trace_text}
+use Rattle.tfiles.proofs.Told.{tells_as, tells_then, written_out}
 use Rattle.ttext.proofs.run.write_report.Goals as goal
 
 pub returns : goal.returns

@@ -1,5 +1,5 @@
 use Rattle.std.proofs.Common.{◌≡◌, ◌-◌}
-use Rattle.tnet.specs.Rounds.{is_quiet, is_quiet_from}
+use Rattle.tnet.specs.Quiet.{is_quiet, is_quiet_from}
 use Rattle.tnet.proofs.parts.Parts.is_quiet.Given as goal
 
 -- the nodes from this one on decide

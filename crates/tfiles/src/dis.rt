@@ -1,0 +1,120 @@
+//! An image as instructions, as they stand in it.
+
+ghost use Rattle.std.specs.Prelude.{◌≡◌, ◌++◌, codes};
+ghost use Rattle.std.specs.Fmt.{signed_decimal};
+ghost use Rattle.tcode.specs.Table.{function_entry};
+ghost use Rattle.tcode.specs.Texts.{instruction_text};
+ghost use Rattle.tfiles.specs.Disassembly.{at_address, byte_text, dis_text as disassembled, head_size, head_text, segment_lines};
+ghost use Rattle.tfiles.specs.Outputs.{IsOut, Tells};
+
+use crate::writing::output::{Output, WriteFault};
+use crate::writing::text::{put_byte, put_hex, put_signed};
+use std::io::Write;
+use tcode::{
+    DecodeFault, Function, Instruction, decode_bytes, function_name, operation_name, operation_of,
+};
+use tplan::plan::{Image, Segment};
+use tword::Word;
+
+/// Writes the instructions of an image (own choice of format): for each segment, at each address, a line `80000080: ldc 4`. Where
+/// no instruction can be decoded within the segment, the line is `80000080: db 60`, and the next one is at the next byte.
+/// An address is taken modulo 2^32.
+///
+/// # Errors
+/// Where the writer fails or takes nothing. Just so many of the first bytes are written as the fault tells.
+pub fn dis_text<W: Write>(image: &Image, out: &mut W) -> Result<(), WriteFault>
+    ensures { IsOut (W.contents out.old) (W.contents out.new) (disassembled image.now) result }
+{
+    let mut output = Output::new(out);
+    put_image(&mut output, image);
+    output.finish()
+}
+
+/// The lines of an image.
+fn put_image<W: Write>(out: &mut Output<'_, W>, image: &Image)
+    ensures { Tells W.contents out.old out.new (disassembled image.now) }
+{
+    for segment in image.segments.as_slice() {
+        put_segment(out, segment);
+    }
+}
+
+/// The lines of a segment.
+fn put_segment<W: Write>(out: &mut Output<'_, W>, segment: &Segment)
+    ensures { Tells W.contents out.old out.new (segment_lines segment.now) }
+{
+    let mut address = segment.address;
+    let mut rest = segment.bytes.as_slice();
+    while let Some(byte) = rest.first() {
+        let head = decode_bytes(rest);
+        put_line(out, address, &head, *byte);
+        let size = size_of_head(&head);
+        address = address.plus(Word::new(size as u32));
+        rest = &rest[size..];
+    }
+}
+
+/// How many bytes stand on a line.
+fn size_of_head(head: &Result<Instruction, DecodeFault>) -> usize
+    ensures { result ≡ head_size head.now }
+{
+    match head {
+        Ok(instruction) => usize::from(instruction.length),
+        Err(_) => 1,
+    }
+}
+
+/// One line.
+fn put_line<W: Write>(
+    out: &mut Output<'_, W>,
+    address: Word,
+    head: &Result<Instruction, DecodeFault>,
+    byte: u8,
+)
+    ensures { Tells W.contents out.old out.new (at_address address (head_text head.now byte)) }
+{
+    put_hex(out, &address.get().to_be_bytes());
+    out.put(b": ");
+    put_head(out, head, byte);
+    out.put(b"\n");
+}
+
+/// What stands on a line: an instruction, or a byte at which none begins.
+fn put_head<W: Write>(out: &mut Output<'_, W>, head: &Result<Instruction, DecodeFault>, byte: u8)
+    ensures { Tells W.contents out.old out.new (head_text head.now byte) }
+{
+    match head {
+        Ok(instruction) => put_instruction(out, instruction),
+        Err(_) => put_data(out, byte),
+    }
+}
+
+/// An instruction.
+fn put_instruction<W: Write>(out: &mut Output<'_, W>, instruction: &Instruction)
+    ensures { Tells W.contents out.old out.new (instruction_text instruction.now) }
+{
+    if let Function::Opr = instruction.function
+        && let Some(operation) = operation_of(instruction.operand)
+    {
+        out.put(operation_name(operation).as_bytes());
+    } else {
+        put_function(out, instruction.function, instruction.operand.signed());
+    }
+}
+
+/// A function and its operand.
+fn put_function<W: Write>(out: &mut Output<'_, W>, function: Function, operand: i32)
+    ensures { Tells W.contents out.old out.new ((function_entry function).name ++ (codes " " ++ signed_decimal operand)) }
+{
+    out.put(function_name(function).as_bytes());
+    out.put(b" ");
+    put_signed(out, operand);
+}
+
+/// A byte at which no instruction begins.
+fn put_data<W: Write>(out: &mut Output<'_, W>, byte: u8)
+    ensures { Tells W.contents out.old out.new (byte_text byte) }
+{
+    out.put(b"db ");
+    put_byte(out, byte);
+}

@@ -1,0 +1,80 @@
+//! The dump of a net: those of its nodes, in their order.
+
+ghost use Rattle.std.specs.Prelude.{◌≡◌, length, option_map};
+ghost use Rattle.tproc.specs.Machine.{buffer_of, claims_of};
+ghost use Rattle.tproc.specs.Hidden.{hidden};
+ghost use Rattle.tproc.specs.Messages.{input_of};
+ghost use Rattle.tnet.specs.View.{view};
+ghost use Rattle.tfiles.specs.Texts.{dump_of, dump_text};
+ghost use Rattle.tfiles.specs.Outputs.{IsOut, Tells};
+
+use crate::writing::node_dump::put_node_dump;
+use crate::writing::output::{Output, WriteFault};
+use std::io::Write;
+use tlink::Node;
+use tnet::Net;
+use tproc::Processor;
+use tword::Span;
+
+/// Writes the dumps of all nodes (own choice of format). A byte that a pending link input is to write is hidden.
+///
+/// # Errors
+/// Where the writer fails or takes nothing. Just so many of the first bytes are written as the fault tells.
+pub fn write_dump<W: Write>(out: &mut W, net: &Net) -> Result<(), WriteFault>
+    ensures { IsOut (W.contents out.old) (W.contents out.new) (dump_text (view net.now)) result }
+{
+    let mut output = Output::new(out);
+    put_dump(&mut output, net);
+    output.finish()
+}
+
+/// The dumps of all nodes.
+pub fn put_dump<W: Write>(out: &mut Output<'_, W>, net: &Net)
+    ensures { Tells W.contents out.old out.new (dump_text (view net.now)) }
+{
+    for (number, node) in net.nodes().iter().enumerate() {
+        put_node(out, number, node);
+    }
+}
+
+/// The dump of a node.
+fn put_node<W: Write>(out: &mut Output<'_, W>, number: usize, node: &Node)
+    requires { length node.now.machine.control.links ≡ 4 }
+    ensures { Tells W.contents out.old out.new (dump_of number node.now.broken node.now.machine.control.halted (hidden node.now.machine).store) }
+{
+    let processor = node.processor();
+    put_node_dump(
+        out,
+        number,
+        node.broken(),
+        processor.is_halted(),
+        processor.bytes(),
+        &pending_inputs(processor),
+    );
+}
+
+/// The bytes that each pending input is to write.
+fn pending_inputs(processor: &Processor) -> [Option<Span>; 4]
+    requires { length processor.now.control.links ≡ 4 }
+    ensures { result ≡ (claims_of processor.now.control).inputs }
+{
+    [
+        pending_input(processor, 0),
+        pending_input(processor, 1),
+        pending_input(processor, 2),
+        pending_input(processor, 3),
+    ]
+}
+
+/// The bytes that the pending input of a link is to write.
+fn pending_input(processor: &Processor, link: u8) -> Option<Span>
+    ensures { result ≡ option_map buffer_of (input_of processor.now link) }
+{
+    match processor.pending_in(link) {
+        None => None,
+        Some(input) => Some(Span {
+            start: input.buffer,
+            size: input.length,
+        }),
+    }
+}

@@ -1,0 +1,94 @@
+ghost use Rattle.std.specs.Prelude.{◌≡◌};
+ghost use Rattle.tplan.specs.declared.plan.BuildFault.TheVariants.{OutOfMemory};
+
+use std::alloc::{AllocError, AllocFailed};
+use tword::{Break, Items, Word};
+
+/// The end of a wire: a node and one of its links.
+#[derive(Clone, Copy, Debug, PartialEq, Eq)]
+pub struct End {
+    pub node: u32,
+    pub link: u32,
+}
+
+/// A wire joins two ends.
+#[derive(Clone, Copy, Debug, PartialEq, Eq)]
+pub struct Wire {
+    pub a: End,
+    pub b: End,
+}
+
+/// Bytes that are loaded at an address.
+#[derive(Drop)]
+pub struct Segment {
+    pub address: Word,
+    pub bytes: Items<u8>,
+}
+
+/// A process that is added, with its first address.
+#[derive(Clone, Copy, Debug, PartialEq, Eq)]
+pub struct Process {
+    pub wdesc: Word,
+    pub iptr: Word,
+}
+
+/// What is loaded into a node.
+#[derive(Drop)]
+pub struct Image {
+    pub segments: Items<Segment>,
+    pub processes: Items<Process>,
+}
+
+/// One node of a plan.
+#[derive(Drop)]
+pub struct NodePlan {
+    pub memory: u32,
+    pub image: Image,
+}
+
+/// A net before it is built.
+#[derive(Drop)]
+pub struct Plan {
+    pub timeslice: u32,
+    pub nodes: Items<NodePlan>,
+    pub wires: Items<Wire>,
+}
+
+/// Why a plan cannot be built: the lowest of these that holds, in this order, with its first place.
+#[derive(Clone, Copy, Debug, PartialEq, Eq)]
+pub enum BuildFault {
+    /// The allocator refused.
+    OutOfMemory,
+    /// Over 64 nodes or 128 wires, or an image with over 4,096 segments or 512 processes.
+    TooMany,
+    /// The memory of this node has not 2,048 to 1,048,576 bytes, or no multiple of 4.
+    BadSize(usize),
+    /// The timeslice is not 1 to 65,536 instructions.
+    BadTimeslice,
+    /// An end of this wire is no link of a node.
+    BadEnd(usize),
+    /// The two ends of this wire are one.
+    SameEnd(usize),
+    /// An end of this wire is one of an earlier wire.
+    EndTwice(usize),
+    /// Of this node, this segment does not lie in the memory that programs may use. An empty one may lie anywhere.
+    BadSegment(usize, usize),
+    /// Of this node, this process is refused, with this break.
+    BadProcess(usize, usize, Break),
+}
+
+impl From<AllocError> for BuildFault {
+    ghost from_gives = { λ _ fault. fault ≡ OutOfMemory };
+
+    fn from(_error: AllocError) -> BuildFault {
+        BuildFault::OutOfMemory
+    }
+}
+
+impl<T: Drop> From<AllocFailed<T>> for BuildFault {
+    ghost from_gives = { λ _ fault. fault ≡ OutOfMemory };
+
+    fn from(_error: AllocFailed<T>) -> BuildFault {
+        BuildFault::OutOfMemory
+    }
+}

@@ -1,0 +1,71 @@
+//! What a wiring file says, and why a text is none.
+
+use crate::event::Hold;
+use crate::plan::Wire;
+use std::alloc::{AllocError, AllocFailed};
+use thiserror::Error;
+use tword::Items;
+
+/// Why a text is no wiring. Where several hold, the first in this order is told.
+#[derive(Clone, Copy, Debug, PartialEq, Eq, PartialOrd, Ord, Error)]
+pub enum WiringFault {
+    /// The allocator refused.
+    #[error("out of memory")]
+    OutOfMemory,
+    /// The text is not TOML.
+    #[error("the text is not TOML")]
+    Syntax,
+    /// A table has a key that its kind has not.
+    #[error("there is an unknown key")]
+    UnknownKey,
+    /// A table lacks a key.
+    #[error("a key is missing")]
+    MissingKey,
+    /// A value is not of its key's type.
+    #[error("a value has the wrong type")]
+    WrongType,
+    /// The version is not 1.
+    #[error("the version is not 1")]
+    BadVersion,
+    /// An integer is no number of 32 bits.
+    #[error("an integer is outside 0 to 4294967295")]
+    BadNumber,
+}
+
+/// A node of a wiring: the size of its memory and the name of its image.
+#[derive(Drop)]
+pub struct WiringNode {
+    pub memory: u32,
+    pub image: Items<u8>,
+}
+
+/// What a wiring file says.
+#[derive(Drop)]
+pub struct Wiring {
+    pub timeslice: u32,
+    pub nodes: Items<WiringNode>,
+    pub wires: Items<Wire>,
+    pub holds: Items<Hold>,
+}
+
+impl From<AllocError> for WiringFault {
+    ghost use Rattle.std.specs.Prelude.{◌≡◌};
+    ghost use Rattle.tplan.specs.declared.wiring.WiringFault.TheVariants.{OutOfMemory};
+
+    ghost from_gives = { λ _ fault. fault ≡ OutOfMemory };
+
+    fn from(_error: AllocError) -> WiringFault {
+        WiringFault::OutOfMemory
+    }
+}
+
+impl<T: Drop> From<AllocFailed<T>> for WiringFault {
+    ghost use Rattle.std.specs.Prelude.{◌≡◌};
+    ghost use Rattle.tplan.specs.declared.wiring.WiringFault.TheVariants.{OutOfMemory};
+
+    ghost from_gives = { λ _ fault. fault ≡ OutOfMemory };
+
+    fn from(_error: AllocFailed<T>) -> WiringFault {
+        WiringFault::OutOfMemory
+    }
+}

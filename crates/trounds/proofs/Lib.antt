@@ -1,0 +1,16 @@
+-- rounds
+pub mod RoundsRun
+-- what the calls do
+pub mod Replaying
+-- the parts of a round
+pub mod PartAnswers
+pub mod PartBoxes
+pub mod PartNets
+pub mod PartRounds
+pub mod PartSteps
+pub mod PartCells
+pub mod PartRuns
+pub mod PartLists
+pub mod PartLoops
+pub mod PartTurns
+pub mod PartSeating

@@ -1,0 +1,8 @@
+-- Rounds on one list of nodes, how they are shared out, and replays.
+pub mod Rounds
+pub mod RoundExamples
+-- what the calls promise
+pub mod Reports
+pub mod Replays
+pub mod Parts
+pub mod Cells

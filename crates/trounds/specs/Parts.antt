@@ -1,0 +1,194 @@
+-- A node's part of a round, done by itself: it sees only what lay at its own links, and what it sends goes into its mail.
+-- Source: own choice, how rounds are shared out.
+use Rattle.std.specs.Prelude.{◌≡◌, ℕ, zero, suc, Bool, false, not, ◌&&◌, List, [], ◌∷◌, ◌++◌, map, fold, Option, Some, None, Ok, Err, is_some, slice_get, slice_set, slice_index_or, if◌then◌else◌}
+use Rattle.std.specs.List.{flat_map}
+use Rattle.tlink.specs.declared.event.Packet.{Packet}
+use Rattle.tlink.specs.declared.event.NodeEvent.{NodeEvent}
+use Rattle.tlink.specs.declared.event.NodeEvent.TheVariants as at_node
+use Rattle.tlink.specs.declared.event.Mark.{Mark}
+use Rattle.tlink.specs.declared.event.Mark.TheVariants.{Nothing, Halted, Completed}
+use Rattle.tlink.specs.declared.event.StepFault.TheVariants.{NotEnabled, Frozen}
+use Rattle.tlink.specs.Node.{NodeState, input_at, frozen}
+use Rattle.tlink.specs.Events.{Answer, happens, is_node_done}
+use Rattle.tplan.specs.declared.event.Act.{Act}
+use Rattle.tplan.specs.declared.event.Act.TheVariants.{Run, Send, Data, Take, Ack}
+use Rattle.tplan.specs.declared.event.Event.{Event}
+use Rattle.tplan.specs.declared.event.Hold.{Hold}
+use Rattle.tplan.specs.declared.event.PacketKind.{PacketKind}
+use Rattle.tplan.specs.declared.event.PacketKind.TheVariants as kind
+use Rattle.tplan.specs.declared.event.Note.{Note}
+use Rattle.tplan.specs.declared.event.Note.TheVariants.{Halt, Freeze}
+use Rattle.tplan.specs.declared.plan.End.{End}
+use Rattle.tplan.specs.declared.plan.Wire.{Wire}
+use Rattle.tnet.specs.declared.inbox.Inbox.{Inbox}
+use Rattle.trounds.specs.declared.cell.Letter.{Letter}
+use Rattle.tnet.specs.Wires.{end_at, far_end}
+use Rattle.tnet.specs.Net.{NetState, empty_inbox}
+use Rattle.tnet.specs.Packets.{with_carried, put_in}
+use Rattle.tnet.specs.Notes.{message_note, input_bytes}
+use Rattle.trounds.specs.Rounds.{is_held, taking}
+use Rattle.tnet.specs.Net.{four_links}
+
+-- a node with its number, what lies at its links, and the far ends of these
+pub record Seat : Type 0 where
+  pub number : ℕ
+  pub node : NodeState
+  pub inboxes : List Inbox
+  pub far : List (Option End)
+
+-- a seat in a round: what it has sent, done and told so far
+pub record Part : Type 0 where
+  pub seat : Seat
+  pub mail : List Letter
+  pub events : List Event
+  pub notes : List Note
+
+-- a part before its first event
+abbrev pub fresh : Seat → Part
+fresh s = record { seat = s; mail = []; events = []; notes = [] }
+
+-- what lies at a link
+abbrev pub box_at : Seat → ℕ → Inbox
+box_at s l = slice_index_or s.inboxes l empty_inbox
+
+-- what lies at a link is set
+abbrev pub with_box_at : ℕ → Inbox → Seat → Seat
+with_box_at l i s = record s { inboxes = slice_set s.inboxes l i }
+
+-- the far end of a link
+abbrev pub far_at : Seat → ℕ → Option End
+far_at s l = slice_index_or s.far l None
+
+-- the event of the node for an act, if its packet lies there
+abbrev pub asked : Act → Seat → Option NodeEvent
+asked Run s = Some at_node.Run
+asked (Send l) s = Some (at_node.Send l)
+asked (Data l) s = with_carried l (box_at s l).carried
+asked (Take l) s = Some (at_node.Take l)
+asked (Ack l) s = if (box_at s l).acknowledged then Some (at_node.Ack l) else None
+
+-- the packet that an act takes is gone
+abbrev pub emptied : Act → Seat → Seat
+emptied (Data l) s = with_box_at l (record (box_at s l) { carried = None }) s
+emptied (Ack l) s = with_box_at l (record (box_at s l) { acknowledged = false }) s
+emptied _ s = s
+
+-- a packet as a letter, if there is a far end
+abbrev pub letter_to : Packet → Option End → List Letter
+letter_to p None = []
+letter_to p (Some e) = record { to = e; packet = p } ∷ []
+
+-- the letters of what an act emits
+abbrev pub letters : List (Option End) → Option (ℕ × Packet) → List Letter
+letters far None = []
+letters far (Some (l, p)) = letter_to p (slice_index_or far l None)
+
+-- what a mark tells
+abbrev pub marked : Seat → Mark → NodeState → List Note
+marked s Nothing node = []
+marked s Halted node = Halt s.number ∷ []
+marked s (Completed l) node = message_note (far_at s l) (end_at s.number l) (input_bytes (input_at s.node l) (Some node))
+
+-- the part after an answer of its node
+abbrev pub answered_part : Act → Part → Answer → Part
+answered_part act p (Ok (node, e)) =
+    record {
+      seat = record (emptied act p.seat) { node = node };
+      mail = p.mail ++ letters p.seat.far e.packet;
+      events = p.events ++ record { node = p.seat.number; act = act } ∷ [];
+      notes = p.notes ++ marked p.seat e.mark node;
+    }
+answered_part act p (Err NotEnabled) = p
+answered_part act p (Err (Frozen b)) =
+    record {
+      seat = record p.seat { node = frozen b p.seat.node };
+      mail = p.mail;
+      events = p.events ++ record { node = p.seat.number; act = act } ∷ [];
+      notes = p.notes ++ Freeze p.seat.number b ∷ [];
+    }
+
+-- the part after an event of its node, if there is one
+abbrev pub part_asked : Act → Part → Option NodeEvent → Part
+part_asked act p None = p
+part_asked act p (Some e) = answered_part act p (happens e p.seat.node)
+
+-- an act is done if it is enabled
+abbrev pub part_does : Act → Part → Part
+part_does act p = part_asked act p (asked act p.seat)
+
+-- a packet of this kind lies in an inbox
+abbrev pub lies : Inbox → PacketKind → Bool
+lies i kind.Data = is_some i.carried
+lies i kind.Ack = i.acknowledged
+
+-- a packet that lay there before the round and is not held is taken
+abbrev pub part_packet : Inbox → List Hold → ℕ → PacketKind → ℕ → Part → Part
+part_packet lay holds r k l p =
+    if lies lay k && not (is_held holds r (end_at p.seat.number l) k) then part_does (taking k l) p else p
+
+-- the acknowledge and the byte that lay at a link
+abbrev pub part_arrived : Inbox → List Hold → ℕ → Part → ℕ → Part
+part_arrived lay holds r p l = part_packet lay holds r kind.Data l (part_packet lay holds r kind.Ack l p)
+
+abbrev pub part_arrivals : List Inbox → List Hold → ℕ → Part → ℕ → Part
+part_arrivals before holds r p l = part_arrived (slice_index_or before l empty_inbox) holds r p l
+
+-- so many runs
+abbrev pub part_runs : ℕ → Part → Part
+part_runs zero p = p
+part_runs (suc k) p = part_runs k (part_does Run p)
+
+-- the four phases of a round
+abbrev pub after_arrivals : List Hold → ℕ → Seat → Part
+after_arrivals holds r s = fold (part_arrivals s.inboxes holds r) (fresh s) four_links
+
+abbrev pub after_takes : Part → Part
+after_takes p = fold (λ p l. part_does (Take l) p) p four_links
+
+abbrev pub after_sends : Part → Part
+after_sends p = fold (λ p l. part_does (Send l) p) p four_links
+
+abbrev pub part_of_round : List Hold → ℕ → ℕ → Seat → Part
+part_of_round holds slice r s = after_sends (part_runs slice (after_takes (after_arrivals holds r s)))
+
+-- a letter lies in the inbox of the end that it goes to
+abbrev pub delivered_to : Letter → Option Seat → List Seat → List Seat
+delivered_to x None seats = seats
+delivered_to x (Some s) seats = slice_set seats x.to.node (with_box_at x.to.link (put_in x.packet (box_at s x.to.link)) s)
+
+abbrev pub deliver : List Seat → Letter → List Seat
+deliver seats x = delivered_to x (slice_get seats x.to.node) seats
+
+-- the parts of a round, each by itself
+abbrev pub parts : List Hold → ℕ → ℕ → List Seat → List Part
+parts holds slice r seats = map (part_of_round holds slice r) seats
+
+-- the seats after the parts, with all letters delivered
+abbrev pub seats_after : List Part → List Seat
+seats_after ps = fold deliver (map (λ (p : Part). p.seat) ps) (flat_map (λ (p : Part). p.mail) ps)
+
+-- the event that a node is asked for is enabled
+abbrev pub is_asked_enabled : NodeState → Option NodeEvent → Bool
+is_asked_enabled node None = false
+is_asked_enabled node (Some e) = is_node_done (happens e node)
+
+-- an act of a seat is enabled
+abbrev pub is_seat_enabled : Seat → Act → Bool
+is_seat_enabled s act = is_asked_enabled s.node (asked act s)
+
+-- no event of a link of a seat is enabled
+abbrev pub is_link_quiet : Seat → ℕ → Bool
+is_link_quiet s l = not (is_seat_enabled s (Send l)) && not (is_seat_enabled s (Data l)) && not (is_seat_enabled s (Take l)) && not (is_seat_enabled s (Ack l))
+
+-- no event of a seat is enabled
+abbrev pub is_seat_quiet : Seat → Bool
+is_seat_quiet s = not (is_seat_enabled s Run) && is_link_quiet s 0 && is_link_quiet s 1 && is_link_quiet s 2 && is_link_quiet s 3
+
+-- the net of seats
+abbrev pub net_of : List Wire → List Seat → NetState
+net_of wires seats = record { nodes = map (λ (s : Seat). s.node) seats; wires = wires; inboxes = map (λ (s : Seat). s.inboxes) seats }
+
+-- each seat is at its number, and its far ends are those of the wires
+pub record AreSeated (wires : List Wire) (seats : List Seat) : Type 0 where
+  pub numbered : (n : ℕ) (s : Seat) → slice_get seats n ≡ Some s → s.number ≡ n
+  pub far : (n : ℕ) (s : Seat) → slice_get seats n ≡ Some s → (l : ℕ) → far_at s l ≡ far_end wires (end_at n l)

@@ -1,0 +1,30 @@
+-- What a run of rounds answers.
+-- Source: own choice.
+use Rattle.std.specs.Prelude.{◌≡◌, ℕ, ◌≤◌, ◌||◌, ◌==◌, nat_lt, List, Option, Some, option_map, if◌then◌else◌}
+use Rattle.tplan.specs.declared.event.Hold.{Hold}
+use Rattle.trounds.specs.declared.report.Report.{Report}
+use Rattle.trounds.specs.declared.report.NetFault.{NetFault}
+use Rattle.trounds.specs.declared.report.NetFault.TheVariants.{BadWorkers, BadHold}
+use Rattle.tnet.specs.Net.{NetState}
+use Rattle.trounds.specs.Rounds.{Rounds, rounds, bad_hold}
+
+-- how many workers there may be
+abbrev pub most_workers : ℕ
+most_workers = 64
+
+-- what is wrong with the number of workers, or else with the holds
+abbrev pub refusal : ℕ → List Hold → NetState → Option NetFault
+refusal workers holds net =
+    if (workers == 0) || nat_lt most_workers workers then Some BadWorkers else option_map BadHold (bad_hold net holds)
+
+-- an outcome as it is reported
+abbrev pub reported : Rounds → Report
+reported r = record { «end» = r.ending; rounds = r.count; events = r.progress.events; notes = r.progress.notes; net = r.progress.net }
+
+-- the report of at most so many rounds of a net, by the plain definition
+abbrev pub report : List Hold → ℕ → ℕ → NetState → Report
+report holds slice most net = reported (rounds holds slice most net)
+
+-- the net after some number of whole rounds, no more than were asked for
+abbrev pub IsAfterRounds : List Hold → ℕ → ℕ → NetState → NetState → Type 0
+IsAfterRounds holds slice most net net' = (k : ℕ) × (k ≤ most) × (net' ≡ (rounds holds slice k net).progress.net)

@@ -1,0 +1,96 @@
+//! Holds: which packets they cover, and which of them are bad.
+ghost use Rattle.std.specs.Prelude.{◌≡◌, not, nat_lt, length, position, Some, None, if◌then◌else◌};
+ghost use Rattle.trounds.specs.Rounds as plain;
+ghost use Rattle.trounds.specs.Reports.{refusal};
+
+use crate::report::NetFault;
+use tnet::Net;
+use tplan::{End, Hold, PacketKind};
+
+fn same_kind(a: PacketKind, b: PacketKind) -> bool
+    ensures { result ≡ plain.same_kind a b }
+{
+    match (a, b) {
+        (PacketKind::Data, PacketKind::Data) => true,
+        (PacketKind::Ack, PacketKind::Ack) => true,
+        _ => false,
+    }
+}
+
+/// Whether a hold covers packets of a kind at an end in a round.
+fn covers(hold: &Hold, round: u32, end: End, kind: PacketKind) -> bool
+    ensures { result ≡ plain.covers hold.now round end kind }
+{
+    hold.end.node == end.node
+        && hold.end.link == end.link
+        && same_kind(hold.kind, kind)
+        && hold.from <= round
+        && round < hold.until
+}
+
+/// Whether some hold covers them.
+pub fn is_held(holds: &[Hold], round: u32, end: End, kind: PacketKind) -> bool
+    ensures { result ≡ plain.is_held holds.now round end kind }
+{
+    holds.iter().any(|hold| covers(hold, round, end, kind))
+}
+
+/// How many workers there may be.
+const MOST_WORKERS: usize = 64;
+
+/// How many holds there may be.
+const MOST_HOLDS: usize = 256;
+
+/// Whether a hold names a wired end, and does not end before it begins.
+fn is_good(net: &Net, hold: &Hold) -> bool
+    ensures { result ≡ plain.is_good_hold net.now hold.now }
+{
+    net.far_end(hold.end).is_some() && hold.from <= hold.until
+}
+
+/// The place of the first hold that is not good.
+fn first_not_good(net: &Net, holds: &[Hold]) -> Option<usize>
+    ensures { result ≡ position (λ h. not (plain.is_good_hold net.now h)) holds.now }
+{
+    holds.iter().position(|hold| !is_good(net, hold))
+}
+
+/// The place of the first hold too many.
+fn first_beyond(holds: &[Hold]) -> Option<usize>
+    ensures { result ≡ (if nat_lt plain.most_holds (length holds.now) then Some plain.most_holds else None) }
+{
+    if MOST_HOLDS < holds.len() {
+        Some(MOST_HOLDS)
+    } else {
+        None
+    }
+}
+
+/// The place of the first bad hold, or of the first one too many.
+fn first_bad(net: &Net, holds: &[Hold]) -> Option<usize>
+    ensures { result ≡ plain.bad_hold net.now holds.now }
+{
+    match first_not_good(net, holds) {
+        Some(place) => {
+            if place < MOST_HOLDS {
+                Some(place)
+            } else {
+                first_beyond(holds)
+            }
+        }
+        None => first_beyond(holds),
+    }
+}
+
+/// What is wrong with the number of workers, or else with the holds.
+pub fn first_refusal(net: &Net, workers: usize, holds: &[Hold]) -> Option<NetFault>
+    ensures { result ≡ refusal workers holds.now net.now }
+{
+    if workers == 0 || workers > MOST_WORKERS {
+        return Some(NetFault::BadWorkers);
+    }
+    match first_bad(net, holds) {
+        Some(place) => Some(NetFault::BadHold(place)),
+        None => None,
+    }
+}

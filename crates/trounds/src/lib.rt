@@ -1,0 +1,18 @@
+//! Rounds of a net by any number of workers, and lists of events done again.
+//!
+//! `run_rounds` answers what the plain definition on one list of nodes says (`specs/Rounds.antt`), for every number of workers and
+//! every list of holds; `replay` does a list of events, and tells their notes. The headline is in the contracts of both.
+#![tactic(auto)]
+
+mod cell;
+mod holds;
+pub mod laws;
+pub mod replays;
+pub mod report;
+pub mod rounds;
+mod seating;
+mod split;
+
+pub use replays::{ReplayFault, Replayed, replay};
+pub use report::{Ending, Gate, NetFault, Report};
+pub use rounds::run_rounds;

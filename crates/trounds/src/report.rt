@@ -1,0 +1,43 @@
+use tnet::Net;
+use tplan::{Event, Note};
+use tword::Items;
+
+/// What each worker calls, once before its part of a round.
+pub trait Gate {
+    /// A worker, from 0 on, begins its part of a round, from 0 on.
+    fn enter(&self, worker: usize, round: u32);
+}
+
+/// How a run of rounds ended.
+#[derive(Clone, Copy, Debug, PartialEq, Eq)]
+pub enum Ending {
+    /// No event is enabled.
+    Quiet,
+    /// The rounds that were asked for are done.
+    Rounds,
+}
+
+/// What a run of rounds did.
+#[derive(Drop)]
+pub struct Report {
+    pub end: Ending,
+    /// How many rounds were done.
+    pub rounds: u32,
+    /// The events that were done, in their order.
+    pub events: Items<Event>,
+    /// What they had to tell, in their order.
+    pub notes: Items<Note>,
+    /// The net after them.
+    pub net: Net,
+}
+
+/// Why rounds did not come to their end: `BadWorkers`, else `BadHold`, else `OutOfMemory`.
+#[derive(Clone, Copy, Debug, PartialEq, Eq)]
+pub enum NetFault {
+    /// The allocator refused.
+    OutOfMemory,
+    /// There are no workers, or over 64.
+    BadWorkers,
+    /// This hold names no wired end or ends before it begins, or is the first one over 256.
+    BadHold(usize),
+}

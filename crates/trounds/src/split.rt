@@ -1,0 +1,104 @@
+//! One round, shared out among workers.
+ghost use Rattle.std.specs.Prelude.{◌≡◌, ◌+◌, ◌*◌, ◌^◌, ◌<◌, All, length};
+ghost use Rattle.std.specs.Thread.{IsSync};
+ghost use Rattle.trounds.specs.Parts.{parts};
+ghost use Rattle.trounds.specs.Cells.{seats_of, parts_of, IsReady};
+
+use crate::cell::Cell;
+use crate::report::Gate;
+use std::thread::{Threads, join_mut};
+use tplan::Hold;
+
+/// The part of one worker: each of its nodes in turn.
+fn do_part(holds: &[Hold], slice: u32, round: u32, part: &mut [Cell])
+    requires { All (IsReady slice) part.old }
+    ensures { parts_of part.new ≡ parts holds.now slice round (seats_of part.old) }
+{
+    for place in 0..part.len() {
+        part[place].part_of_round(holds, slice, round);
+    }
+}
+
+/// How many parts of `size` nodes the first half takes, where there are at least two.
+fn half_of(len: usize, size: usize) -> usize
+    requires size { 0 < size }
+    requires two { size < len }
+    ensures some { 0 < result }
+    ensures within { result * size < len }
+{
+    len.div_ceil(size) / 2
+}
+
+/// One round of each node. The nodes are split down to parts of `size` nodes, each done by a thread of its own where one can
+/// be started; with one part none is.
+#[cycle(split)]
+pub fn do_parts<R: Threads + Sync, G: Gate + Sync>(
+    rt: &R,
+    gate: &G,
+    holds: &[Hold],
+    slice: u32,
+    round: u32,
+    size: usize,
+    worker: usize,
+    part: &mut [Cell],
+)
+    requires size { 0 < size }
+    requires worker { worker + length part.old < 2 ^ 64 }
+    requires ready { All (IsReady slice) part.old }
+    ensures { parts_of part.new ≡ parts holds.now slice round (seats_of part.old) }
+{
+    if part.len() <= size {
+        gate.enter(worker, round);
+        do_part(holds, slice, round, part);
+        return;
+    }
+    let half = half_of(part.len(), size);
+    let mid = half * size;
+    let (front, back) = part.split_at_mut(mid);
+    do_both(
+        rt,
+        gate,
+        holds,
+        slice,
+        round,
+        size,
+        worker,
+        front,
+        worker + half,
+        back,
+    );
+}
+
+#[cycle(split)]
+fn do_both<R: Threads + Sync, G: Gate + Sync>(
+    rt: &R,
+    gate: &G,
+    holds: &[Hold],
+    slice: u32,
+    round: u32,
+    size: usize,
+    worker: usize,
+    front: &mut [Cell],
+    next: usize,
+    back: &mut [Cell],
+)
+    requires size { 0 < size }
+    requires worker { worker + length front.old < 2 ^ 64 }
+    requires next { next + length back.old < 2 ^ 64 }
+    requires some { 0 < length front.old }
+    requires more { 0 < length back.old }
+    requires front { All (IsReady slice) front.old }
+    requires back { All (IsReady slice) back.old }
+    ensures front { parts_of front.new ≡ parts holds.now slice round (seats_of front.old) }
+    ensures back { parts_of back.new ≡ parts holds.now slice round (seats_of back.old) }
+{
+    let mut first = ||
+        requires { IsSync R.row × IsSync G.row × (0 < size) × (worker + length front.now < 2 ^ 64) × All (IsReady slice) front.now }
+        ensures { parts_of front.exit.now ≡ parts holds.entry.now slice round (seats_of front.entry.now) }
+    { do_parts(rt, gate, holds, slice, round, size, worker, front) };
+    let mut second = ||
+        requires { IsSync R.row × IsSync G.row × (0 < size) × (next + length back.now < 2 ^ 64) × All (IsReady slice) back.now }
+        ensures { parts_of back.exit.now ≡ parts holds.entry.now slice round (seats_of back.entry.now) }
+    { do_parts(rt, gate, holds, slice, round, size, next, back) };
+    join_mut(rt, &mut first, &mut second);
+}

@@ -1,5 +1,0 @@
-use Rattle.ttext.proofs.Told.{tells_then}
-use Rattle.ttext.proofs.writing.end.put_replay_end.Goals as goal
-
-pub returns : goal.returns
-returns g c = tells_then c.put.ensures (tells_then c.put_decimal.ensures c.put-2.ensures)

@@ -1,5 +1,0 @@
-use Rattle.ttext.proofs.Told.{tells_then}
-use Rattle.ttext.proofs.writing.node_dump.put_seen.Goals as goal
-
-pub returns : goal.returns
-returns g c = tells_then c.put.ensures c.put_byte.ensures

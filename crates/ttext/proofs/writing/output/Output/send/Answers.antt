@@ -1,7 +1,0 @@
-use Rattle.std.proofs.Common.{sym, refl, ◌∙◌, [], append-nil}
-use Rattle.ttext.proofs.Told.{tells_handed}
-use Rattle.ttext.proofs.writing.output.Output.send.Goals as goal
-
-pub returns-clause-told : goal.returns-clause-told
-returns-clause-told g c =
-    tells_handed c.args.self.now _ c.as_slice.result.now [] (c.as_slice.ensures ∙ sym (append-nil c.args.self.now.waiting)) refl c.hand_on-self.ensures c.clear.ensures

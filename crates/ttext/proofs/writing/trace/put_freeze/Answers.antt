@@ -1,6 +1,0 @@
-use Rattle.std.proofs.Common.{ap, decimal}
-use Rattle.ttext.proofs.Told.{tells_then, tells_as}
-use Rattle.ttext.proofs.writing.trace.put_freeze.Goals as goal
-
-pub returns : goal.returns
-returns g c = tells_then c.put.ensures (tells_then (tells_as c.put_decimal.ensures (ap decimal c.from.ensures)) (tells_then c.put-2.ensures (tells_as c.put-3.ensures c.break_name.ensures)))

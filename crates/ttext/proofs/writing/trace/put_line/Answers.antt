@@ -1,5 +1,0 @@
-use Rattle.ttext.proofs.Told.{tells_then}
-use Rattle.ttext.proofs.writing.trace.put_line.Goals as goal
-
-pub returns : goal.returns
-returns g c = tells_then c.put_note.ensures c.put.ensures

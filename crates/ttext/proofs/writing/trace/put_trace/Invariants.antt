@@ -1,8 +1,0 @@
-use Rattle.std.proofs.Common.{drop}
-use Rattle.ttext.specs.Texts.{trace_text}
-use Rattle.ttext.proofs.Told.{GoesOn}
-use Rattle.ttext.proofs.writing.trace.put_trace.Given as goal
-
--- what was told and what is left
-abbrev pub invariant-loop-note : goal.invariant-loop-note
-invariant-loop-note g l = GoesOn g.W.Write.contents l.initial.out l.out (trace_text (drop l.note-index l.notes)) (trace_text l.notes)

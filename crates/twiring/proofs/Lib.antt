@@ -1,0 +1,3 @@
+pub mod WiringAnswers
+pub mod WiringTests
+pub mod WiringValues

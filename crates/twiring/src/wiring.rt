@@ -1,0 +1,305 @@
+//! Wirings: the nodes of a net, how they are joined and what is held, as TOML.
+
+ghost use Rattle.std.specs.Prelude.{◌≡◌, Ok, Some, None, [], codes, map, option_map, MatchResult};
+ghost use Rattle.toml.specs.Data.{get_member};
+ghost use Rattle.toml.specs.View.{view, items_view, table_view};
+ghost use Rattle.twiring.specs.Wirings.{is_one_of, default_timeslice, wiring_of_text, IsWiringAnswer};
+ghost use Rattle.twiring.specs.WiringParts as spec;
+
+use std::alloc::Global;
+use toml::{Table, Value};
+use tplan::{End, Hold, PacketKind, Wire, Wiring, WiringFault, WiringNode};
+use tword::Items;
+
+/// The timeslice of a wiring that names none (own choice).
+pub const DEFAULT_TIMESLICE: u32 = 1_024;
+
+/// What a part of a wiring stands for, or its lowest fault.
+type Part<T> = Result<T, WiringFault>;
+
+/// The wiring that a text stands for (own choice of format), as TOML: `version`, which is 1, `timeslice`, which may be absent,
+/// and the arrays `node` (`memory` in bytes, `image`), `wire` (its ends `a` and `b`, each a node and a link) and
+/// `hold` (`end`, `kind`, and the rounds `from` and `until`). Whether a net can be made of it is not judged here.
+///
+/// # Errors
+/// The first of these that holds: `Syntax`, `UnknownKey`, `MissingKey`, `WrongType`, `BadVersion`, `BadNumber` for an integer
+/// outside 0 to 4,294,967,295. `OutOfMemory` where the allocator refuses.
+pub fn read_wiring(alloc: Global, text: &str) -> Result<Wiring, WiringFault>
+    ensures { IsWiringAnswer (wiring_of_text text.now) result }
+{
+    match toml::table_from_str(alloc, text) {
+        Ok(root) => wiring(alloc, &root),
+        Err(error) if error.is_memory() => Err(WiringFault::OutOfMemory),
+        Err(_) => Err(WiringFault::Syntax),
+    }
+}
+
+/// The whole.
+fn wiring(alloc: Global, root: &Table) -> Part<Wiring>
+    ensures { IsWiringAnswer (spec.wiring_in (table_view root.now)) result }
+{
+    known_keys(root, &["version", "timeslice", "node", "wire", "hold"])?;
+    let nodes = array_at(alloc, root, "node");
+    let wires = array_at(alloc, root, "wire");
+    let holds = array_at(alloc, root, "hold");
+    let (timeslice, (nodes, (wires, holds))) = both(head(root), both(nodes, both(wires, holds)))?;
+    Ok(Wiring {
+        timeslice,
+        nodes,
+        wires,
+        holds,
+    })
+}
+
+/// The timeslice of a whole whose version is 1.
+fn head(root: &Table) -> Part<u32>
+    ensures { result ≡ spec.head_in (table_view root.now) }
+{
+    let (_, timeslice) = both(version_at(root), timeslice_at(root))?;
+    Ok(timeslice)
+}
+
+/// A table of an array.
+trait Section: Drop {
+    ghost use Rattle.std.specs.Prelude.{Result};
+    ghost use Rattle.toml.specs.Data.{Members};
+    ghost use Rattle.tplan.specs.declared.wiring.WiringFault.{WiringFault};
+
+    ghost told: { Members → Result Self WiringFault };
+
+    /// What a table stands for.
+    fn read(alloc: Global, table: &Table) -> Part<Self>
+        ensures { IsWiringAnswer (told (table_view table.now)) result };
+}
+
+impl Section for WiringNode {
+    ghost told = { spec.node_in };
+
+    fn read(alloc: Global, table: &Table) -> Part<WiringNode> {
+        known_keys(table, &["memory", "image"])?;
+        let (memory, image) = both(number_at(table, "memory"), text_at(alloc, table, "image"))?;
+        Ok(WiringNode { memory, image })
+    }
+}
+
+impl Section for Wire {
+    ghost told = { spec.wire_in };
+
+    fn read(_alloc: Global, table: &Table) -> Part<Wire> {
+        known_keys(table, &["a", "b"])?;
+        let (a, b) = both(end_at(table, "a"), end_at(table, "b"))?;
+        Ok(Wire { a, b })
+    }
+}
+
+impl Section for Hold {
+    ghost told = { spec.hold_in };
+
+    fn read(_alloc: Global, table: &Table) -> Part<Hold> {
+        known_keys(table, &["end", "kind", "from", "until"])?;
+        let place = both(end_at(table, "end"), kind_at(table, "kind"));
+        let rounds = both(number_at(table, "from"), number_at(table, "until"));
+        let ((end, kind), (from, until)) = both(place, rounds)?;
+        Ok(Hold {
+            end,
+            kind,
+            from,
+            until,
+        })
+    }
+}
+
+/// The tables of the array at a key, none where it is absent.
+fn array_at<T: Section>(alloc: Global, table: &Table, key: &str) -> Part<Items<T>>
+    ensures { IsWiringAnswer (spec.array_at T.told key.now (table_view table.now)) result }
+{
+    let Some(value) = value_at(table, key) else {
+        return Ok(Items::new(Vec::new(alloc)));
+    };
+    let Some(array) = value.as_array() else {
+        return Err(WiringFault::WrongType);
+    };
+    tables(alloc, array.as_slice())
+}
+
+/// Each value as a table.
+fn tables<T: Section>(alloc: Global, array: &[Value]) -> Part<Items<T>>
+    ensures { IsWiringAnswer (spec.more_in T.told (Ok []) (items_view array.now)) result }
+{
+    let mut found = Ok(Items::new(Vec::new(alloc)));
+    for value in array {
+        found = one_more(found, table(alloc, value));
+    }
+    found
+}
+
+/// A table.
+fn table<T: Section>(alloc: Global, value: &Value) -> Part<T>
+    ensures { IsWiringAnswer (spec.table_in T.told (view value.now)) result }
+{
+    match value.as_table() {
+        Some(table) => T::read(alloc, table),
+        None => Err(WiringFault::WrongType),
+    }
+}
+
+/// One more behind those that were found.
+fn one_more<T: Drop>(found: Part<Items<T>>, next: Part<T>) -> Part<Items<T>>
+    ensures { IsWiringAnswer (spec.one_more found next) result }
+{
+    let (found, next) = both(found, next)?;
+    let mut found = found.into_vec();
+    found.push(next)?;
+    Ok(Items::new(found))
+}
+
+/// Both parts, or the lower of their faults.
+fn both<A: Drop, B: Drop>(a: Part<A>, b: Part<B>) -> Part<(A, B)>
+    ensures { result ≡ spec.both a b }
+{
+    match a {
+        Ok(a) => match b {
+            Ok(b) => Ok((a, b)),
+            Err(fault) => Err(fault),
+        },
+        Err(fault) => match b {
+            Ok(_) => Err(fault),
+            Err(other) => Err(fault.min(other)),
+        },
+    }
+}
+
+/// Each key is one of these.
+fn known_keys(table: &Table, names: &[&str]) -> Part<()>
+    ensures { result ≡ spec.known (map (λ name. name.now) names.now) (table_view table.now) (Ok tt) }
+{
+    for key in table.keys() {
+        if !is_one_of(key.as_str(), names) {
+            return Err(WiringFault::UnknownKey);
+        }
+    }
+    Ok(())
+}
+
+/// A key is one of these.
+fn is_one_of(key: &str, names: &[&str]) -> bool
+    ensures { result ≡ is_one_of key.now (map (λ name. name.now) names.now) }
+{
+    names.iter().any(|name| *name == key)
+}
+
+/// The version, which has to be there and to be 1.
+fn version_at(root: &Table) -> Part<()>
+    ensures { result ≡ spec.required spec.version_in (codes "version") (table_view root.now) }
+{
+    match required(root, "version")?.as_integer() {
+        Some(1) => Ok(()),
+        Some(_) => Err(WiringFault::BadVersion),
+        None => Err(WiringFault::WrongType),
+    }
+}
+
+/// The timeslice, which may be absent.
+fn timeslice_at(root: &Table) -> Part<u32>
+    ensures { result ≡ spec.value_or (Ok default_timeslice) spec.number_in (get_member (codes "timeslice") (table_view root.now)) }
+{
+    match value_at(root, "timeslice") {
+        Some(value) => number(value),
+        None => Ok(DEFAULT_TIMESLICE),
+    }
+}
+
+/// The number at a key.
+fn number_at(table: &Table, key: &str) -> Part<u32>
+    ensures { result ≡ spec.required spec.number_in key.now (table_view table.now) }
+{
+    number(required(table, key)?)
+}
+
+/// The end at a key.
+fn end_at(table: &Table, key: &str) -> Part<End>
+    ensures { result ≡ spec.required spec.end_in key.now (table_view table.now) }
+{
+    end(required(table, key)?)
+}
+
+/// The kind at a key.
+fn kind_at(table: &Table, key: &str) -> Part<PacketKind>
+    ensures { result ≡ spec.required spec.kind_in key.now (table_view table.now) }
+{
+    kind(required(table, key)?)
+}
+
+/// The text at a key.
+fn text_at(alloc: Global, table: &Table, key: &str) -> Part<Items<u8>>
+    ensures { IsWiringAnswer (spec.required spec.text_in key.now (table_view table.now)) result }
+{
+    text(alloc, required(table, key)?)
+}
+
+/// A number of 32 bits.
+fn number(value: &Value) -> Part<u32>
+    ensures { result ≡ spec.number_in (view value.now) }
+{
+    match value.as_integer() {
+        Some(number) => match u32::try_from(number) {
+            Ok(number) => Ok(number),
+            Err(_) => Err(WiringFault::BadNumber),
+        },
+        None => Err(WiringFault::WrongType),
+    }
+}
+
+/// An end: a node and its link.
+fn end(value: &Value) -> Part<End>
+    ensures { result ≡ spec.end_in (view value.now) }
+{
+    let Some(array) = value.as_array() else {
+        return Err(WiringFault::WrongType);
+    };
+    let [node, link] = array.as_slice() else {
+        return Err(WiringFault::WrongType);
+    };
+    let (node, link) = both(number(node), number(link))?;
+    Ok(End { node, link })
+}
+
+/// A kind of packet.
+fn kind(value: &Value) -> Part<PacketKind>
+    ensures { result ≡ spec.kind_in (view value.now) }
+{
+    match value.as_str() {
+        Some("ack") => Ok(PacketKind::Ack),
+        Some("data") => Ok(PacketKind::Data),
+        _ => Err(WiringFault::WrongType),
+    }
+}
+
+/// A text, as its bytes.
+fn text(alloc: Global, value: &Value) -> Part<Items<u8>>
+    ensures { IsWiringAnswer (spec.text_in (view value.now)) result }
+{
+    match value.as_str() {
+        Some(text) => Ok(Items::new(Vec::from_slice(alloc, text.as_bytes())?)),
+        None => Err(WiringFault::WrongType),
+    }
+}
+
+/// The value at a key that has to be there.
+fn required<'a>(table: &'a Table, key: &str) -> Part<&'a Value>
+    ensures { MatchResult result
+        (λ value. get_member key.now (table_view table.now) ≡ Some (view value.now))
+        (λ fault. (get_member key.now (table_view table.now) ≡ None) × (fault ≡ WiringFault.MissingKey)) }
+{
+    match value_at(table, key) {
+        Some(value) => Ok(value),
+        None => Err(WiringFault::MissingKey),
+    }
+}
+
+/// The value at a key.
+fn value_at<'a>(table: &'a Table, key: &str) -> Option<&'a Value>
+    ensures { option_map (λ v. view v.now) result ≡ get_member key.now (table_view table.now) }
+{
+    table.get(key)
+}

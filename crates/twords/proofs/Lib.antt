@@ -1,0 +1,4 @@
+pub mod WordWalks
+pub mod WordAnswers
+pub mod WordReads
+pub mod WordParsers

@@ -1,0 +1,216 @@
+-- What the words of a command line ask for, by what `clap` reads of them for these commands.
+-- Source: the forms of the commands, their defaults and their ranges are our own choice; `Rattle.clap.specs` says how `clap`
+-- reads words, and why it refuses them.
+use Rattle.std.specs.Prelude.{refl, ℕ, ◌≡◌, ◌≤◌, pos, true, false, List, [], ◌∷◌, Option, Some, None, is_some, option_map, codes, bytes_eq, if◌then◌else◌}
+use Rattle.std.specs.Option.{option_map_or}
+use Rattle.std.specs.Str.Parse.{digits_value, without_leading_plus}
+use Rattle.clap.specs.Words.{Text, Rule, Row, Shape, App, Kinds, IsSignedIn, app_of, new_rule, first_of, one_of, subcommand_of, fault_of, with_subcommand, without_minus}
+use Rattle.clap.specs.Simple.{new_shape}
+use Rattle.clap.proofs.OnLiterals.{clap_on_literals}
+use Rattle.clap.specs.declared.error.kind.ErrorKind.TheVariants.{DisplayHelp, DisplayHelpOnMissingArgumentOrSubcommand, MissingRequiredArgument, UnknownArgument, ValueValidation}
+use Rattle.clap.specs.declared.builder.arg.Arg.{Arg}
+use Rattle.clap.specs.declared.builder.command.Command.{Command as Parser}
+use Rattle.clap.specs.declared.builder.command.Command.TheViews.{out-Command as fields_of}
+use Rattle.clap.specs.declared.builder.value_parser.ValueParser.{ValueParser}
+use Rattle.clap.specs.declared.builder.value_parser.ValueParser.TheVariants.{Signed}
+use Rattle.tplan.specs.declared.options.Options.{Options}
+use Rattle.twords.specs.declared.words.Command.{Command}
+use Rattle.twords.specs.declared.words.Command.TheVariants.{Run, Replay, Dis}
+
+-- ---- the words that are taken
+
+-- a file that has to be named
+abbrev pub file_rule : Text → Rule
+file_rule id = record (new_rule id) { value_names = 1; required = true }
+
+-- an option with a value
+abbrev pub option_rule : Text → Rule
+option_rule id = record (new_rule id) { long = Some id; value_names = 1 }
+
+-- an option whose value is a number of a range, and what it is where it is not given
+abbrev pub number_rule : Text → ValueParser → Text → Rule
+number_rule id parser default = record (option_rule id) { parser = Some parser; defaults = default ∷ [] }
+
+-- the numbers of a range
+abbrev pub between : ℕ → ℕ → ValueParser
+between least most = Signed (pos least) (pos most)
+
+-- `run WIRING [--workers N] [--rounds N] [--slice N] [--log FILE]`
+abbrev pub run_shape : Shape
+run_shape = record (new_shape (codes "run")) {
+  rules = file_rule (codes "wiring")
+      ∷ number_rule (codes "workers") (between 1 64) (codes "1")
+      ∷ number_rule (codes "rounds") (between 0 4294967295) (codes "100000")
+      ∷ number_rule (codes "slice") (between 1 65536) (codes "64")
+      ∷ option_rule (codes "log")
+      ∷ [];
+}
+
+-- `replay WIRING LOG`
+abbrev pub replay_shape : Shape
+replay_shape = record (new_shape (codes "replay")) { rules = file_rule (codes "wiring") ∷ file_rule (codes "log") ∷ [] }
+
+-- `dis IMAGE`
+abbrev pub dis_shape : Shape
+dis_shape = record (new_shape (codes "dis")) { rules = file_rule (codes "image") ∷ [] }
+
+-- the program without its commands, of which one has to be named
+abbrev pub top : App
+top = record {
+  top = record (new_shape (codes "temu")) { disable_help_subcommand = true; arg_required_else_help = true; subcommand_required = true };
+  subs = [];
+}
+
+-- the program
+abbrev pub program : App
+program = with_subcommand (with_subcommand (with_subcommand top run_shape) replay_shape) dis_shape
+
+-- ---- what they ask for
+
+-- what a command line asks for, with the texts of its words
+pub data Asked : Type 0 where
+  run : Text → Options → Option Text → Asked
+  replay : Text → Text → Asked
+  dis : Text → Asked
+
+abbrev pub asked_of : Command → Asked
+asked_of (Run wiring options log) = run wiring.bytes.items options (option_map (λ s. s.bytes.items) log)
+asked_of (Replay wiring log) = replay wiring.bytes.items log.bytes.items
+asked_of (Dis image) = dis image.bytes.items
+
+-- the text of an argument
+abbrev pub text_at : Text → List Row → Text
+text_at id rows = option_map_or (λ t. t) (first_of id rows) []
+
+-- the number of an argument
+abbrev pub number_at : Text → List Row → ℕ
+number_at id rows = option_map_or (λ t. digits_value 10 (without_leading_plus t)) (one_of id rows) 0
+
+-- the options of a run
+abbrev pub options_in : List Row → Options
+options_in rows = record { workers = number_at (codes "workers") rows; rounds = number_at (codes "rounds") rows; slice = number_at (codes "slice") rows }
+
+abbrev pub run_in : List Row → Asked
+run_in rows = run (text_at (codes "wiring") rows) (options_in rows) (first_of (codes "log") rows)
+
+abbrev pub replay_in : List Row → Asked
+replay_in rows = replay (text_at (codes "wiring") rows) (text_at (codes "log") rows)
+
+abbrev pub dis_in : List Row → Asked
+dis_in rows = dis (text_at (codes "image") rows)
+
+-- what the arguments of a command ask for
+abbrev pub command_in : Option (Text × List Row) → Option Asked
+command_in None = None
+command_in (Some (name, rows)) =
+    if bytes_eq name (codes "run") then Some (run_in rows)
+    else if bytes_eq name (codes "replay") then Some (replay_in rows)
+    else if bytes_eq name (codes "dis") then Some (dis_in rows)
+    else None
+
+-- what the words ask for, where they are taken
+abbrev pub command_of : List Text → Option Asked
+command_of words = command_in (subcommand_of program words)
+
+-- why the words are refused: help is asked for, or they are a mistake; none where they are taken
+abbrev pub refusals : List Text → Kinds
+refusals words = fault_of program words
+
+-- the options of a run lie in their ranges
+pub record AreOptions (o : Options) : Type 0 where
+  pub workers : (1 ≤ o.workers) × (o.workers ≤ 64)
+  pub rounds : o.rounds ≤ 4294967295
+  pub slice : (1 ≤ o.slice) × (o.slice ≤ 65536)
+
+abbrev pub IsInRange : Command → Type 0
+IsInRange (Run wiring options log) = AreOptions options
+IsInRange (Replay wiring log) = Unit {0}
+IsInRange (Dis image) = Unit {0}
+
+-- ---- what the private functions speak of
+
+-- the argument has a text
+abbrev pub HasText : Text → List Row → Type 0
+HasText id rows = is_some (first_of id rows) ≡ true
+
+-- the argument has a number of a range
+pub record HasNumber (least most : ℕ) (id : Text) (rows : List Row) : Type 0 where
+  pub text : Text
+  pub read : one_of id rows ≡ Some (without_minus text)
+  pub within : IsSignedIn (pos least) (pos most) text
+
+-- the arguments of `run` that cannot be absent are there
+pub record IsRun (rows : List Row) : Type 0 where
+  pub wiring : HasText (codes "wiring") rows
+  pub workers : HasNumber 1 64 (codes "workers") rows
+  pub rounds : HasNumber 0 4294967295 (codes "rounds") rows
+  pub slice : HasNumber 1 65536 (codes "slice") rows
+
+abbrev pub IsReplay : List Row → Type 0
+IsReplay rows = HasText (codes "wiring") rows × HasText (codes "log") rows
+
+abbrev pub IsDis : List Row → Type 0
+IsDis rows = HasText (codes "image") rows
+
+-- the command of this name is one of the three, and its arguments are there
+pub record IsWhole (name : Text) (rows : List Row) : Type 0 where
+  pub run : bytes_eq name (codes "run") ≡ true → IsRun rows
+  pub replay : bytes_eq name (codes "run") ≡ false → bytes_eq name (codes "replay") ≡ true → IsReplay rows
+  pub dis : bytes_eq name (codes "run") ≡ false → bytes_eq name (codes "replay") ≡ false → (bytes_eq name (codes "dis") ≡ true) × IsDis rows
+
+-- a parser reads a command of this shape, and no subcommand
+abbrev pub HasShape : Shape → Parser → Type 0
+HasShape shape c = (app_of c ≡ record { top = shape; subs = [] }) × ((fields_of c).has_globals ≡ false)
+
+-- the argument is its command's alone
+abbrev pub IsLocal : Arg → Type 0
+IsLocal a = a.global ≡ false
+
+-- ---- examples
+
+abbrev words_of_run : List Text
+words_of_run = codes "temu" ∷ codes "run" ∷ codes "--rounds" ∷ codes "7" ∷ codes "pair.toml" ∷ codes "--log=pair.log" ∷ codes "--workers" ∷ codes "64" ∷ []
+
+-- options in any order, and one by default
+example_run : command_of words_of_run ≡ Some (run (codes "pair.toml") (record { workers = 64; rounds = 7; slice = 64 }) (Some (codes "pair.log")))
+unfolding clap_on_literals
+example_run = refl
+
+-- nothing but the file
+example_defaults : command_of (codes "temu" ∷ codes "run" ∷ codes "pair.toml" ∷ []) ≡ Some (run (codes "pair.toml") (record { workers = 1; rounds = 100000; slice = 64 }) None)
+unfolding clap_on_literals
+example_defaults = refl
+
+example_replay : command_of (codes "temu" ∷ codes "replay" ∷ codes "pair.toml" ∷ codes "pair.log" ∷ []) ≡ Some (replay (codes "pair.toml") (codes "pair.log"))
+unfolding clap_on_literals
+example_replay = refl
+
+example_dis : command_of (codes "temu" ∷ codes "dis" ∷ codes "first.img" ∷ []) ≡ Some (dis (codes "first.img"))
+unfolding clap_on_literals
+example_dis = refl
+
+-- these words are taken
+example_taken : refusals words_of_run ≡ []
+unfolding clap_on_literals
+example_taken = refl
+
+-- a number out of its range, an option that no command has, a file that is missing, no words, and help
+example_workers : refusals (codes "temu" ∷ codes "run" ∷ codes "pair.toml" ∷ codes "--workers" ∷ codes "0" ∷ []) ≡ ValueValidation ∷ []
+unfolding clap_on_literals
+example_workers = refl
+
+example_unknown : refusals (codes "temu" ∷ codes "run" ∷ codes "pair.toml" ∷ codes "--turns" ∷ codes "5" ∷ []) ≡ UnknownArgument ∷ []
+unfolding clap_on_literals
+example_unknown = refl
+
+example_missing : refusals (codes "temu" ∷ codes "replay" ∷ codes "pair.toml" ∷ []) ≡ MissingRequiredArgument ∷ []
+unfolding clap_on_literals
+example_missing = refl
+
+example_nothing : refusals (codes "temu" ∷ []) ≡ DisplayHelpOnMissingArgumentOrSubcommand ∷ []
+unfolding clap_on_literals
+example_nothing = refl
+
+example_help : refusals (codes "temu" ∷ codes "run" ∷ codes "--help" ∷ []) ≡ DisplayHelp ∷ []
+unfolding clap_on_literals
+example_help = refl

@@ -1,0 +1,2 @@
+-- What the words of the command line mean.
+pub mod CommandLines
