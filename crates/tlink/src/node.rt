@@ -1,7 +1,7 @@
 ghost use Rattle.std.specs.Prelude.{◌≡◌};
 ghost use Rattle.tlink.specs.Node.{NodeState, fresh_node};
 ghost use Rattle.tlink.specs.Events.{happens, node_answered, node_left_by, is_node_enabled};
-ghost use Rattle.tlink.specs.Whole.{IsWhole};
+ghost use Rattle.tlink.specs.Whole.{HasNoticedNothing};
 
 use crate::event::{Emitted, NodeEvent, StepFault};
 use crate::links::Links;
@@ -27,11 +27,13 @@ impl Model for Node {
 }
 
 impl Node {
-    /// A node before its first event, and which of its links have a wire.
+    /// A node before its first event, and which of its links have a wire. Its processor may be at any point of its run, as long
+    /// as no byte was noticed at its links.
     pub fn new(processor: Processor, wired: [bool; 4]) -> Self
-        requires { IsWhole (fresh_node processor wired) }
+        requires { HasNoticedNothing processor.control }
         ensures { result ≡ fresh_node processor wired }
     {
+        processor.is_placed();
         Node {
             links: Links::new(processor, wired),
         }

@@ -1,7 +1,7 @@
 -- The bytes of a message, read one after another.
-use Rattle.std.proofs.Common.{◌≡◌, ◌≢◌, ℕ, zero, suc, ◌+◌, ◌-◌, ◌<◌, ◌≤◌, min, refl, sym, ap, ◌∙◌, List, [], ◌∷◌, ◌++◌, length, get_or, take, drop, set, map, Option, Some, Result, Ok, Err, IfSome, OnOk, ◌⊎◌, inl, inr, arith}
-use Rattle.std.proofs.lemmas.Bool.{cases_eq, cases_lt}
-use Rattle.std.proofs.lemmas.List.{take_more, get_or-drop, length-drop, take_min, drop-map, take-map, drop_all, map-set, get_or-set_same, get_or-set_other, get_or-map, length-map}
+use Rattle.std.proofs.Common.{◌≡◌, ℕ, zero, suc, ◌+◌, ◌-◌, ◌<◌, ◌≤◌, min, refl, sym, ap, ◌∙◌, List, [], ◌∷◌, ◌++◌, length, get_or, take, drop, Some, ◌⊎◌, inl, inr, arith}
+use Rattle.std.proofs.lemmas.Bool.{cases_lt}
+use Rattle.std.proofs.lemmas.List.{take_more, get_or-drop, length-drop, take_min, drop-map, take-map, drop_all}
 use Rattle.tword.specs.Stores.{Store, as_cells, shown, cells, bytes_at, place}
 
 -- bytes that are shown

@@ -1,23 +1,22 @@
 -- A processor while its segments are loaded and its processes are added, and the node that it becomes.
-use Rattle.std.proofs.Common.{◌≡◌, ℕ, ◌<◌, ◌≤◌, ◌^◌, refl, sym, ap, ◌∙◌, subst, List, length, get_or, replicate, Bool, false, not, ◌&&◌, None, Result, Ok, Err, All, arith, Fits, w8}
+use Rattle.std.proofs.Common.{◌≡◌, ℕ, ◌<◌, ◌≤◌, ◌^◌, refl, sym, ap, ◌∙◌, subst, List, length, get_or, replicate, false, not, ◌&&◌, None, Result, Ok, Err, All, arith, Fits, w8}
 use Rattle.std.specs.Prelude.{fold, OnOk}
 use Rattle.std.proofs.lemmas.Bool.{not-false, and_parts}
 use Rattle.std.proofs.lemmas.List.{get_or_default}
 use Rattle.tword.specs.declared.breaks.Break.{Break}
 use Rattle.tword.specs.Touches.{is_inside, is_open}
 use Rattle.tproc.specs.Machine.{Machine}
+use Rattle.tproc.specs.declared.waiting.LinkEnd.{LinkEnd}
 use Rattle.tproc.specs.LinkChannels.{quiet_end}
 use Rattle.tproc.specs.Opening.{Adds, empty_machine, loaded, added}
 use Rattle.tproc.proofs.Opening.{IsReadyMachine, is_ready_loaded, is_ready_added}
-use Rattle.tlink.specs.Node.{fresh_node}
-use Rattle.tlink.specs.Whole.{IsWhole}
+use Rattle.tlink.specs.Whole.{HasNoticedNothing}
 use Rattle.tplan.specs.declared.plan.Segment.{Segment}
 use Rattle.tplan.specs.declared.plan.Process.{Process}
 use Rattle.tplan.specs.declared.plan.NodePlan.{NodePlan}
-use Rattle.tnet.specs.Sound.{IsSoundNode}
 use Rattle.tnet.specs.Building.{IsUnstarted, is_bad_segment, bad_segment, built_machine, added_from, loaded_machine, or_loaded}
 use Rattle.tnet.proofs.OpenedPlans.{opened-links, no_position}
-use Rattle.tnet.proofs.OpenedNets.{sound_node}
+use Rattle.tnet.proofs.OpenedNets.{quiet_link}
 
 ready : (memory : ℕ) (m : Machine) → IsUnstarted memory m → IsReadyMachine memory 0 m
 ready memory m u = record { size = u.size; visible = u.visible; placed = λ _. u.placed }
@@ -66,11 +65,6 @@ built_of timeslice n ss ps empty full x is_empty segments is_full processes h =
 built-links : (timeslice : ℕ) (n : NodePlan) (m : Machine) → built_machine timeslice n ≡ Ok m → m.control.links ≡ replicate 4 quiet_end
 built-links timeslice n m h = ap (λ (x : Result Machine (ℕ × Break)). (or_loaded (loaded_machine timeslice n) x).control.links) (sym h) ∙ opened-links timeslice n
 
--- the node of a processor that was built is sound
-sound_fresh : (timeslice : ℕ) (n : NodePlan) (m : Machine) (wired : List Bool) → built_machine timeslice n ≡ Ok m → IsUnstarted n.memory m → IsSoundNode (fresh_node m wired)
-sound_fresh timeslice n m wired h u = sound_node m wired (built-links timeslice n m h) n.memory 0 (small n.memory m u) (ready n.memory m u)
-
-pub whole_fresh : (timeslice : ℕ) (n : NodePlan) (m : Machine) (wired : List Bool) → built_machine timeslice n ≡ Ok m → IsUnstarted n.memory m → length wired ≡ 4 → IsWhole (fresh_node m wired)
-whole_fresh timeslice n m wired h u four =
-    let s : IsSoundNode (fresh_node m wired) = sound_fresh timeslice n m wired h u in
-    record { claimed = s.claimed; apart = s.apart; counted = s.counted; four = four }
+-- no link of a processor that was built has noticed a byte
+pub unnoticed : (timeslice : ℕ) (n : NodePlan) (m : Machine) → built_machine timeslice n ≡ Ok m → HasNoticedNothing m.control
+unnoticed timeslice n m h = λ l b. ap (λ (e : LinkEnd). e.noticed) (quiet_link m l (built-links timeslice n m h))

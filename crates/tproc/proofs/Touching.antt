@@ -67,7 +67,7 @@ inside_from n span above within = or_right (span.size == 0) _ (rw (le-leb _ _ ab
 
 -- the words of a workspace that may be descheduled may be claimed, and nobody claims them
 pub claimable : (n w : ℕ) (c : Claims) → n ≤ 1048576 → w < 2 ^ 32 → deschedule_break n c w ≡ None → IsClaimableWorkspace w
-claimable n w c small word h = (omega (arith, one.0), omega (arith, three.0, three.1.0, three.1.1, one.1.0, one.1.1), word)
+claimable n w c small word h = (omega (arith, one.0), word, three.1.0, omega (arith, three.1.0, three.1.1, one.1.1))
   where
     bounds : (k : ℕ) → is_slot k ≡ true → (word_below w k % 4 ≡ 0) × ((mem_start ≤ word_below w k) × (word_below w k - most_neg + 4 ≤ n))
     bounds k s =

@@ -1,6 +1,6 @@
 //! The memory of a node with the claims on it.
 
-ghost use Rattle.std.specs.Prelude.{ℕ, [], ◌∷◌, ◌≡◌, ◌<◌, ◌≤◌, ◌+◌, ◌↔◌, length, not, true, None, IfOk, OnOk, Some, replicate, IsErrOf};
+ghost use Rattle.std.specs.Prelude.{ℕ, [], ◌∷◌, ◌≡◌, ◌<◌, ◌≤◌, ◌+◌, ◌↔◌, length, not, true, None, IfOk, OnOk, Some, is_some, replicate, IsErrOf};
 ghost use Rattle.tword.specs.Accesses.{Changing, Frees, IsMemorySize, no_claims, with_output, with_input, without_output, without_input};
 ghost use Rattle.tword.specs.declared.breaks.Break.TheVariants.{SavedWord};
 ghost use Rattle.tword.specs.Stores.{word_at, with_word, with_cells, cells, as_cells, byte_at};
@@ -274,9 +274,10 @@ impl Ram {
         self.memory.set_byte(address, byte);
     }
 
-    /// The byte at an address, and `None` outside the memory.
+    /// The byte at an address, and `None` outside the memory alone.
     pub fn byte_at(&self, address: Word) -> Option<u8>
-        ensures { result ≡ byte_at self.now.memory address }
+        ensures byte { result ≡ byte_at self.now.memory address }
+        ensures there { is_some result ≡ is_inside (length self.now.memory) (byte_span address) }
     {
         if FIRST_ADDRESS <= address.get() && address.get() - FIRST_ADDRESS < self.memory.size() {
             Some(self.memory.byte(address))

@@ -8,6 +8,8 @@ mod encodings;
 #[cfg(test)]
 mod events;
 #[cfg(test)]
+mod gates;
+#[cfg(test)]
 mod plans;
 #[cfg(test)]
 mod processors;

@@ -1,9 +1,8 @@
-//! Rounds of a net: what is refused, what is left where memory was refused, and when each worker enters.
+//! Rounds of a net: what is refused, and what is left where memory was refused.
 
-use crate::plans::{CODE, LOW, event, node, plan, transfer};
+use crate::plans::{event, transfer};
 use std::alloc::Global;
 use std::process::Abort;
-use std::sync::atomic::{AtomicU64, Ordering};
 use std::test::Fail;
 use std::thread::Threads;
 use tnet::Net;
@@ -17,6 +16,8 @@ use tword::Word;
 pub struct Open;
 
 impl Gate for Open {
+    ghost has_entered = { λ _ _ _. Unit {0} };
+
     fn enter(&self, _worker: usize, _round: u32) {}
 }
 
@@ -190,95 +191,5 @@ fn a_refused_run_stops_after_whole_rounds(rt: HostRuntime) -> Result<(), Fail> {
             assert!(rt; is_after_whole_rounds(&rt, alloc, &stopped));
         }
     }
-    Ok(())
-}
-
-/// Each of two workers raises its flag at its first entry, and looks for the other's.
-#[derive(Drop)]
-struct Flags {
-    first: AtomicU64,
-    second: AtomicU64,
-    first_saw: AtomicU64,
-    second_saw: AtomicU64,
-}
-
-/// Raises a flag that was down, and looks for another.
-fn look(mine: &AtomicU64, theirs: &AtomicU64, saw: &AtomicU64) {
-    if mine.swap(1, Ordering::SeqCst) == 1 {
-        return;
-    }
-    for _look in 0..1_000_000_000u32 {
-        if theirs.load(Ordering::SeqCst) == 1 {
-            saw.store(1, Ordering::SeqCst);
-            return;
-        }
-    }
-}
-
-impl Gate for Flags {
-    fn enter(&self, worker: usize, _round: u32) {
-        if worker == 0 {
-            look(&self.first, &self.second, &self.first_saw);
-        } else {
-            look(&self.second, &self.first, &self.second_saw);
-        }
-    }
-}
-
-#[test]
-fn two_workers_overlap(rt: HostRuntime) -> Result<(), Fail> {
-    let flags = Flags {
-        first: AtomicU64::new(0),
-        second: AtomicU64::new(0),
-        first_saw: AtomicU64::new(0),
-        second_saw: AtomicU64::new(0),
-    };
-    let alloc = rt.alloc();
-    if let Ok(net) = Net::build(alloc, transfer(alloc)?) {
-        let report = run_rounds(&rt, alloc, net, 20, 64, &[], 2, &flags).ok();
-        assert!(rt; report.is_some());
-    }
-    assert_eq!(rt; flags.first_saw.load(Ordering::SeqCst), 1);
-    assert_eq!(rt; flags.second_saw.load(Ordering::SeqCst), 1);
-    Ok(())
-}
-
-/// How often workers entered, and the greatest of their numbers.
-#[derive(Drop)]
-struct Entries {
-    entered: AtomicU64,
-    greatest: AtomicU64,
-}
-
-impl Gate for Entries {
-    fn enter(&self, worker: usize, _round: u32) {
-        self.entered.fetch_add(1, Ordering::SeqCst);
-        self.greatest.fetch_max(worker as u64, Ordering::SeqCst);
-    }
-}
-
-/// Seven nodes that run for ever, and three workers: parts of three, three and one.
-#[test]
-fn each_started_worker_enters_once_a_round(rt: HostRuntime) -> Result<(), Fail> {
-    let alloc = rt.alloc();
-    let entries = Entries {
-        entered: AtomicU64::new(0),
-        greatest: AtomicU64::new(0),
-    };
-    let mut nodes = Vec::new(alloc);
-    for _node in 0..7 {
-        let only = node(alloc, &[(CODE, &[0x60, 0x0e])], &[LOW])?;
-        nodes.push(only)?;
-    }
-    if let Ok(net) = Net::build(alloc, plan(alloc, 1_024, nodes, &[])?) {
-        let report = run_rounds(&rt, alloc, net, 5, 64, &[], 3, &entries).ok();
-        assert!(rt; report.is_some());
-        if let Some(report) = report {
-            assert!(rt; report.end == Ending::Rounds);
-            assert_eq!(rt; report.events.as_slice().len(), 5 * 7 * 64);
-        }
-    }
-    assert_eq!(rt; entries.entered.load(Ordering::SeqCst), 15);
-    assert_eq!(rt; entries.greatest.load(Ordering::SeqCst), 2);
     Ok(())
 }

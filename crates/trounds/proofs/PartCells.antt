@@ -1,7 +1,7 @@
 -- Room for messages, and runs one after another.
-use Rattle.std.proofs.Common.{◌≡◌, ◌≢◌, ℕ, zero, suc, ◌+◌, ◌-◌, ◌<◌, ◌≤◌, min, refl, sym, ap, ◌∙◌, List, [], ◌∷◌, ◌++◌, length, get_or, take, drop, set, map, Option, Some, Result, Ok, Err, IfSome, OnOk, ◌⊎◌, inl, inr, arith}
-use Rattle.std.proofs.lemmas.Bool.{cases_eq, cases_lt}
-use Rattle.std.proofs.lemmas.List.{take_more, get_or-drop, length-drop, take_min, drop-map, take-map, drop_all, map-set, get_or-set_same, get_or-set_other, get_or-map, length-map}
+use Rattle.std.proofs.Common.{◌≡◌, ◌≢◌, ℕ, zero, suc, ◌+◌, ◌-◌, ◌<◌, ◌≤◌, refl, sym, ap, ◌∙◌, List, length, get_or, set, map, Option, Some, Result, Ok, Err, IfSome, OnOk, ◌⊎◌, inl, inr, arith}
+use Rattle.std.proofs.lemmas.Bool.{cases_eq}
+use Rattle.std.proofs.lemmas.List.{map-set, get_or-set_same, get_or-set_other, get_or-map, length-map}
 use Rattle.tproc.specs.declared.offer.Offer.{Offer}
 use Rattle.tplan.specs.declared.event.Act.TheVariants as act
 use Rattle.trounds.specs.Parts.{Part, part_does, part_runs}

@@ -1,7 +1,7 @@
 -- Rounds on one list of nodes: the plain definition.
 -- Source: own choice.
-use Rattle.std.specs.Prelude.{ℕ, ◌≡◌, zero, suc, Bool, true, false, not, ◌&&◌, nat_lt, nat_le, List, [], ◌∷◌, ◌++◌, length, map, fold, position, Option, Some, None, is_some, if◌then◌else◌}
-use Rattle.std.specs.List.{list_any, list_all}
+use Rattle.std.specs.Prelude.{ℕ, ◌≡◌, zero, suc, Bool, true, false, not, ◌&&◌, nat_lt, nat_le, List, [], ◌∷◌, ◌++◌, length, fold, position, Option, Some, None, is_some, if◌then◌else◌}
+use Rattle.std.specs.List.{list_any}
 use Rattle.tplan.specs.declared.event.Act.{Act}
 use Rattle.tplan.specs.declared.event.Act.TheVariants.{Run, Send, Data, Take, Ack}
 use Rattle.tplan.specs.declared.event.Event.{Event}

@@ -9,9 +9,17 @@ use crate::report::Gate;
 use std::thread::{Threads, join_mut};
 use tplan::Hold;
 
-/// The part of one worker: each of its nodes in turn.
-fn do_part(holds: &[Hold], slice: u32, round: u32, part: &mut [Cell])
-    requires { All (IsReady slice) part.old }
+/// The part of one worker, which has entered: each of its nodes in turn.
+fn do_part<G: Gate>(
+    _gate: &G,
+    _worker: usize,
+    holds: &[Hold],
+    slice: u32,
+    round: u32,
+    part: &mut [Cell],
+)
+    requires entered { G.has_entered _gate.now _worker round }
+    requires ready { All (IsReady slice) part.old }
     ensures { parts_of part.new ≡ parts holds.now slice round (seats_of part.old) }
 {
     for place in 0..part.len() {
@@ -49,7 +57,7 @@ pub fn do_parts<R: Threads + Sync, G: Gate + Sync>(
 {
     if part.len() <= size {
         gate.enter(worker, round);
-        do_part(holds, slice, round, part);
+        do_part(gate, worker, holds, slice, round, part);
         return;
     }
     let half = half_of(part.len(), size);

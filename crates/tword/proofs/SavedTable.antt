@@ -1,5 +1,5 @@
 -- The table of saved words: what an empty slot tells, and how the counts follow the list.
-use Rattle.std.proofs.Common.{◌≡◌, ℕ, ◌+◌, ◌-◌, ◌*◌, ◌/◌, ◌%◌, ◌^◌, ◌<◌, ◌≤◌, Bool, true, false, cond, eqb, ltb, ◌||◌, ◌&&◌, not, ◌++◌, ◌⊎◌, inl, inr, List, [], ◌∷◌, length, get_or, reverse, replicate, refl, sym, ap, ◌∙◌, arith, eq-eqb}
+use Rattle.std.proofs.Common.{◌≡◌, ℕ, ◌+◌, ◌*◌, ◌/◌, ◌%◌, ◌<◌, ◌≤◌, Bool, true, false, cond, eqb, ltb, ◌||◌, ◌&&◌, not, ◌++◌, ◌⊎◌, inl, inr, List, [], ◌∷◌, length, get_or, reverse, replicate, refl, sym, ap, ◌∙◌, arith, eq-eqb}
 use Rattle.std.specs.Prelude.{Option, Some, None, is_some, IfSome}
 use Rattle.std.proofs.lemmas.Bool.{le-ltb, lt-ltb, ltb-true, ltb-false, ne_eqb, cases_eq, cases_lt, false≢true, and_parts, and_from}
 use Rattle.std.proofs.lemmas.List.Folds.{list_any_none, list_any_at}
@@ -28,9 +28,9 @@ is_slot-same a slot e = ap (λ b. one_if b) (eq-eqb (slot_of a) slot e)
 
 words_in-le : (slot w : ℕ) → words_in slot w ≤ 3
 words_in-le slot w =
-    let a = is_slot-le (w - 12) slot in
-    let b = is_slot-le (w - 8) slot in
-    let c = is_slot-le (w - 4) slot in
+    let a = is_slot-le (word_below w 3) slot in
+    let b = is_slot-le (word_below w 2) slot in
+    let c = is_slot-le (word_below w 1) slot in
     omega (arith, a, b, c)
 
 -- no count is large
@@ -46,32 +46,38 @@ enough_counts ws counts places i w is lt same slot in_table =
     let e : words_in slot (get_or ws i 0) ≡ words_in slot w = ap (words_in slot) same in
     omega (arith, one, e, is.counted slot in_table)
 
--- the least saved word of a workspace
-pub lowest_word : (w : ℕ) → IsClaimableWorkspace w → word_below w 3 ≡ w - 12
-lowest_word w is = omega arith
+-- the three saved words of a workspace follow one another
+pub words_follow : (w : ℕ) → IsClaimableWorkspace w → (word_below w 3 % 4 ≡ 0) × ((word_below w 2 ≡ word_below w 3 + 4) × (word_below w 1 ≡ word_below w 3 + 8))
+words_follow w is = (omega (arith, is), (omega (arith, is), omega (arith, is)))
 
--- the word k is one of those below a workspace, at this distance
-hit : (k w x : ℕ) → (w - x) / 4 ≡ k → is_slot (w - x) (k % 65536) ≡ 1
-hit k w x e = is_slot-same (w - x) (k % 65536) (ap (λ n. n % 65536) e)
+-- a word k at this address falls into its slot
+hit : (k a : ℕ) → a / 4 ≡ k → is_slot a (k % 65536) ≡ 1
+hit k a e = is_slot-same a (k % 65536) (ap (λ n. n % 65536) e)
 
 -- a span that meets the words of a workspace has one of them
 clash : (start size w : ℕ) → IsClaimableWorkspace w → ((k : ℕ) → start / 4 ≤ k → k < (start + size + 3) / 4 → words_in (k % 65536) w ≡ 0)
-    → 0 < size → start < w → w - 12 < start + size → ⊥
-clash start size w is none some below above = by (cases_lt (w - 12) start) (cases_lt start (w - 8)) (cases_lt start (w - 4))
+    → 0 < size → start < word_below w 3 + 12 → word_below w 3 < start + size → ⊥
+clash start size w is none some below above = by (cases_lt low start) (cases_lt start (low + 4)) (cases_lt start (low + 8))
   where
-    by : (w - 12 < start) ⊎ (start ≤ w - 12) → (start < w - 8) ⊎ (w - 8 ≤ start) → (start < w - 4) ⊎ (w - 4 ≤ start) → ⊥
-    by (inr low) b c =
-        let n : words_in ((w - 12) / 4 % 65536) w ≡ 0 = none ((w - 12) / 4) (omega arith) (omega arith) in
-        let h = hit ((w - 12) / 4) w 12 refl in omega (arith, n, h)
-    by (inl high) (inl low) c =
-        let n : words_in (start / 4 % 65536) w ≡ 0 = none (start / 4) (omega arith) (omega arith) in
-        let h = hit (start / 4) w 12 (omega arith) in omega (arith, n, h)
-    by (inl high) (inr mid) (inl low) =
-        let n : words_in (start / 4 % 65536) w ≡ 0 = none (start / 4) (omega arith) (omega arith) in
-        let h = hit (start / 4) w 8 (omega arith) in omega (arith, n, h)
-    by (inl high) (inr mid) (inr last) =
-        let n : words_in (start / 4 % 65536) w ≡ 0 = none (start / 4) (omega arith) (omega arith) in
-        let h = hit (start / 4) w 4 (omega arith) in omega (arith, n, h)
+    low : ℕ
+    low = word_below w 3
+
+    follow : (low % 4 ≡ 0) × ((word_below w 2 ≡ low + 4) × (word_below w 1 ≡ low + 8))
+    follow = words_follow w is
+
+    by : (low < start) ⊎ (start ≤ low) → (start < low + 4) ⊎ (low + 4 ≤ start) → (start < low + 8) ⊎ (low + 8 ≤ start) → ⊥
+    by (inr under) b c =
+        let n : words_in (low / 4 % 65536) w ≡ 0 = none (low / 4) (omega (arith, under)) (omega (arith, above)) in
+        let h = hit (low / 4) (word_below w 3) refl in omega (arith, n, h)
+    by (inl over) (inl first) c =
+        let n : words_in (start / 4 % 65536) w ≡ 0 = none (start / 4) (omega arith) (omega (arith, some)) in
+        let h = hit (start / 4) (word_below w 3) (omega (arith, over, first, follow.0)) in omega (arith, n, h)
+    by (inl over) (inr mid) (inl second) =
+        let n : words_in (start / 4 % 65536) w ≡ 0 = none (start / 4) (omega arith) (omega (arith, some)) in
+        let h = hit (start / 4) (word_below w 2) (omega (arith, mid, second, follow.0, follow.1.0)) in omega (arith, n, h)
+    by (inl over) (inr mid) (inr last) =
+        let n : words_in (start / 4 % 65536) w ≡ 0 = none (start / 4) (omega arith) (omega (arith, some)) in
+        let h = hit (start / 4) (word_below w 1) (omega (arith, last, below, follow.0, follow.1.1)) in omega (arith, n, h)
 
 -- a workspace none of whose words falls into the slots of a span
 apart_one : (start size w : ℕ) → IsClaimableWorkspace w → ((k : ℕ) → start / 4 ≤ k → k < (start + size + 3) / 4 → words_in (k % 65536) w ≡ 0)
@@ -81,14 +87,13 @@ apart_one start size w is none = by (overlap (record { start = start; size = siz
     by : (b : Bool) → overlap (record { start = start; size = size }) (saved_words w) ≡ b → b ≡ false
     by false e = refl
     by true e =
-        let low = lowest_word w is in
         let p = and_parts _ _ e in
         let q = and_parts _ _ p.0 in
         let r = and_parts _ _ q.0 in
         let some = ltb-true _ _ r.0 in
         let below = ltb-true _ _ q.1 in
         let above = ltb-true _ _ p.1 in
-        absurd (clash start size w is none some (omega (arith, low, below)) (omega (arith, low, above)))
+        absurd (clash start size w is none some below above)
 
 -- no workspace of the list meets a span whose slots are empty
 pub apart_all : (ws counts places : List ℕ) (start size : ℕ) → IsTable ws counts places
@@ -111,16 +116,14 @@ apart_word ws counts places start size is one empty =
     let e : k ≡ start / 4 = omega arith in rw e empty)
 
 -- a workspace is not in the list where the slot of the word below it is empty
-pub absent_by_count : (ws counts places : List ℕ) (w : ℕ) → IsTable ws counts places → get_or counts (slot_of ((w + 4294967292) % 2 ^ 32)) 0 ≡ 0 → list_any (λ v. eqb v w) ws ≡ false
+pub absent_by_count : (ws counts places : List ℕ) (w : ℕ) → IsTable ws counts places → get_or counts (slot_of (word_below w 1)) 0 ≡ 0 → list_any (λ v. eqb v w) ws ≡ false
 absent_by_count ws counts places w is empty =
     list_any_none (λ v. eqb v w) ws (λ i d lt.
     ne_eqb (get_or ws i d) w (λ e.
-    let claimable : IsClaimableWorkspace (get_or ws i d) = is.each i d lt in
-    let slot = slot_of ((w + 4294967292) % 2 ^ 32) in
+    let slot = slot_of (word_below w 1) in
     let one = get_or-le-sum_by (words_in slot) ws i d lt in
     let total = is.counted slot (omega arith) in
-    let below : (w + 4294967292) % 2 ^ 32 ≡ get_or ws i d - 4 = omega (arith, e, claimable) in
-    let h = is_slot-same (get_or ws i d - 4) slot (ap slot_of (sym below)) in
+    let h = is_slot-same (word_below (get_or ws i d) 1) slot (ap (λ v. slot_of (word_below v 1)) e) in
     omega (arith, one, total, empty, h)))
 
 -- a test is passed by some item where at least one is counted

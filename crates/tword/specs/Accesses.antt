@@ -3,7 +3,7 @@
 use Rattle.std.specs.Prelude.{ℕ, ◌≡◌, ◌≤◌, ◌<◌, ◌+◌, ◌%◌, ◌^◌, ◌&&◌, ◌==◌, not, [], Option, Some, None, Result, Ok, Err, replicate, slice_set}
 use Rattle.tword.specs.declared.breaks.Break.{Break}
 use Rattle.tword.specs.declared.span.Span.{Span}
-use Rattle.tword.specs.Words.{mem_start}
+use Rattle.tword.specs.Words.{mem_start, word_below}
 use Rattle.tword.specs.Claims.{Claims, has_saved}
 
 -- how many bytes a memory may have
@@ -35,9 +35,9 @@ without_input link claims = record claims { inputs = slice_set claims.inputs lin
 abbrev pub without_output : ℕ → Claims → Claims
 without_output link claims = record claims { outputs = slice_set claims.outputs link None }
 
--- a workspace whose saved words may be claimed: a word, and a multiple of 4, with room below it
+-- a workspace whose saved words may be claimed: a multiple of 4, and these words lie between MemStart and the last address
 abbrev pub IsClaimableWorkspace : ℕ → Type 0
-IsClaimableWorkspace w = (w % 4 ≡ 0) × (mem_start + 12 ≤ w) × (w < 2 ^ 32)
+IsClaimableWorkspace w = (w % 4 ≡ 0) × (w < 2 ^ 32) × (mem_start ≤ word_below w 3) × (word_below w 3 + 12 ≤ 2 ^ 32)
 
 -- the words of a workspace are free, and those of each other one as they were
 abbrev pub Frees : ℕ → Claims → Claims → Type 0

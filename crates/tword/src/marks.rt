@@ -1,6 +1,6 @@
 //! Who claims bytes of a memory.
 
-ghost use Rattle.std.specs.Prelude.{◌≡◌, ◌+◌, ◌<◌, IfOk, IfErr, None, length, true};
+ghost use Rattle.std.specs.Prelude.{◌≡◌, ◌+◌, ◌<◌, IfOk, IfErr, None, length, false, true};
 ghost use Rattle.tword.specs.Accesses.{Changing, Frees, IsClaimableWorkspace, no_claims, with_input, with_output, without_input, without_output};
 ghost use Rattle.tword.specs.Actions.{or_break};
 ghost use Rattle.tword.specs.Claims.{saving, saved_words, has_saved};
@@ -155,6 +155,7 @@ impl Marks {
     pub fn release_saved(&mut self, workspace: Word)
         ensures frees { Frees workspace self.old self.new }
         ensures counts { has_saved self.old workspace ≡ true → length self.new.saved + 1 ≡ length self.old.saved }
+        ensures same { has_saved self.old workspace ≡ false → self.new ≡ self.old }
         ensures inputs { self.new.inputs ≡ self.old.inputs }
         ensures outputs { self.new.outputs ≡ self.old.outputs }
     {

@@ -64,7 +64,7 @@ impl Saved {
         if place < self.workspaces.len() && self.workspaces[place] == workspace {
             return Some(place);
         }
-        if self.counts[slot_of(workspace.get().wrapping_sub(4))] == 0 {
+        if self.counts[slot_of(word_below(workspace, 1))] == 0 {
             return None;
         }
         position(self.workspaces.as_slice(), workspace)
@@ -108,11 +108,10 @@ impl Saved {
         requires apart { list_any (λ w. overlap (saved_words workspace) (saved_words w)) self.old ≡ false }
         ensures { self.new ≡ workspace ∷ self.old }
     {
-        let address = workspace.get();
-        count_up(&mut self.counts, address - 12);
-        count_up(&mut self.counts, address - 8);
-        count_up(&mut self.counts, address - 4);
-        put(&mut self.places, address, self.workspaces.len());
+        count_up(&mut self.counts, word_below(workspace, 3));
+        count_up(&mut self.counts, word_below(workspace, 2));
+        count_up(&mut self.counts, word_below(workspace, 1));
+        put(&mut self.places, workspace.get(), self.workspaces.len());
         self.workspaces.push_reserved(workspace);
     }
 
@@ -120,13 +119,13 @@ impl Saved {
     pub fn remove(&mut self, workspace: Word)
         ensures others { (v : ℕ) → list_any (λ w. w == v) self.new ≡ (not (v == workspace) && list_any (λ w. w == v) self.old) }
         ensures count { list_any (λ w. w == workspace) self.old ≡ true → length self.new + 1 ≡ length self.old }
+        ensures same { list_any (λ w. w == workspace) self.old ≡ false → self.new ≡ self.old }
     {
         if let Some(place) = self.place_of(workspace) {
             self.workspaces.swap_remove(place);
-            let address = workspace.get();
-            count_down(&mut self.counts, address - 12);
-            count_down(&mut self.counts, address - 8);
-            count_down(&mut self.counts, address - 4);
+            count_down(&mut self.counts, word_below(workspace, 3));
+            count_down(&mut self.counts, word_below(workspace, 2));
+            count_down(&mut self.counts, word_below(workspace, 1));
             put_back(&mut self.places, self.workspaces.as_slice(), place);
         }
     }
@@ -174,12 +173,21 @@ fn any_overlaps(list: &[Word], span: &Span) -> bool
     list.iter().any(|w| span.overlaps(&saved_words_of(*w)))
 }
 
+/// The address of the word so many words below a workspace.
+#[inline]
+fn word_below(workspace: Word, count: u32) -> u32
+    requires { count ≤ 3 }
+    ensures { result ≡ word_below workspace count }
+{
+    workspace.get().wrapping_sub(4 * count)
+}
+
 /// The address of the lowest of the three words below a workspace.
 #[inline]
 pub fn words_below(workspace: Word) -> Word
     ensures { result ≡ word_below workspace 3 }
 {
-    workspace.minus(Word::new(12))
+    Word::new(word_below(workspace, 3))
 }
 
 /// The three words below a workspace.

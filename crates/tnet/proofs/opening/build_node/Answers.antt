@@ -1,5 +1,4 @@
-use Rattle.std.proofs.Common.{ap, List, length, Bool}
-use Rattle.tnet.proofs.Starting.{good_segments, built_of, whole_fresh}
+use Rattle.tnet.proofs.Starting.{good_segments, built_of, unnoticed}
 use Rattle.tnet.proofs.opening.build_node.Goals as goal
 
 pub load_segments-requires-clause-fit : goal.load_segments-requires-clause-fit
@@ -7,7 +6,5 @@ load_segments-requires-clause-fit c = rw c.as_slice.ensures (good_segments c.arg
 
 pub new-requires : goal.new-requires
 new-requires c =
-    whole_fresh c.args.timeslice c.args.plan.now _ c.links_of.result
+    unnoticed c.args.timeslice c.args.plan.now _
     (built_of c.args.timeslice c.args.plan.now _ _ _ _ _ c.in_ok-processor.ensures.machine c.as_slice.ensures c.load_segments.ensures.loaded c.as_slice-2.ensures c.in-Ok.ensures.added)
-    c.in-Ok.ensures.still
-    (ap (λ (w : List Bool). length w) c.links_of.ensures)
