@@ -3,6 +3,7 @@
 ghost use Rattle.tproc.specs.Hidden.{FinishOutputIsBlind, NoticeIsBlind, StepIsBlind};
 ghost use Rattle.tproc.specs.Resting.{HaltingHalts, RestChangesNothing, StepIsThere};
 ghost use Rattle.tproc.specs.Keeping.{ClaimedBytesStand, ClaimsStayApart, StepsKeepPlaced};
+ghost use Rattle.tproc.specs.SavedWords.{EmptyIsThreaded, QueuesStayThreaded, SavedWordsStand};
 ghost use Rattle.tproc.specs.Selection.{FirstReadyIsSelected, SelectedIsTold};
 
 /// A step, a notice and the end of an output cannot see what the buffers of pending inputs hold.
@@ -34,4 +35,15 @@ pub fn claimed_bytes_stand()
 pub fn first_ready_guard_is_selected()
     ensures selected { FirstReadyIsSelected }
     ensures told { SelectedIsTold }
+{}
+
+/// The saved Iptr of each process that is queued or waits stands in each move, and so does its queue link, but for that of the last of a queue that another process joins.
+pub fn saved_words_stand()
+    ensures { SavedWordsStand }
+{}
+
+/// Whoever follows the queue links from the front of a queue finds the queue: so it is before there is a process, and after each move.
+pub fn queues_stay_threaded()
+    ensures first { EmptyIsThreaded }
+    ensures moves { QueuesStayThreaded }
 {}

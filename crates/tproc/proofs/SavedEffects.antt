@@ -1,0 +1,73 @@
+-- Decoding and local effects deschedule nobody and set no saved word.
+use Rattle.std.proofs.Common.{ℕ, ℤ, zero, suc, pos, Bool, true, false, Option, Some, None}
+use Rattle.std.specs.Prelude.{IfSome, if◌then◌else◌}
+use Rattle.tword.specs.Words.{plus, minus}
+use Rattle.tword.specs.declared.breaks.Break.TheVariants.{NoSuchOperation}
+use Rattle.tword.specs.Actions.{Action, answer, breaks}
+use Rattle.tcode.specs.declared.instruction.Function.{Function}
+use Rattle.tcode.specs.declared.instruction.Function.TheVariants as function
+use Rattle.tcode.specs.declared.instruction.Operation.{Operation}
+use Rattle.tcode.specs.declared.instruction.Operation.TheVariants as op
+use Rattle.tcode.specs.declared.instruction.Instruction.{Instruction as Decoded}
+use Rattle.tcode.specs.Chains.{Part, More, Last, part, is_listed, instruction, longest}
+use Rattle.tcode.specs.Table.{operation_at}
+use Rattle.tcode.specs.Decoding.{complete, fetch, decode}
+use Rattle.tcpu.specs.declared.registers.Registers.{Registers}
+use Rattle.tcpu.specs.Outcomes.{Outcome}
+use Rattle.tcpu.specs.Functions.{function_effect}
+use Rattle.tcpu.specs.Operations.{operation_effect, looped, is_positive_word}
+use Rattle.tcpu.specs.Effects.{local_or_left, selected_effect, effect_at, effect}
+use Rattle.tproc.proofs.SavedSets.{SetsNone}
+
+-- the bytes of an instruction
+complete-none : (rest : ℤ → Action Decoded) (length : ℕ) (p : Part) → ((w : ℤ) → SetsNone (rest w)) → SetsNone (complete rest length p)
+complete-none rest length (More w) h = h w
+complete-none rest length (Last f w) h = by (is_listed f w)
+  where
+    by : (b : Bool) → SetsNone (if b then answer (instruction f w length) else breaks NoSuchOperation)
+    by true = tt
+    by false = tt
+
+fetch-none : (left had address : ℕ) (value : ℤ) → SetsNone (fetch left had address value)
+fetch-none zero had address value = tt
+fetch-none (suc left) had address value = λ byte. complete-none (fetch left (suc had) (plus address 1)) (suc had) (part value byte) (λ w. fetch-none left (suc had) (plus address 1) w)
+
+pub decode-none : (iptr : ℕ) → SetsNone (decode iptr)
+unfolding decode
+decode-none iptr = fetch-none longest 0 iptr (pos 0)
+
+-- a function
+functions-none : (f : Function) (n : ℕ) (r : Registers) → SetsNone (function_effect f n r)
+unfolding function_effect
+functions-none function.Ldnl n r = λ _. tt
+functions-none function.Ldl n r = λ _. tt
+functions-none _ n r = tt
+
+looped-none : (left index : ℕ) (t : Bool) (r : Registers) → SetsNone (looped left index t r)
+looped-none left index true r = tt
+looped-none left index false r = tt
+
+-- a local operation
+operations-none : (o : Operation) (r : Registers) → IfSome (operation_effect o r) (λ x. SetsNone x)
+unfolding operation_effect
+operations-none op.Lb r = λ _. tt
+operations-none op.Ret r = λ _. tt
+operations-none op.Lend r = λ count index. looped-none (minus count 1) index (is_positive_word (minus count 1)) r
+operations-none _ r = tt
+
+local-none : (x : Option (Action Outcome)) (o : Operation) (b : Registers) → IfSome x (λ x. SetsNone x) → SetsNone (local_or_left x o b)
+local-none (Some x) o b h = h
+local-none None o b h = tt
+
+selected-none : (o : Option Operation) (b r : Registers) → SetsNone (selected_effect o b r)
+selected-none None b r = tt
+selected-none (Some o) b r = local-none (operation_effect o r) o b (operations-none o r)
+
+effect_at-none : (f : Function) (n : ℕ) (b r : Registers) → SetsNone (effect_at f n b r)
+effect_at-none function.Opr n b r = selected-none (operation_at n) b r
+effect_at-none f n b r = functions-none f n r
+
+-- the effect of an instruction
+pub effect-none : (i : Decoded) (r : Registers) → SetsNone (effect i r)
+unfolding effect
+effect-none i r = effect_at-none i.function i.operand r (record r { iptr = plus r.iptr i.length })
