@@ -1,10 +1,11 @@
-ghost use Rattle.std.specs.Prelude.{◌≡◌};
+ghost use Rattle.std.specs.Prelude.{◌≡◌, IfOk};
 ghost use Rattle.tlink.specs.Node.{NodeState, fresh_node};
 ghost use Rattle.tlink.specs.Events.{happens, node_answered, node_left_by, is_node_enabled};
 ghost use Rattle.tlink.specs.Whole.{HasNoticedNothing};
 
 use crate::event::{Emitted, NodeEvent, StepFault};
 use crate::links::Links;
+use std::alloc::{AllocError, Global};
 use std::marker::Model;
 use tproc::Processor;
 use tword::Break;
@@ -33,10 +34,21 @@ impl Node {
         requires { HasNoticedNothing processor.control }
         ensures { result ≡ fresh_node processor wired }
     {
-        processor.is_placed();
+        processor.know_placed();
         Node {
             links: Links::new(processor, wired),
         }
+    }
+
+    /// A node in the same state. It takes memory: that of a processor.
+    ///
+    /// # Errors
+    /// Where the allocator refuses.
+    pub fn try_copy(&self, alloc: Global) -> Result<Node, AllocError>
+        ensures { IfOk result (λ n. n ≡ self.now) }
+    {
+        let links = self.links.try_copy(alloc)?;
+        Ok(Node { links })
     }
 
     /// Does one event.

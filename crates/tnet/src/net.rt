@@ -16,7 +16,7 @@ use crate::faults::first_fault;
 use crate::opening::open;
 use crate::parts::Parts;
 use crate::wires::{NetParts, Wires};
-use std::alloc::Global;
+use std::alloc::{AllocError, Global};
 use std::marker::Model;
 use tlink::{Emitted, Node, StepFault};
 use tplan::{BuildFault, End, Event, Plan};
@@ -59,6 +59,18 @@ impl Net {
                 parts: open(alloc, plan)?,
             }),
         }
+    }
+
+    /// A net in the same state. It takes memory: as much as the net has.
+    ///
+    /// # Errors
+    /// Where the allocator refuses.
+    pub fn try_copy(&self, alloc: Global) -> Result<Net, AllocError>
+        ensures { IfOk result (λ net. net ≡ self.now) }
+    {
+        Ok(Net {
+            parts: self.parts.try_copy(alloc)?,
+        })
     }
 
     /// Does one event. An event on a node, a link or a packet that is not there is not enabled.

@@ -1,4 +1,4 @@
-ghost use Rattle.std.specs.Prelude.{◌≡◌, ◌<◌, ℕ, not, slice_set, Option, None};
+ghost use Rattle.std.specs.Prelude.{◌≡◌, ◌<◌, ℕ, not, slice_set, Option, None, IfOk};
 ghost use Rattle.std.specs.List.{list_all};
 ghost use Rattle.tlink.specs.Node.{NodeState};
 ghost use Rattle.tnet.specs.Quiet.{node_events, is_quiet, is_quiet_from};
@@ -9,6 +9,7 @@ ghost use Rattle.tnet.specs.Answers.{DoesAt, DoesNet};
 ghost use Rattle.tnet.specs.FarEnds.{IsLaidOut, box_in, with_box};
 
 use crate::inbox::Inbox;
+use std::alloc::{AllocError, Global};
 use std::marker::Model;
 use tlink::{Arrival, Emitted, Node, NodeEvent, Packet, StepFault};
 use tplan::{Act, End, Event, Wire};
@@ -91,6 +92,17 @@ fn end_of(node: u8, link: u8) -> End
     }
 }
 
+/// Nodes in the same states.
+fn copies(alloc: Global, nodes: &[Node]) -> Result<Vec<Node>, AllocError>
+    ensures { IfOk result (λ copies. copies.items ≡ nodes.now) }
+{
+    let mut copies = Vec::with_capacity(alloc, nodes.len())?;
+    for node in nodes {
+        copies.push(node.try_copy(alloc)?)?;
+    }
+    Ok(copies)
+}
+
 impl Parts {
     /// A net of these parts, with the table of its far ends.
     pub fn new(
@@ -129,6 +141,25 @@ impl Parts {
             inboxes,
         } = self;
         (nodes, wires, far, inboxes)
+    }
+
+    /// Parts in the same state.
+    ///
+    /// # Errors
+    /// Where the allocator refuses.
+    pub fn try_copy(&self, alloc: Global) -> Result<Parts, AllocError>
+        ensures { IfOk result (λ n. n ≡ self.now) }
+    {
+        let nodes = copies(alloc, self.nodes.as_slice())?;
+        let wires = Vec::from_slice(alloc, self.wires.as_slice())?;
+        let far = Vec::from_slice(alloc, self.far.as_slice())?;
+        let inboxes = Vec::from_slice(alloc, self.inboxes.as_slice())?;
+        Ok(Parts {
+            nodes,
+            wires: Items::new(wires),
+            far,
+            inboxes,
+        })
     }
 
     /// The event that a node is asked for, if its packet lies there.

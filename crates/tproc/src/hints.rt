@@ -25,6 +25,15 @@ impl Hints {
         Ok(Hints { slots })
     }
 
+    /// The same hints.
+    ///
+    /// # Errors
+    /// Where the allocator refuses.
+    pub fn try_copy(&self, alloc: Global) -> Result<Hints, AllocError> {
+        let slots = Vec::from_slice(alloc, self.slots.as_slice())?;
+        Ok(Hints { slots })
+    }
+
     /// Where a process was put, if it was and no other has taken its slot.
     #[inline]
     pub fn of(&self, process: Word) -> u16 {

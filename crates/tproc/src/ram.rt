@@ -10,7 +10,7 @@ ghost use Rattle.tword.specs.Words.{word_below};
 ghost use Rattle.tword.specs.Actions.{or_break, is_slot, unmet};
 
 use crate::words::below;
-use std::alloc::Global;
+use std::alloc::{AllocError, Global};
 use tword::{Break, Marks, Memory, MemoryFault, Span, Word};
 
 /// The least address.
@@ -61,6 +61,19 @@ impl Ram {
     {
         let memory = Memory::new(alloc, size)?;
         let marks = Marks::new(alloc)?;
+        Ok(Ram { memory, marks })
+    }
+
+    /// The same memory with the same claims.
+    ///
+    /// # Errors
+    /// Where the allocator refuses.
+    pub fn try_copy(&self, alloc: Global) -> Result<Ram, AllocError>
+        ensures memory { IfOk result (λ ram. ram.memory ≡ self.now.memory) }
+        ensures marks { IfOk result (λ ram. ram.marks ≡ self.now.marks) }
+    {
+        let memory = self.memory.try_copy(alloc)?;
+        let marks = self.marks.try_copy(alloc)?;
         Ok(Ram { memory, marks })
     }
 

@@ -44,6 +44,23 @@ impl RunQueue {
         })
     }
 
+    /// The same queue, with the same room.
+    ///
+    /// # Errors
+    /// Where the allocator refuses.
+    pub fn try_copy(&self, alloc: Global) -> Result<RunQueue, AllocError>
+        ensures { IfOk result (λ q. q ≡ self.now) }
+    {
+        let mut workspaces = VecDeque::with_capacity(alloc, MOST_PROCESSES)?;
+        for place in 0..self.workspaces.len() {
+            workspaces.push_back_reserved(self.workspaces[place]);
+        }
+        Ok(RunQueue {
+            workspaces,
+            gone: self.gone,
+        })
+    }
+
     /// How many are queued.
     #[inline]
     pub fn len(&self) -> usize

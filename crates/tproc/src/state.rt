@@ -60,6 +60,14 @@ impl Model for State {
     } };
 }
 
+/// A link where nothing is pending, noticed or remembered.
+const QUIET: LinkEnd = LinkEnd {
+    output: None,
+    input: None,
+    noticed: false,
+    remembered: None,
+};
+
 /// The workspace of a descriptor.
 #[inline]
 pub fn workspace_of(process: Word) -> Word
@@ -81,12 +89,6 @@ impl State {
         let low = RunQueue::new(alloc)?;
         let waiting = WaitingList::new(alloc)?;
         let hints = Hints::new(alloc)?;
-        let quiet = LinkEnd {
-            output: None,
-            input: None,
-            noticed: false,
-            remembered: None,
-        };
         Ok(State {
             registers: Registers {
                 a: zero,
@@ -104,9 +106,37 @@ impl State {
             low,
             waiting,
             hints,
-            links: [quiet; 4],
+            links: [QUIET; 4],
             timeslice,
             halted: false,
+        })
+    }
+
+    /// The same state, with the same room.
+    ///
+    /// # Errors
+    /// Where the allocator refuses.
+    pub fn try_copy(&self, alloc: Global) -> Result<State, AllocError>
+        ensures { IfOk result (λ s. s ≡ self.now) }
+    {
+        let high = self.high.try_copy(alloc)?;
+        let low = self.low.try_copy(alloc)?;
+        let waiting = self.waiting.try_copy(alloc)?;
+        let hints = self.hints.try_copy(alloc)?;
+        let mut links = [QUIET; 4];
+        links.copy_from_slice(&self.links);
+        Ok(State {
+            registers: self.registers,
+            current: self.current,
+            count: self.count,
+            interrupted: self.interrupted,
+            high,
+            low,
+            waiting,
+            hints,
+            links,
+            timeslice: self.timeslice,
+            halted: self.halted,
         })
     }
 

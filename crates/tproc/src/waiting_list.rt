@@ -47,6 +47,21 @@ impl WaitingList {
         })
     }
 
+    /// The same list, with the same room.
+    ///
+    /// # Errors
+    /// Where the allocator refuses.
+    pub fn try_copy(&self, alloc: Global) -> Result<WaitingList, AllocError>
+        ensures { IfOk result (λ w. w ≡ self.now) }
+    {
+        let mut entries = Vec::with_capacity(alloc, ENTRIES)?;
+        entries.extend_from_slice(self.entries.as_slice())?;
+        Ok(WaitingList {
+            entries,
+            count: self.count,
+        })
+    }
+
     /// How many wait.
     #[inline]
     pub fn len(&self) -> usize

@@ -87,6 +87,22 @@ impl LinkBuffers {
         }
     }
 
+    /// The same buffers.
+    pub fn copied(&self) -> LinkBuffers
+        ensures { result ≡ self.now }
+    {
+        let mut claimed = [None; 4];
+        claimed.copy_from_slice(&self.claimed);
+        let mut bounds = [NOTHING; 4];
+        bounds.copy_from_slice(&self.bounds);
+        LinkBuffers {
+            claimed,
+            bounds,
+            low: self.low,
+            high: self.high,
+        }
+    }
+
     /// Whether the bounds of all that is claimed show that the span has no byte in common with it.
     #[inline(always)]
     pub fn is_clear_of(&self, span: &Span) -> bool

@@ -12,7 +12,7 @@ use crate::link_buffers::LinkBuffers;
 use crate::saved::{Saved, words_below};
 use crate::span::Span;
 use crate::word::Word;
-use std::alloc::Global;
+use std::alloc::{AllocError, Global};
 use std::marker::Model;
 
 /// The bytes of a memory that are claimed: the buffers of pending link messages, and the saved words of processes that are queued or wait.
@@ -48,6 +48,20 @@ impl Marks {
             }),
             Err(_) => Err(MemoryFault::OutOfMemory),
         }
+    }
+
+    /// The same claims, with the same room.
+    ///
+    /// # Errors
+    /// Where the allocator refuses.
+    pub fn try_copy(&self, alloc: Global) -> Result<Marks, AllocError>
+        ensures { IfOk result (λ m. m ≡ self.now) }
+    {
+        Ok(Marks {
+            inputs: self.inputs.copied(),
+            outputs: self.outputs.copied(),
+            saved: self.saved.try_copy(alloc)?,
+        })
     }
 
     /// Whether the words of a workspace are saved.

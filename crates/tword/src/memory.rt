@@ -13,7 +13,7 @@ use crate::marks::Marks;
 use crate::span::Span;
 use crate::word::Word;
 use byteorder::{ByteOrder, LittleEndian};
-use std::alloc::Global;
+use std::alloc::{AllocError, Global};
 use std::marker::Model;
 
 /// The least address, as its unsigned reading (the Compiler Writer's Guide: MostNeg).
@@ -60,6 +60,18 @@ impl Memory {
             Ok(bytes) => Ok(Memory { bytes }),
             Err(_) => Err(MemoryFault::OutOfMemory),
         }
+    }
+
+    /// A memory of the same bytes.
+    ///
+    /// # Errors
+    /// Where the allocator refuses.
+    pub fn try_copy(&self, alloc: Global) -> Result<Memory, AllocError>
+        ensures { IfOk result (λ m. m ≡ self.now) }
+    {
+        Ok(Memory {
+            bytes: Vec::from_slice(alloc, self.bytes.as_slice())?,
+        })
     }
 
     /// How many bytes it has.

@@ -55,6 +55,21 @@ impl Saved {
         })
     }
 
+    /// The same workspaces, with room for 512.
+    pub fn try_copy(&self, alloc: Global) -> Result<Saved, AllocError>
+        ensures { IfOk result (λ s. s ≡ self.now) }
+    {
+        let mut workspaces = Vec::with_capacity(alloc, ROOM)?;
+        workspaces.extend_from_slice(self.workspaces.as_slice())?;
+        let counts = Vec::from_slice(alloc, self.counts.as_slice())?;
+        let places = Vec::from_slice(alloc, self.places.as_slice())?;
+        Ok(Saved {
+            workspaces,
+            counts,
+            places,
+        })
+    }
+
     /// Where a workspace stands in the list.
     fn place_of(&self, workspace: Word) -> Option<usize>
         ensures found { IfSome result (λ i. IsPlaceIn self.now i workspace) }
