@@ -4,10 +4,10 @@ use Rattle.std.proofs.Math.Seq.{take-add}
 use Rattle.std.proofs.Math.ListN.{drop_of_length-le}
 use Rattle.std.proofs.lemmas.List.{take-append-le, drop-append-le, take_all}
 use Rattle.std.proofs.lemmas.Bool.{ltb-false}
-use Rattle.std.proofs.KnownBytes.{Appends-trans, Appends-kept}
+use Rattle.std.proofs.KnownBytes.{Appends-trans}
 use Rattle.std.specs.Prelude.{MatchBool}
 use Rattle.std.specs.Borrow.{MutBor}
-use Rattle.std.specs.Io.KnownBytes.{Appends, Keeps}
+use Rattle.std.specs.Io.KnownBytes.{Appends}
 use Rattle.tfiles.specs.declared.writing.output.Output.{Output}
 use Rattle.tfiles.specs.declared.writing.output.Progress.{Progress}
 use Rattle.tfiles.specs.declared.writing.output.WriteFault.{WriteFault}
@@ -78,23 +78,6 @@ module _ {W : Type 0} {contents : W → Option (List ℕ)} where
             rest = λ f.
                 e ∙ ap (λ (xs : List ℕ). xs ++ bytes) (h.rest (ap (λ (q : Progress). q.failed) (sym p) ∙ f)) ∙ sym (drop-append-le h.cut.count text bytes h.cut.within)
                 ∙ ap (λ (n : ℕ). drop n (text ++ bytes)) (sym moved.1);
-          }
-
-  -- the writer is flushed
-  pub tells_flushed : (a b : Output W) → b.writer.ghost_name ≡ a.writer.ghost_name → Keeps (contents a.writer.now) (contents b.writer.now) → b.progress ≡ a.progress → b.waiting ≡ a.waiting → Tells contents a b []
-  tells_flushed a b same k p w =
-      record { same = same; goes_on = λ start text h. subst (λ (t : List ℕ). IsTold contents start t b) (sym (append-nil text)) (told start text h) }
-    where
-      told : (start : Option (List ℕ)) (text : List ℕ) → IsTold contents start text a → IsTold contents start text b
-      told start text h =
-          record {
-            cut = record {
-              count = h.cut.count;
-              within = h.cut.within;
-              out = Appends-kept start (contents a.writer.now) (contents b.writer.now) (take h.cut.count text) h.cut.out k;
-              told = ap (λ (q : Progress). q.written) p ∙ h.cut.told;
-            };
-            rest = λ f. w ∙ h.rest (ap (λ (q : Progress). q.failed) (sym p) ∙ f);
           }
 
   -- bytes that wait, or that come while none wait, are handed on

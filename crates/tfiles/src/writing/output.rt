@@ -6,12 +6,14 @@ ghost use Rattle.tfiles.specs.Outputs.{HandsOn, IsEnd, IsFresh, Tells};
 
 use crate::writing::waiting::Waiting;
 use std::io::Write;
+use thiserror::Error;
 
 /// How many bytes of a text may wait.
 const CAPACITY: usize = 8_192;
 
 /// A writer failed, or took nothing.
-#[derive(Clone, Copy, Debug, PartialEq, Eq)]
+#[derive(Clone, Copy, Debug, PartialEq, Eq, Error)]
+#[error("the output failed after {written} bytes")]
 pub struct WriteFault {
     /// How many bytes of the text it had taken; from 2^64 on, the greatest number.
     pub written: u64,
@@ -61,7 +63,7 @@ impl<'a, W: Write> Output<'a, W> {
         }
     }
 
-    /// The text ends: what waits goes out, and the writer is flushed.
+    /// The text ends: what waits goes out. To flush the writer is left to whoever opened it.
     ///
     /// # Errors
     /// Where the writer has failed, now or before.
@@ -69,14 +71,12 @@ impl<'a, W: Write> Output<'a, W> {
         ensures { IsEnd W.contents self.old self.new result }
     {
         self.send();
-        let written = self.progress.written;
-        if self.progress.failed {
-            return Err(WriteFault { written });
+        let Progress { written, failed } = self.progress;
+        if failed {
+            Err(WriteFault { written })
+        } else {
+            Ok(())
         }
-        if self.writer.flush().is_err() {
-            return Err(WriteFault { written });
-        }
-        Ok(())
     }
 
     /// Makes room for so many bytes, or as much as there is.
