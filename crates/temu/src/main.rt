@@ -10,21 +10,20 @@ use std::alloc::AllocError;
 use std::process::ExitCode;
 use std::{env, io};
 use tfiles::WriteFault;
-use ttext::{Fault, write_fault};
+use ttext::{Fault, end_command};
 use twords::{Command, CommandFault, read_words};
 
 fn main(rt: HostRuntime) -> ExitCode {
     let Ok(words) = given_words(&rt) else {
-        return tell(&rt, &Fault::Memory);
+        return end(&rt, Err(Fault::Memory));
     };
     match command(&rt, words.as_slice()) {
-        Ok(command) => match do_command(&rt, &command) {
-            Ok(has_frozen) => ExitCode::from(u8::from(has_frozen)),
-            Err(fault) => tell(&rt, &fault),
-        },
-        Err(fault) if fault.kind() == ErrorKind::OutOfMemory => tell(&rt, &Fault::Memory),
+        Ok(command) => end(&rt, do_command(&rt, &command)),
+        Err(fault) if fault.kind() == ErrorKind::OutOfMemory => end(&rt, Err(Fault::Memory)),
         Err(fault) => match fault.print(&rt) {
-            Err(_) if !fault.use_stderr() => tell(&rt, &Fault::Output(WriteFault { written: 0 })),
+            Err(_) if !fault.use_stderr() => {
+                end(&rt, Err(Fault::Output(WriteFault { written: 0 })))
+            }
             // Where standard error fails too, the status alone tells.
             _ => ExitCode::from(fault.exit_code() as u8),
         },
@@ -49,9 +48,7 @@ fn command(rt: &HostRuntime, words: &[String]) -> Result<Command, CommandFault> 
     read_words(rt.alloc(), texts.as_slice())
 }
 
-/// Tells a fault on standard error, and answers the status of the program.
-fn tell(rt: &HostRuntime, fault: &Fault) -> ExitCode {
-    // Where standard error fails too, the status alone tells.
-    let _ = write_fault(fault, &mut rt.stderr());
-    ExitCode::from(fault.status())
+/// Ends a command: tells its fault on standard error, if it has one, and answers the status of the program.
+fn end(rt: &HostRuntime, answer: Result<bool, Fault>) -> ExitCode {
+    ExitCode::from(end_command(answer, &mut rt.stderr()))
 }

@@ -3,3 +3,4 @@ pub mod Plans
 pub mod Outcomes
 pub mod Replays
 pub mod FaultLines
+pub mod Commands

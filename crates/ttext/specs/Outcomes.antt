@@ -1,6 +1,6 @@
 -- What a run of a wiring with its images answers and writes, and what it has in common with a replay.
 -- Source: own choice; the run itself is that of the net's definitions.
-use Rattle.std.specs.Prelude.{ℕ, suc, ◌≡◌, List, [], ◌∷◌, map, zip, Option, Some, None, Result, Ok, Err, IfOk, Bool, true, false}
+use Rattle.std.specs.Prelude.{ℕ, suc, ◌≡◌, List, [], ◌∷◌, map, zip, Option, Some, None, Result, Ok, Err, IsOk, IsOkAnd, Bool, true, false}
 use Rattle.std.specs.Io.KnownBytes.{Appends}
 use Rattle.tplan.specs.declared.event.Event.{Event}
 use Rattle.tplan.specs.declared.event.Hold.{Hold}
@@ -102,12 +102,12 @@ IsFaultOf due f = due ≡ Err f
 
 -- so for a text call, which may have failed to write the text that was due
 abbrev pub IsDue : {T : Type 0} → Result T Fault → Fault → Type 0
-IsDue due (fault.Output f) = IfOk due (λ _. Unit {0})
+IsDue due (fault.Output f) = IsOk due
 IsDue due f = IsFaultOf due f
 
 -- what has gone out where a text call answers a fault: the beginning of the text that was due, or nothing
 abbrev pub IsLeft : {T W : Type 0} → (W → Option (List ℕ)) → (T → List ℕ) → Result T Fault → W → W → Fault → Type 0
-IsLeft contents text due old new (fault.Output f) = IfOk due (λ r. IsCut (contents old) (contents new) (text r) f.written)
+IsLeft contents text due old new (fault.Output f) = IsOkAnd due (λ r. IsCut (contents old) (contents new) (text r) f.written)
 IsLeft contents text due old new f = new ≡ old
 
 -- the plans of nodes with the images of files

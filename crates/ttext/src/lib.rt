@@ -1,12 +1,14 @@
 //! Runs and replays of wirings and images, with the text that is printed of them, and the lines of faults.
 #![tactic(auto)]
 
+pub mod commands;
 pub mod fault;
 mod fault_line;
 mod opened;
 pub mod replaying;
 pub mod run;
 
+pub use commands::{dis_file, end_command, replay_files, run_files};
 pub use fault::Fault;
 pub use fault_line::write_fault;
 pub use replaying::replay_text;

@@ -76,7 +76,7 @@ fn node_plans(
 }
 
 /// The image of a node.
-fn image_of_node(alloc: Global, node: usize, file: &[u8]) -> Result<Image, Fault>
+pub(crate) fn image_of_node(alloc: Global, node: usize, file: &[u8]) -> Result<Image, Fault>
     ensures { MatchResult result (λ image. image_of file.now ≡ Ok image) (IsFaultOf (as_image node (image_of file.now))) }
 {
     match read_image(alloc, file) {
