@@ -1,0 +1,121 @@
+-- What holds of a worker between events: its nodes are where its events leave them, and each ring gave and got what they took and put.
+-- Source: own choice.
+use Rattle.std.specs.Prelude.{ℕ, ◌≡◌, ◌+◌, ◌*◌, ◌<◌, ◌≤◌, ◌⊎◌, IsTrue, List, [], ◌∷◌, ◌++◌, All, fold, length, Option, Some, None, is_some, slice_get, slice_set, slice_index_or, map, option_map}
+use Rattle.std.specs.declared.alloc.Global.{Global}
+use Rattle.tlink.specs.declared.event.NodeEvent.{NodeEvent}
+use Rattle.tlink.specs.declared.event.NodeEvent.TheVariants.{Run, Send, Data, Take, Ack}
+use Rattle.tlink.specs.Node.{NodeState}
+use Rattle.tlink.specs.Events.{happens, node_left_by}
+use Rattle.tplan.specs.declared.plan.End.{End}
+use Rattle.tplan.specs.declared.plan.Wire.{Wire}
+use Rattle.tnet.specs.Wires.{end_at, far_end}
+use Rattle.tnet.specs.Net.{NetState, inbox_at}
+use Rattle.tnet.specs.Sound.{IsSound}
+use Rattle.tfree.specs.declared.stamp.Sent.{Sent}
+use Rattle.tfree.specs.declared.stamp.OwnEvent.{OwnEvent}
+use Rattle.tfree.specs.declared.stamp.Told.{Told}
+use Rattle.tfree.specs.Ids.{RingId}
+use Rattle.tfree.specs.Lists.{AreDone, AreStamped, lying, puts, takes, takes_packet}
+use Rattle.tfree.specs.Told.{own_told}
+use Rattle.tfree.specs.Views.{InView, OutView, got_of, put_of, Share}
+use Rattle.tfree.specs.Logs.{notes_at}
+
+-- the nodes after an event, if its node is there
+abbrev pub after_own : List NodeState → OwnEvent → List NodeState
+after_own nodes d = by (slice_get nodes d.node)
+  where
+    by : Option NodeState → List NodeState
+    by None = nodes
+    by (Some node) = slice_set nodes d.node (node_left_by node (happens d.event node))
+
+-- the nodes after some events
+abbrev pub nodes_after : List NodeState → List OwnEvent → List NodeState
+nodes_after nodes ds = fold after_own nodes ds
+
+-- what lay at the opening at the end that a link leads to, and then what the events put there
+abbrev pub put_to : NetState → End → List OwnEvent → List Sent
+put_to opened f ds = by (far_end opened.wires f)
+  where
+    by : Option End → List Sent
+    by None = []
+    by (Some e) = lying (inbox_at opened e) ++ puts (Some f) e opened.nodes ds
+
+-- the stamp of the last event, and 0 before the first
+abbrev pub last_stamp : ℕ → List OwnEvent → ℕ
+last_stamp last [] = last
+last_stamp last (d ∷ ds) = last_stamp d.stamp ds
+
+-- what one event told, and then the rest
+abbrev pub kept_rest : List Wire → OwnEvent → Option NodeState → (NodeState → List Told) → List Told
+kept_rest wires d None rest = []
+kept_rest wires d (Some node) rest = notes_at d.stamp (own_told wires d.node node (happens d.event node)) ++ rest node
+
+-- what events told, each note with the stamp of its event
+abbrev pub kept_notes : List Wire → List NodeState → List OwnEvent → List Told
+kept_notes wires nodes [] = []
+kept_notes wires nodes (d ∷ ds) =
+    kept_rest wires d (slice_get nodes d.node) (λ node. kept_notes wires (slice_set nodes d.node (node_left_by node (happens d.event node))) ds)
+
+-- a node is one of the worker's
+abbrev pub IsMine : Share → ℕ → Type 0
+IsMine s n = (s.first ≤ n) × (n < s.first + s.owned)
+
+-- the place of a link of the worker's i-th node
+abbrev pub link_place : ℕ → ℕ → ℕ
+link_place i l = 4 * i + l
+
+-- the end of a link of the worker's i-th node
+abbrev pub own_end : Share → ℕ → ℕ → End
+own_end s i l = end_at (s.first + i) l
+
+-- each link with a wire has a ring to take from and one to put into, and where both ends of a wire are the worker's, they are ends of one ring
+pub record IsShare (s : Share) : Type 0 where
+  pub sound : IsSound s.opened
+  pub few : length s.opened.nodes ≤ 64
+  pub within : s.first + s.owned ≤ length s.opened.nodes
+  pub ins_are : length s.ins ≡ 4 * s.owned
+  pub outs_are : length s.outs ≡ 4 * s.owned
+  pub wired_in : (i l : ℕ) → i < s.owned → l < 4 → is_some (slice_index_or s.ins (link_place i l) None) ≡ is_some (far_end s.opened.wires (own_end s i l))
+  pub wired_out : (i l : ℕ) → i < s.owned → l < 4 → is_some (slice_index_or s.outs (link_place i l) None) ≡ is_some (far_end s.opened.wires (own_end s i l))
+  pub own : (i l j k : ℕ) → i < s.owned → l < 4 → j < s.owned → k < 4 → far_end s.opened.wires (own_end s i l) ≡ Some (own_end s j k)
+      → slice_index_or s.ins (link_place i l) None ≡ slice_index_or s.outs (link_place j k) None
+
+-- the link of an event, and 0 for a run
+abbrev pub link_of : NodeEvent → ℕ
+link_of Run = 0
+link_of (Send l) = l
+link_of (Data l byte last) = l
+link_of (Take l) = l
+link_of (Ack l) = l
+
+-- what a worker keeps
+pub record Kept (s : Share) (nodes : List NodeState) (clock : ℕ) (ins : List (Option InView)) (outs : List (Option OutView)) (events : List OwnEvent) (told : List Told) : Type 0 where
+  pub counted : length nodes ≡ s.owned
+  -- its events were enabled one after another, and left its nodes as they are
+  pub done : AreDone s.opened.nodes events (nodes_after s.opened.nodes events)
+  pub left : (i : ℕ) → i < s.owned → slice_get (nodes_after s.opened.nodes events) (s.first + i) ≡ slice_get nodes i
+  pub mine : All (λ d. IsMine s d.node) events
+  pub small : All (λ d. link_of d.event < 4) events
+  -- what was taken from each ring, and what was put into it, is what the events took and put
+  pub got : (i l : ℕ) → i < s.owned → l < 4 → got_of (slice_index_or ins (link_place i l) None) ≡ takes (own_end s i l) events
+  pub put : (i l : ℕ) → i < s.owned → l < 4 → put_of (slice_index_or outs (link_place i l) None) ≡ put_to s.opened (own_end s i l) events
+  pub clock_is : clock ≡ last_stamp 0 events
+  pub stamped : AreStamped 0 events
+  pub unstamped : All (λ d. IsTrue (takes_packet d.event) ⊎ (d.taken ≡ 0)) events
+  pub told_is : told ≡ kept_notes s.opened.wires s.opened.nodes events
+
+-- the identities of the rings
+abbrev pub in_ids : List (Option InView) → List (Option (RingId Global))
+in_ids xs = map (option_map (λ (v : InView). v.id)) xs
+
+abbrev pub out_ids : List (Option OutView) → List (Option (RingId Global))
+out_ids xs = map (option_map (λ (v : OutView). v.id)) xs
+
+-- a share by its parts
+abbrev pub share_with : (number count first owned : ℕ) → NetState → List (Option InView) → List (Option OutView) → Share
+share_with number count first owned opened ins outs = record { number = number; count = count; first = first; owned = owned; opened = opened; ins = in_ids ins; outs = out_ids outs }
+
+-- the place of an end among the worker's links, if it is one of them
+pub record IsPlaceOf (s : Share) (far : Option End) (own : Option ℕ) : Type 0 where
+  pub there : (q : ℕ) → own ≡ Some q → (j : ℕ) × (k : ℕ) × (far ≡ Some (own_end s j k)) × (j < s.owned) × (k < 4) × (q ≡ link_place j k)
+  pub none : own ≡ None → (f : End) → far ≡ Some f → IsMine s f.node → ⊥

@@ -1,0 +1,74 @@
+-- Workers that come from one opening, and their lists by their numbers.
+-- Source: own choice.
+use Rattle.std.specs.Prelude.{ℕ, ◌≡◌, ◌≢◌, ◌+◌, ◌*◌, ◌-◌, ◌<◌, ◌==◌, min, All, List, [], ◌∷◌, length, map, Option, Some, None, slice_get, slice_index_or, if◌then◌else◌}
+use Rattle.tplan.specs.declared.plan.End.{End}
+use Rattle.tnet.specs.Wires.{far_end}
+use Rattle.tnet.specs.Net.{NetState}
+use Rattle.tplan.specs.declared.event.Event.{Event}
+use Rattle.tplan.specs.declared.event.Note.{Note}
+use Rattle.tfree.specs.declared.stamp.OwnEvent.{OwnEvent}
+use Rattle.tfree.specs.Lists.{WorkerLog, lists_of}
+use Rattle.tfree.specs.Gathered.{IsGathered}
+use Rattle.tfree.specs.Shares.{share, first_nodes}
+use Rattle.tfree.specs.Views.{Share, View}
+use Rattle.tfree.specs.Kept.{nodes_after, IsMine, link_place}
+
+-- the first node of a worker, of so many nodes and workers; that of the next one is where its nodes end
+abbrev pub first_of : (nodes workers k : ℕ) → ℕ
+first_of nodes workers k = min nodes (k * share nodes workers)
+
+-- the share of the worker with number k
+pub record IsShareOf (opened : NetState) (count k : ℕ) (s : Share) : Type 0 where
+  pub number : s.number ≡ k
+  pub all : s.count ≡ count
+  pub net : s.opened ≡ opened
+  pub first : s.first ≡ first_of (length opened.nodes) count k
+  pub last : s.first + s.owned ≡ first_of (length opened.nodes) count (k + 1)
+
+-- the shares of all workers of an opening: the two ends of each wire have ends of one ring
+pub record AreShares (opened : NetState) (o : List Share) : Type 0 where
+  pub each : (k : ℕ) (s : Share) → slice_get o k ≡ Some s → IsShareOf opened (length o) k s
+  pub some : 0 < length o
+  pub rings : (e f : End) (k m : ℕ) (s t : Share) → far_end opened.wires e ≡ Some f → slice_get o k ≡ Some s → IsMine s e.node → slice_get o m ≡ Some t → IsMine t f.node
+      → slice_index_or s.ins (link_place (e.node - s.first) e.link) None ≡ slice_index_or t.outs (link_place (f.node - t.first) f.link) None
+
+-- no two are equal
+abbrev pub AreApart : List ℕ → Type 0
+AreApart [] = Unit {0}
+AreApart (x ∷ xs) = All (λ y. y ≢ x) xs × AreApart xs
+
+-- workers of one opening: each has the share of its number, and no two have one number
+pub record AreOf (opened : NetState) (o : List Share) (shares : List Share) : Type 0 where
+  pub opening : AreShares opened o
+  pub each : All (λ s. slice_get o s.number ≡ Some s) shares
+  pub apart : AreApart (map (λ (s : Share). s.number) shares)
+
+-- what workers have of their opening: only what never changes counts
+abbrev pub share_of : View → Share
+share_of v = v.share
+
+abbrev pub ComeFromOneOpen : List View → Type 0
+ComeFromOneOpen ws = (opened : NetState) × (o : List Share) × AreOf opened o (map share_of ws)
+
+-- the worker of a number
+abbrev pub worker_of : ℕ → List View → Option View
+worker_of n [] = None
+worker_of n (w ∷ ws) = if w.share.number == n then Some w else worker_of n ws
+
+-- its events
+abbrev pub events_of : Option View → List OwnEvent
+events_of None = []
+events_of (Some v) = v.events
+
+-- its log
+abbrev pub log_at : NetState → ℕ → List OwnEvent → WorkerLog
+log_at opened k events = record { number = k; opened = opened.nodes; left = nodes_after opened.nodes events; events = events }
+
+-- the logs of so many workers, by their numbers
+abbrev pub logs_by : NetState → ℕ → (ℕ → List OwnEvent) → List WorkerLog
+logs_by opened count events = map (λ k. log_at opened k (events k)) (first_nodes count)
+
+-- what a gathering of workers gives: the merge of all their lists is a run of the packet machine from the opened net to the net given back, with its notes
+abbrev pub Gathers : List View → List Event → List Note → NetState → Type 0
+Gathers ws events notes net =
+    (opened : NetState) × (o : List Share) × AreOf opened o (map share_of ws) × IsGathered opened (lists_of (logs_by opened (length o) (λ k. events_of (worker_of k ws)))) events notes net

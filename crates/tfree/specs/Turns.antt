@@ -1,0 +1,132 @@
+-- One turn of a worker, as what it adds to its list of events. What it takes from a ring that another worker fills is free; whether it emits into a ring that another worker empties is free once two packets were put there, those at the opening included. Nothing else is.
+-- Source: own choice.
+use Rattle.std.specs.Prelude.{ℕ, zero, suc, ◌≡◌, ◌+◌, ◌<◌, ◌≤◌, ◌⊎◌, Bool, true, false, IsTrue, List, [], ◌∷◌, ◌++◌, length, Some, slice_get}
+use Rattle.tlink.specs.declared.event.NodeEvent.{NodeEvent}
+use Rattle.tlink.specs.declared.event.NodeEvent.TheVariants.{Run, Send, Take}
+use Rattle.tlink.specs.Node.{NodeState}
+use Rattle.tlink.specs.Events.{is_node_enabled}
+use Rattle.tplan.specs.declared.plan.End.{End}
+use Rattle.tnet.specs.Wires.{end_at, far_end}
+use Rattle.tfree.specs.declared.stamp.Sent.{Sent}
+use Rattle.tfree.specs.declared.stamp.OwnEvent.{OwnEvent}
+use Rattle.tfree.specs.Lists.{takes}
+use Rattle.tfree.specs.Lists.{event_taking}
+use Rattle.tfree.specs.Views.{Share, View}
+use Rattle.tfree.specs.Kept.{nodes_after, put_to, IsMine}
+
+-- a phase leads from the events so far to those after it; where it did not run to its end, it may have stopped anywhere
+abbrev pub Phase : Type 1
+Phase = List OwnEvent → Bool → List OwnEvent → Type 0
+
+-- a step adds one event
+abbrev pub Step : Type 1
+Step = List OwnEvent → List OwnEvent → Type 0
+
+module _ (s : Share) where
+  -- an event is enabled at a node after these events
+  abbrev pub IsEnabled : ℕ → NodeEvent → List OwnEvent → Type 0
+  IsEnabled n e es = (node : NodeState) × (slice_get (nodes_after s.opened.nodes es) n ≡ Some node) × (is_node_enabled e node ≡ true)
+
+  -- this event of a node is done
+  pub record Does (n : ℕ) (e : NodeEvent) (es es' : List OwnEvent) : Type 0 where
+    pub stamp : ℕ
+    pub taken : ℕ
+    pub enabled : IsEnabled n e es
+    pub more : es' ≡ es ++ record { stamp = stamp; node = n; event = e; taken = taken } ∷ []
+
+  -- the wire of a link leads to this end, and the worker has both
+  abbrev pub IsInner : End → End → Type 0
+  IsInner e f = (far_end s.opened.wires e ≡ Some f) × IsMine s f.node
+
+  -- of the ring that leads to an end from another, both of them the worker's: this packet lies in front
+  abbrev pub LiesInFront : (e f : End) → Sent → List OwnEvent → Type 0
+  LiesInFront e f p es = (rest : List Sent) × (takes e es ++ p ∷ rest ≡ put_to s.opened f es)
+
+  -- there is room in the ring that leads from an end to another: fewer than two lie there
+  abbrev pub HasPlace : (f e : End) → List OwnEvent → Type 0
+  HasPlace f e es = length (put_to s.opened f es) < length (takes e es) + 2
+
+  -- a packet of a link is taken; of an inner ring it is the front one
+  pub record Receives (n l : ℕ) (es es' : List OwnEvent) : Type 0 where
+    pub packet : Sent
+    pub does : Does n (event_taking l packet.packet) es es'
+    pub front : (f : End) → IsInner (end_at n l) f → LiesInFront (end_at n l) f packet es
+
+  -- a packet of an inner ring is due: it lies in front, and its event is enabled
+  abbrev pub IsPacketDue : (n l : ℕ) → List OwnEvent → Type 0
+  IsPacketDue n l es = (f : End) × (p : Sent) × IsInner (end_at n l) f × LiesInFront (end_at n l) f p es × IsEnabled n (event_taking l p.packet) es
+
+  -- an event of a link that emits is done; into an inner ring only where it has room
+  pub record Emits (n l : ℕ) (e : NodeEvent) (es es' : List OwnEvent) : Type 0 where
+    pub does : Does n e es es'
+    pub room : (f : End) → IsInner (end_at n l) f → HasPlace (end_at n l) f es
+
+  -- room is certain: fewer than two were ever put there, or the ring is an inner one and fewer than two lie there
+  abbrev pub IsRoomCertain : (n l : ℕ) → List OwnEvent → Type 0
+  IsRoomCertain n l es = (length (put_to s.opened (end_at n l) es) < 2) ⊎ ((f : End) × IsInner (end_at n l) f × HasPlace (end_at n l) f es)
+
+  -- an event that emits is due
+  abbrev pub IsEmissionDue : (n l : ℕ) → NodeEvent → List OwnEvent → Type 0
+  IsEmissionDue n l e es = IsEnabled n e es × IsRoomCertain n l es
+
+-- so many steps
+abbrev pub Times : ℕ → Step → Step
+Times zero step es es' = es' ≡ es
+Times (suc k) step es es' = (mid : List OwnEvent) × Times k step es mid × step mid es'
+
+-- as many steps as are due, up to a number; not more than that number, and more only where a step is free
+abbrev pub UpTo : ℕ → Step → (List OwnEvent → Type 0) → Phase
+UpTo most step IsDue es whole es' = (k : ℕ) × (k ≤ most) × Times k step es es' × ((k ≡ most) ⊎ (IsTrue whole → IsDue es' → ⊥))
+
+-- a phase, and then another
+abbrev pub Then : Phase → Phase → Phase
+Then first second es whole es' = ((whole ≡ false) × first es false es') ⊎ ((mid : List OwnEvent) × first es true mid × second mid whole es')
+
+-- the four links, one after another
+abbrev pub OverLinks : (ℕ → Phase) → Phase
+OverLinks phase = Then (phase 0) (Then (phase 1) (Then (phase 2) (phase 3)))
+
+module _ (s : Share) where
+  -- at most two packets of a link
+  abbrev pub packets_of : (n l : ℕ) → Phase
+  packets_of n l = UpTo 2 (Receives s n l) (IsPacketDue s n l)
+
+  -- an event of a link that emits, at most once
+  abbrev pub emission_of : (n l : ℕ) → NodeEvent → Phase
+  emission_of n l e = UpTo 1 (Emits s n l e) (IsEmissionDue s n l e)
+
+  -- at most so many runs
+  abbrev pub runs_of : (slice n : ℕ) → Phase
+  runs_of slice n = UpTo slice (Does s n Run) (IsEnabled s n Run)
+
+  -- what came, over all links; the bytes that wait; the next bytes to send
+  abbrev pub all_packets : ℕ → Phase
+  all_packets n = OverLinks (packets_of n)
+
+  abbrev pub all_takes : ℕ → Phase
+  all_takes n = OverLinks (λ l. emission_of n l (Take l))
+
+  abbrev pub all_sends : ℕ → Phase
+  all_sends n = OverLinks (λ l. emission_of n l (Send l))
+
+  -- the part of one node
+  abbrev pub NodeTurn : ℕ → ℕ → Phase
+  NodeTurn slice n = Then (all_packets n) (Then (all_takes n) (Then (runs_of slice n) (all_sends n)))
+
+  -- the first nodes of the worker, each to its end
+  abbrev pub FirstNodes : ℕ → ℕ → Step
+  FirstNodes slice zero es es' = es' ≡ es
+  FirstNodes slice (suc k) es es' = (mid : List OwnEvent) × FirstNodes slice k es mid × NodeTurn slice (s.first + k) mid true es'
+
+  -- a turn: all nodes of the worker; or its beginning, which stops within a node
+  abbrev pub IsTurn : ℕ → Phase
+  IsTurn slice es true es' = FirstNodes slice s.owned es es'
+  IsTurn slice es false es' = (k : ℕ) × (k < s.owned) × ((mid : List OwnEvent) × FirstNodes slice k es mid × NodeTurn slice (s.first + k) mid false es')
+
+-- a worker keeps its share, and a phase leads from its list before to its list after
+abbrev pub Phased : (Share → Phase) → View → Bool → View → Type 0
+Phased phase v whole w = (w.share ≡ v.share) × phase v.share v.events whole w.events
+
+-- what the list held is its beginning
+abbrev pub Extends : List OwnEvent → List OwnEvent → Type 0
+Extends es es' = (more : List OwnEvent) × (es' ≡ es ++ more)

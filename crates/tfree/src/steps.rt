@@ -1,0 +1,152 @@
+//! One event of a node at its rings: it takes from a ring where a packet is seen, and puts into one where room is
+//! seen.
+ghost use Rattle.std.specs.Prelude.{◌≡◌, ◌+◌, ◌<◌, [], ◌∷◌, ◌++◌, ℕ, length, map, option_map, nat_lt, slice_get, IsTrue, IfSome, IsSome, Ok, true, false, Option, Some, None, MatchResult, List};
+ghost use Rattle.rtrb.specs.Ring.{known_items, known_free};
+ghost use Rattle.tlink.specs.declared.event.NodeEvent.TheVariants.{Run};
+ghost use Rattle.tlink.specs.Events.{happens, is_node_enabled};
+ghost use Rattle.tfree.specs.Lists.{Sent as Packets};
+ghost use Rattle.tfree.specs.Ends.{in_view, out_view, ins_view, outs_view, IsFront, HasFree};
+ghost use Rattle.tfree.specs.Views.{InView, OutView, got_of, put_of, with_put};
+ghost use Rattle.tfree.specs.Logs.{log_view, Whether, sent_as};
+ghost use Rattle.tfree.specs.Steps.{SameRing, SameRingBack, Received, NoneDue, Emitted as Put, Ran, HasRoom};
+
+use crate::ends::{InEnd, OutEnd};
+use crate::log::{Log, TurnFault, act, receive};
+use crate::stamp::Sent;
+use tlink::{Node, NodeEvent, Packet};
+use tplan::End;
+
+/// The oldest packet that is seen in a ring. Where its other end is at hand, at the place `own` of `outs`, none is
+/// missed.
+fn look(end: &mut InEnd, outs: &mut Vec<Option<OutEnd>>, own: Option<usize>) -> Option<Sent>
+    requires { SameRing own (in_view end.old) (outs_view outs.old.items) }
+    ensures same { in_view end.new ≡ in_view end.old }
+    ensures outs { outs_view outs.new.items ≡ outs_view outs.old.items }
+    ensures front { IfSome result (λ p. IsFront p (known_items end.new.consumer)) }
+    ensures all { (q : ℕ) (o : OutView) → own ≡ Some q → slice_get (outs_view outs.old.items) q ≡ Some (Some o)
+        → ((in_view end.old).got ++ known_items end.new.consumer ≡ o.put) × (result ≡ None → known_items end.new.consumer ≡ []) }
+{
+    let Some(place) = own else {
+        return end.look();
+    };
+    match &mut outs[place] {
+        Some(out) => end.look_beside(out),
+        None => end.look(),
+    }
+}
+
+/// The packet in front of the ring of a link is taken, if one is seen and its event is enabled.
+pub fn receive_at(
+    node: &mut Node,
+    slot: &mut Option<InEnd>,
+    outs: &mut Vec<Option<OutEnd>>,
+    log: &mut Log,
+    own: Option<usize>,
+    number: u8,
+    link: u8,
+) -> Result<bool, TurnFault>
+    requires { (v : InView) → option_map in_view slot.old ≡ Some v → SameRing own v (outs_view outs.old.items) }
+    ensures outs { outs_view outs.new.items ≡ outs_view outs.old.items }
+    ensures did { Whether result
+        (Received number link own node.old node.new (log_view log.old) (log_view log.new) (option_map in_view slot.old) (option_map in_view slot.new) (outs_view outs.old.items))
+        ((node.new ≡ node.old) × (log_view log.new ≡ log_view log.old) × (option_map in_view slot.new ≡ option_map in_view slot.old)) }
+    ensures rests { result ≡ Ok false → NoneDue link own node.old (option_map in_view slot.old) (outs_view outs.old.items) }
+{
+    match slot {
+        None => Ok(false),
+        Some(end) => match look(end, outs, own) {
+            None => Ok(false),
+            Some(front) => receive(node, end, log, number, link, front),
+        },
+    }
+}
+
+/// Whether a ring has room, if there is a ring. Where its other end is at hand, at the place `own` of `ins`, the
+/// answer is exact.
+fn room(slot: &mut Option<OutEnd>, ins: &mut Vec<Option<InEnd>>, own: Option<usize>) -> bool
+    requires { (o : OutView) → option_map out_view slot.old ≡ Some o → SameRingBack own o (ins_view ins.old.items) }
+    ensures same { option_map out_view slot.new ≡ option_map out_view slot.old }
+    ensures ins { ins_view ins.new.items ≡ ins_view ins.old.items }
+    ensures room { IsTrue result → HasFree slot.new }
+    ensures exact { HasRoom own (option_map out_view slot.old) (ins_view ins.old.items) result }
+{
+    match slot {
+        None => true,
+        Some(out) => room_of(out, ins, own),
+    }
+}
+
+/// Whether a ring has room.
+fn room_of(out: &mut OutEnd, ins: &mut Vec<Option<InEnd>>, own: Option<usize>) -> bool
+    requires { SameRingBack own (out_view out.old) (ins_view ins.old.items) }
+    ensures same { out_view out.new ≡ out_view out.old }
+    ensures ins { ins_view ins.new.items ≡ ins_view ins.old.items }
+    ensures room { IsTrue result → 0 < known_free out.new.producer }
+    ensures exact { HasRoom own (Some (out_view out.old)) (ins_view ins.old.items) result }
+{
+    let Some(place) = own else {
+        return out.has_room();
+    };
+    match &mut ins[place] {
+        Some(end) => out.has_room_beside(end),
+        None => out.has_room(),
+    }
+}
+
+/// A packet goes into a ring, if there is one.
+fn put(slot: &mut Option<OutEnd>, stamp: u64, packet: Option<Packet>)
+    requires { HasFree slot.old }
+    ensures { option_map out_view slot.new ≡ option_map (with_put (sent_as packet stamp)) (option_map out_view slot.old) }
+{
+    match slot {
+        None => {}
+        Some(out) => match packet {
+            None => {}
+            Some(packet) => out.put(Sent { packet, stamp }),
+        },
+    }
+}
+
+/// An event that emits is done, if it is enabled and there is room in its ring.
+pub fn emit_at(
+    node: &mut Node,
+    slot: &mut Option<OutEnd>,
+    ins: &mut Vec<Option<InEnd>>,
+    log: &mut Log,
+    own: Option<usize>,
+    number: u8,
+    link: u8,
+    far: Option<End>,
+    event: NodeEvent,
+) -> Result<bool, TurnFault>
+    requires { (o : OutView) → option_map out_view slot.old ≡ Some o → SameRingBack own o (ins_view ins.old.items) }
+    ensures ins { ins_view ins.new.items ≡ ins_view ins.old.items }
+    ensures did { Whether result
+        (Put number link far event own node.old node.new (log_view log.old) (log_view log.new) (option_map out_view slot.old) (option_map out_view slot.new) (ins_view ins.old.items))
+        ((node.new ≡ node.old) × (log_view log.new ≡ log_view log.old) × (option_map out_view slot.new ≡ option_map out_view slot.old)) }
+    ensures rests { result ≡ Ok false → is_node_enabled event node.old ≡ true → HasRoom own (option_map out_view slot.old) (ins_view ins.old.items) false }
+{
+    if !node.enabled(event) {
+        return Ok(false);
+    }
+    if !room(slot, ins, own) {
+        return Ok(false);
+    }
+    let (stamp, packet) = act(node, log, number, link, event, far)?;
+    put(slot, stamp, packet);
+    Ok(true)
+}
+
+/// A run is done, if it is enabled.
+pub fn run_at(node: &mut Node, log: &mut Log, number: u8) -> Result<bool, TurnFault>
+    ensures did { Whether result
+        (Ran number node.old node.new (log_view log.old) (log_view log.new))
+        ((node.new ≡ node.old) × (log_view log.new ≡ log_view log.old)) }
+    ensures rests { result ≡ Ok false → is_node_enabled Run node.old ≡ false }
+{
+    if !node.enabled(NodeEvent::Run) {
+        return Ok(false);
+    }
+    act(node, log, number, 0, NodeEvent::Run, None)?;
+    Ok(true)
+}

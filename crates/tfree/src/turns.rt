@@ -1,0 +1,124 @@
+//! A turn of a worker, phase by phase.
+ghost use Rattle.std.specs.Prelude.{◌≡◌, ◌+◌, ◌<◌, ℕ, length, is_ok, IfOk};
+ghost use Rattle.tfree.specs.Logs.{IsActOf};
+ghost use Rattle.tfree.specs.Turns.{Phased, packets_of, emission_of, runs_of, all_packets, all_takes, all_sends, NodeTurn, IsTurn, Extends};
+
+use crate::log::TurnFault;
+use crate::worker::Worker;
+use tlink::NodeEvent;
+
+/// What a turn did.
+#[derive(Clone, Copy, Debug, PartialEq, Eq)]
+pub struct Turned {
+    pub events: u64,
+}
+
+impl Worker {
+    /// At most two packets of a link.
+    fn packets(&mut self, i: usize, link: u8) -> Result<(), TurnFault>
+        requires i { i < self.old.share.owned }
+        requires link { link < 4 }
+        ensures { Phased (λ s. packets_of s (s.first + i) link) self.old (is_ok result) self.new }
+    {
+        if self.receive(i, link)? {
+            self.receive(i, link)?;
+        }
+        Ok(())
+    }
+
+    /// An event of a link that emits, at most once.
+    fn emission(&mut self, i: usize, link: u8, event: NodeEvent) -> Result<(), TurnFault>
+        requires i { i < self.old.share.owned }
+        requires link { link < 4 }
+        requires event { IsActOf link event }
+        ensures { Phased (λ s. emission_of s (s.first + i) link event) self.old (is_ok result) self.new }
+    {
+        self.emit(i, link, event)?;
+        Ok(())
+    }
+
+    /// At most two packets of each link.
+    fn all_packets(&mut self, i: usize) -> Result<(), TurnFault>
+        requires { i < self.old.share.owned }
+        ensures { Phased (λ s. all_packets s (s.first + i)) self.old (is_ok result) self.new }
+    {
+        self.packets(i, 0)?;
+        self.packets(i, 1)?;
+        self.packets(i, 2)?;
+        self.packets(i, 3)
+    }
+
+    /// The bytes that wait are taken.
+    fn all_takes(&mut self, i: usize) -> Result<(), TurnFault>
+        requires { i < self.old.share.owned }
+        ensures { Phased (λ s. all_takes s (s.first + i)) self.old (is_ok result) self.new }
+    {
+        self.emission(i, 0, NodeEvent::Take(0))?;
+        self.emission(i, 1, NodeEvent::Take(1))?;
+        self.emission(i, 2, NodeEvent::Take(2))?;
+        self.emission(i, 3, NodeEvent::Take(3))
+    }
+
+    /// The next bytes of the outputs are sent.
+    fn all_sends(&mut self, i: usize) -> Result<(), TurnFault>
+        requires { i < self.old.share.owned }
+        ensures { Phased (λ s. all_sends s (s.first + i)) self.old (is_ok result) self.new }
+    {
+        self.emission(i, 0, NodeEvent::Send(0))?;
+        self.emission(i, 1, NodeEvent::Send(1))?;
+        self.emission(i, 2, NodeEvent::Send(2))?;
+        self.emission(i, 3, NodeEvent::Send(3))
+    }
+
+    /// Runs until none is enabled, or so many are done.
+    fn runs(&mut self, i: usize, slice: u32) -> Result<(), TurnFault>
+        requires { i < self.old.share.owned }
+        ensures { Phased (λ s. runs_of s slice (s.first + i)) self.old (is_ok result) self.new }
+    {
+        for _done in 0..slice {
+            if !self.run(i)? {
+                return Ok(());
+            }
+        }
+        Ok(())
+    }
+
+    /// The part of one node in a turn.
+    fn node_turn(&mut self, i: usize, slice: u32) -> Result<(), TurnFault>
+        requires { i < self.old.share.owned }
+        ensures { Phased (λ s. NodeTurn s slice (s.first + i)) self.old (is_ok result) self.new }
+    {
+        self.all_packets(i)?;
+        self.all_takes(i)?;
+        self.runs(i, slice)?;
+        self.all_sends(i)
+    }
+
+    /// All nodes in a turn.
+    fn nodes_turn(&mut self, slice: u32) -> Result<(), TurnFault>
+        ensures { Phased (λ s. IsTurn s slice) self.old (is_ok result) self.new }
+    {
+        for i in 0..self.nodes() {
+            self.node_turn(i, slice)?;
+        }
+        Ok(())
+    }
+
+    /// A turn over all its nodes: of each, at most two packets of each link, then the bytes that wait, then runs, at most
+    /// `slice`, then the next bytes of its outputs. It waits for nobody.
+    ///
+    /// # Errors
+    /// `OutOfMemory`, or `ClockFull` where the stamp of the next event would not fit. The events that were done stand.
+    pub fn turn(&mut self, slice: u32) -> Result<Turned, TurnFault>
+        ensures same { self.new.share ≡ self.old.share }
+        ensures turn { IsTurn self.old.share slice self.old.events (is_ok result) self.new.events }
+        ensures extends { Extends self.old.events self.new.events }
+        ensures events { IfOk result (λ t. length self.new.events ≡ length self.old.events + t.events) }
+    {
+        let before = self.events();
+        self.nodes_turn(slice)?;
+        Ok(Turned {
+            events: (self.events() - before) as u64,
+        })
+    }
+}
