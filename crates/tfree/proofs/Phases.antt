@@ -4,7 +4,6 @@ use Rattle.std.specs.Prelude.{IsTrue, Result, Ok, Err, is_ok, IsErr}
 use Rattle.std.proofs.lemmas.List.{append-nil, append_assoc}
 use Rattle.tfree.specs.declared.stamp.OwnEvent.{OwnEvent}
 use Rattle.tfree.specs.Views.{Share, View}
-use Rattle.std.specs.Bool.{MatchBool}
 use Rattle.tlink.specs.declared.event.NodeEvent.{NodeEvent}
 use Rattle.tlink.specs.declared.event.NodeEvent.TheVariants.{Run, Take, Send}
 use Rattle.tfree.specs.Turns.{Phase, Step, Times, UpTo, Then, Phased, Extends, Receives, IsPacketDue, packets_of, Does, IsEnabled, Emits, IsEmissionDue, emission_of, runs_of, all_packets, all_takes, all_sends, OverLinks, NodeTurn, FirstNodes, IsTurn}
@@ -34,48 +33,9 @@ stops_third P Q R S v m n w ok e p q r = goes P (λ s. Then (Q s) (Then (R s) (S
 pub goes_all : (P Q R S : Share → Phase) (v m n o w : View) (ok : Bool) → Phased P v true m → Phased Q m true n → Phased R n true o → Phased S o ok w → Phased (λ s. Then (P s) (Then (Q s) (Then (R s) (S s)))) v ok w
 goes_all P Q R S v m n o w ok p q r t = goes P (λ s. Then (Q s) (Then (R s) (S s))) v m w ok p (goes Q (λ s. Then (R s) (S s)) m n w ok q (goes R S n o w ok r t))
 
--- what holds of a test that passed
-pub passed : (P Q : Type 0) (b : Bool) → b ≡ true → MatchBool b P Q → P
-passed P Q true e h = h
-passed P Q false e h = cc
-
--- one step
-once : (step : Step) (es m w : List OwnEvent) → step es m → w ≡ m → Times 1 step es w
-once step es m w h e = (es, refl, subst (step es) (sym e) h)
-
--- a second step was not tried to its end
-pub stops_at_one : (step : Step) (IsDue : List OwnEvent → Type 0) (es m w : List OwnEvent) (ok : Bool) → step es m → w ≡ m → ok ≡ false → UpTo 2 step IsDue es ok w
-stops_at_one step IsDue es m w ok h e f = (1, omega arith, once step es m w h e, inr (λ t d. let x : IsTrue false = subst IsTrue f t in cc))
-
--- a second step was done or was not due
-pub goes_to_two : (step : Step) (IsDue : List OwnEvent → Type 0) (es m w : List OwnEvent) (b : Bool) → step es m → MatchBool b (step m w) (w ≡ m) → (b ≡ false → IsDue m → ⊥) → UpTo 2 step IsDue es true w
-goes_to_two step IsDue es m w true h k rests = (2, omega arith, (m, (es, refl, h), k), inl refl)
-goes_to_two step IsDue es m w false h k rests = (1, omega arith, once step es m w h k, inr (λ t d. rests refl (subst IsDue k d)))
-
--- a packet was taken, and then the next was not, for a fault
-pub receives_once : (v m w : View) (i l : ℕ) (ok : Bool) → m.share ≡ v.share → Receives v.share (v.share.first + i) l v.events m.events → w.share ≡ m.share → w.events ≡ m.events → ok ≡ false
-    → Phased (λ s. packets_of s (s.first + i) l) v ok w
-receives_once v m w i l ok a h b e f =
-    (b ∙ a, stops_at_one (Receives v.share (v.share.first + i) l) (IsPacketDue v.share (v.share.first + i) l) v.events m.events w.events ok h e f)
-
--- a packet was taken, and then another or none
-pub receives_twice : (v m w : View) (i l : ℕ) (t : Bool) → m.share ≡ v.share → Receives v.share (v.share.first + i) l v.events m.events → w.share ≡ m.share
-    → MatchBool t (Receives m.share (m.share.first + i) l m.events w.events) (w.events ≡ m.events) → (t ≡ false → IsPacketDue m.share (m.share.first + i) l m.events → ⊥)
-    → Phased (λ s. packets_of s (s.first + i) l) v true w
-receives_twice v m w i l t a h b k rests = (
-  b ∙ a,
-  goes_to_two (Receives v.share (v.share.first + i) l) (IsPacketDue v.share (v.share.first + i) l) v.events m.events w.events t h
-      (subst (λ (s : Share). MatchBool t (Receives s (s.first + i) l m.events w.events) (w.events ≡ m.events)) a k)
-      (λ e. subst (λ (s : Share). IsPacketDue s (s.first + i) l m.events → ⊥) a (rests e)),
-)
-
 -- three phases and the rest of them, of which one stopped
 pub stops_second : (P Q R : Share → Phase) (v m w : View) (ok : Bool) → ok ≡ false → Phased P v true m → Phased Q m false w → Phased (λ s. Then (P s) (Then (Q s) (R s))) v ok w
 stops_second P Q R v m w ok e p q = goes P (λ s. Then (Q s) (R s)) v m w ok p (stops Q R m w ok e q)
-
--- so many runs, and one more or none
-pub more_runs : (s : Share) (n k : ℕ) (es m w : List OwnEvent) → Times k (Does s n Run) es m → Does s n Run m w → Times (k + 1) (Does s n Run) es w
-more_runs s n k es m w h d = subst (λ (j : ℕ). Times j (Does s n Run) es w) (let e : suc k ≡ k + 1 = omega arith in e) (m, h, d)
 
 -- a node's part was stopped
 pub turn_stops : (v m w : View) (slice i : ℕ) (ok : Bool) → ok ≡ false → i < v.share.owned → m.share ≡ v.share → FirstNodes v.share slice i v.events m.events → Phased (λ s. NodeTurn s slice (s.first + i)) m false w

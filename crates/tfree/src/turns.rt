@@ -20,8 +20,10 @@ impl Worker {
         requires link { link < 4 }
         ensures { Phased (λ s. packets_of s (s.first + i) link) self.old (is_ok result) self.new }
     {
-        if self.receive(i, link)? {
-            self.receive(i, link)?;
+        for _done in 0..2_u32 {
+            if !self.receive(i, link)? {
+                return Ok(());
+            }
         }
         Ok(())
     }
