@@ -1,6 +1,6 @@
 -- Phases of a turn, one after another, as a worker's calls do them.
 use Rattle.std.proofs.Common.{◌≡◌, ℕ, zero, suc, ◌+◌, ◌<◌, ◌≤◌, refl, sym, ap, ◌∙◌, subst, arith, length, length-append, List, [], ◌∷◌, ◌++◌, Bool, true, false, inl, inr}
-use Rattle.std.specs.Prelude.{IsTrue, Result, Ok, Err, is_ok, IsErr}
+use Rattle.std.specs.Prelude.{Result, Ok, Err, is_ok, IsErr}
 use Rattle.std.proofs.lemmas.List.{append-nil, append_assoc}
 use Rattle.tfree.specs.declared.stamp.OwnEvent.{OwnEvent}
 use Rattle.tfree.specs.Views.{Share, View}

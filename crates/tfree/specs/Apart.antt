@@ -8,6 +8,7 @@ use Rattle.tfree.specs.declared.worker.WorkerParts.{WorkerParts}
 
 pub record IsTakenApart (v : View) (p : WorkerParts) : Type 0 where
   pub wires : p.wires ≡ v.share.opened.wires
+  pub nodes : p.nodes.items ≡ v.nodes
   pub events : p.log.events.items ≡ v.events
   pub told : p.log.told.items ≡ v.told
   pub ins : in_ids (ins_view p.ins.items) ≡ v.share.ins

@@ -10,6 +10,8 @@ use Rattle.tfree.specs.declared.stamp.Sent.{Sent}
 use Rattle.tfree.specs.Lists.{event_taking}
 use Rattle.tfree.specs.Views.{InView, OutView, got_of, put_of, with_put, with_got}
 use Rattle.tfree.specs.Logs.{LogView, Acted, act_told, packet_of, sent_as}
+use Rattle.tfree.specs.Ends.{IsFront}
+use Rattle.tfree.specs.Turns.{IsFull}
 
 -- where the other end of a ring is at hand, it is an end of that ring
 abbrev pub SameRing : Option ℕ → InView → List (Option OutView) → Type 0
@@ -31,6 +33,13 @@ abbrev pub NoneDue : ℕ → Option ℕ → NodeState → Option InView → List
 NoneDue l own node x outs =
     (q : ℕ) (o : OutView) (p : Sent) (rest : List Sent) → IsSome x → own ≡ Some q → slice_get outs q ≡ Some (Some o) → got_of x ++ p ∷ rest ≡ o.put
     → is_node_enabled (event_taking l p.packet) node ≡ false
+
+-- the event of the packet that is seen in front is enabled, and its stamp would pass 2^64 - 1
+pub record FullAtFront (l : ℕ) (node : NodeState) (clock : ℕ) (seen : List Sent) : Type 0 where
+  pub packet : Sent
+  pub front : IsFront packet seen
+  pub enabled : is_node_enabled (event_taking l packet.packet) node ≡ true
+  pub full : IsFull clock packet.stamp
 
 -- whether a ring has room: with the other end at hand, whether fewer than two lie there; else it has where fewer than two were ever put there; where there is no ring, there is room
 pub record HasRoom (own : Option ℕ) (x : Option OutView) (ins : List (Option InView)) (room : Bool) : Type 0 where

@@ -1,8 +1,9 @@
 -- One turn of a worker, as what it adds to its list of events. What it takes from a ring that another worker fills is free; whether it emits into a ring that another worker empties is free once two packets were put there, those at the opening included. Nothing else is.
 -- Source: own choice.
-use Rattle.std.specs.Prelude.{ℕ, zero, suc, ◌≡◌, ◌+◌, ◌<◌, ◌≤◌, ◌⊎◌, Bool, true, false, IsTrue, List, [], ◌∷◌, ◌++◌, length, Some, slice_get}
+use Rattle.std.specs.Prelude.{ℕ, zero, suc, ◌≡◌, ◌+◌, ◌^◌, ◌<◌, ◌≤◌, ◌⊎◌, max, Bool, true, false, IsTrue, List, [], ◌∷◌, ◌++◌, length, Some, slice_get, slice_index_or, take, drop}
 use Rattle.tlink.specs.declared.event.NodeEvent.{NodeEvent}
-use Rattle.tlink.specs.declared.event.NodeEvent.TheVariants.{Run, Send, Take}
+use Rattle.tlink.specs.declared.event.Packet.TheVariants as packet
+use Rattle.tlink.specs.declared.event.NodeEvent.TheVariants.{Run, Send, Data, Take, Ack}
 use Rattle.tlink.specs.Node.{NodeState}
 use Rattle.tlink.specs.Events.{is_node_enabled}
 use Rattle.tplan.specs.declared.plan.End.{End}
@@ -12,7 +13,8 @@ use Rattle.tfree.specs.declared.stamp.OwnEvent.{OwnEvent}
 use Rattle.tfree.specs.Lists.{takes}
 use Rattle.tfree.specs.Lists.{event_taking}
 use Rattle.tfree.specs.Views.{Share, View}
-use Rattle.tfree.specs.Kept.{nodes_after, put_to, IsMine}
+use Rattle.tfree.specs.Ends.{IsFront}
+use Rattle.tfree.specs.Kept.{nodes_after, put_to, last_stamp, link_place, IsMine}
 
 -- a phase leads from the events so far to those after it; where it did not run to its end, it may have stopped anywhere
 abbrev pub Phase : Type 1
@@ -130,3 +132,27 @@ Phased phase v whole w = (w.share ≡ v.share) × phase v.share v.events whole w
 -- what the list held is its beginning
 abbrev pub Extends : List OwnEvent → List OwnEvent → Type 0
 Extends es es' = (more : List OwnEvent) × (es' ≡ es ++ more)
+
+-- the nodes of a worker are where its list leaves them
+abbrev pub AreLeft : View → Type 0
+AreLeft v = v.nodes ≡ take v.share.owned (drop v.share.first (nodes_after v.share.opened.nodes v.events))
+
+-- the stamp of the next event would pass 2^64 - 1
+abbrev pub IsFull : (last taken : ℕ) → Type 0
+IsFull last taken = max last taken + 1 ≡ 2 ^ 64
+
+-- the stamp that an event of the worker's i-th node takes: that of the packet that is seen in front of its ring, or 0
+abbrev pub MayTake : View → ℕ → NodeEvent → ℕ → Type 0
+MayTake v i (Data l byte last) stamp = IsFront (record { packet = packet.Data byte last; stamp = stamp }) (slice_index_or v.seen (link_place i l) [])
+MayTake v i (Ack l) stamp = IsFront (record { packet = packet.Ack; stamp = stamp }) (slice_index_or v.seen (link_place i l) [])
+MayTake v i _ stamp = stamp ≡ 0
+
+-- the clock of a worker is full: an event of one of its nodes is enabled, and has no stamp
+pub record IsClockFull (v : View) : Type 0 where
+  pub i : ℕ
+  pub event : NodeEvent
+  pub taken : ℕ
+  pub own : i < v.share.owned
+  pub enabled : IsEnabled v.share (v.share.first + i) event v.events
+  pub takes : MayTake v i event taken
+  pub full : IsFull (last_stamp 0 v.events) taken

@@ -1,14 +1,16 @@
 //! One event of a node at its rings: it takes from a ring where a packet is seen, and puts into one where room is
 //! seen.
-ghost use Rattle.std.specs.Prelude.{◌≡◌, ◌+◌, ◌<◌, [], ◌∷◌, ◌++◌, ℕ, length, map, option_map, nat_lt, slice_get, IsTrue, IfSome, IsSome, Ok, true, false, Option, Some, None, MatchResult, List};
+ghost use Rattle.std.specs.Prelude.{◌≡◌, ◌+◌, ◌<◌, [], ◌∷◌, ◌++◌, ℕ, length, map, option_map, nat_lt, slice_get, IsTrue, IfSome, IsSome, Ok, Err, true, false, Option, Some, None, MatchResult, List};
 ghost use Rattle.rtrb.specs.Ring.{known_items, known_free};
 ghost use Rattle.tlink.specs.declared.event.NodeEvent.TheVariants.{Run};
 ghost use Rattle.tlink.specs.Events.{happens, is_node_enabled};
 ghost use Rattle.tfree.specs.Lists.{Sent as Packets};
-ghost use Rattle.tfree.specs.Ends.{in_view, out_view, ins_view, outs_view, IsFront, HasFree};
+ghost use Rattle.tfree.specs.declared.log.TurnFault.TheVariants.{ClockFull};
+ghost use Rattle.tfree.specs.Turns.{IsFull};
+ghost use Rattle.tfree.specs.Ends.{in_view, out_view, ins_view, outs_view, seen_of, IsFront, HasFree};
 ghost use Rattle.tfree.specs.Views.{InView, OutView, got_of, put_of, with_put};
 ghost use Rattle.tfree.specs.Logs.{log_view, Whether, sent_as};
-ghost use Rattle.tfree.specs.Steps.{SameRing, SameRingBack, Received, NoneDue, Emitted as Put, Ran, HasRoom};
+ghost use Rattle.tfree.specs.Steps.{SameRing, SameRingBack, Received, NoneDue, Emitted as Put, Ran, HasRoom, FullAtFront};
 
 use crate::ends::{InEnd, OutEnd};
 use crate::log::{Log, TurnFault, act, receive};
@@ -51,6 +53,7 @@ pub fn receive_at(
         (Received number link own node.old node.new (log_view log.old) (log_view log.new) (option_map in_view slot.old) (option_map in_view slot.new) (outs_view outs.old.items))
         ((node.new ≡ node.old) × (log_view log.new ≡ log_view log.old) × (option_map in_view slot.new ≡ option_map in_view slot.old)) }
     ensures rests { result ≡ Ok false → NoneDue link own node.old (option_map in_view slot.old) (outs_view outs.old.items) }
+    ensures full { result ≡ Err ClockFull → FullAtFront link node.old log.old.clock (seen_of slot.new) }
 {
     match slot {
         None => Ok(false),
@@ -125,6 +128,7 @@ pub fn emit_at(
         (Put number link far event own node.old node.new (log_view log.old) (log_view log.new) (option_map out_view slot.old) (option_map out_view slot.new) (ins_view ins.old.items))
         ((node.new ≡ node.old) × (log_view log.new ≡ log_view log.old) × (option_map out_view slot.new ≡ option_map out_view slot.old)) }
     ensures rests { result ≡ Ok false → is_node_enabled event node.old ≡ true → HasRoom own (option_map out_view slot.old) (ins_view ins.old.items) false }
+    ensures full { result ≡ Err ClockFull → (is_node_enabled event node.old ≡ true) × IsFull log.old.clock 0 }
 {
     if !node.enabled(event) {
         return Ok(false);
@@ -143,6 +147,7 @@ pub fn run_at(node: &mut Node, log: &mut Log, number: u8) -> Result<bool, TurnFa
         (Ran number node.old node.new (log_view log.old) (log_view log.new))
         ((node.new ≡ node.old) × (log_view log.new ≡ log_view log.old)) }
     ensures rests { result ≡ Ok false → is_node_enabled Run node.old ≡ false }
+    ensures full { result ≡ Err ClockFull → (is_node_enabled Run node.old ≡ true) × IsFull log.old.clock 0 }
 {
     if !node.enabled(NodeEvent::Run) {
         return Ok(false);

@@ -1,7 +1,8 @@
 //! A turn of a worker, phase by phase.
-ghost use Rattle.std.specs.Prelude.{◌≡◌, ◌+◌, ◌<◌, ℕ, length, is_ok, IfOk};
+ghost use Rattle.std.specs.Prelude.{◌≡◌, ◌+◌, ◌<◌, ℕ, length, is_ok, IfOk, Err};
 ghost use Rattle.tfree.specs.Logs.{IsActOf};
-ghost use Rattle.tfree.specs.Turns.{Phased, packets_of, emission_of, runs_of, all_packets, all_takes, all_sends, NodeTurn, IsTurn, Extends};
+ghost use Rattle.tfree.specs.Turns.{Phased, packets_of, emission_of, runs_of, all_packets, all_takes, all_sends, NodeTurn, IsTurn, Extends, AreLeft, IsClockFull};
+ghost use Rattle.tfree.specs.declared.log.TurnFault.TheVariants.{ClockFull};
 
 use crate::log::TurnFault;
 use crate::worker::Worker;
@@ -18,7 +19,8 @@ impl Worker {
     fn packets(&mut self, i: usize, link: u8) -> Result<(), TurnFault>
         requires i { i < self.old.share.owned }
         requires link { link < 4 }
-        ensures { Phased (λ s. packets_of s (s.first + i) link) self.old (is_ok result) self.new }
+        ensures phase { Phased (λ s. packets_of s (s.first + i) link) self.old (is_ok result) self.new }
+        ensures full { result ≡ Err ClockFull → IsClockFull self.new }
     {
         for _done in 0..2_u32 {
             if !self.receive(i, link)? {
@@ -33,7 +35,8 @@ impl Worker {
         requires i { i < self.old.share.owned }
         requires link { link < 4 }
         requires event { IsActOf link event }
-        ensures { Phased (λ s. emission_of s (s.first + i) link event) self.old (is_ok result) self.new }
+        ensures phase { Phased (λ s. emission_of s (s.first + i) link event) self.old (is_ok result) self.new }
+        ensures full { result ≡ Err ClockFull → IsClockFull self.new }
     {
         self.emit(i, link, event)?;
         Ok(())
@@ -42,7 +45,8 @@ impl Worker {
     /// At most two packets of each link.
     fn all_packets(&mut self, i: usize) -> Result<(), TurnFault>
         requires { i < self.old.share.owned }
-        ensures { Phased (λ s. all_packets s (s.first + i)) self.old (is_ok result) self.new }
+        ensures phase { Phased (λ s. all_packets s (s.first + i)) self.old (is_ok result) self.new }
+        ensures full { result ≡ Err ClockFull → IsClockFull self.new }
     {
         self.packets(i, 0)?;
         self.packets(i, 1)?;
@@ -53,7 +57,8 @@ impl Worker {
     /// The bytes that wait are taken.
     fn all_takes(&mut self, i: usize) -> Result<(), TurnFault>
         requires { i < self.old.share.owned }
-        ensures { Phased (λ s. all_takes s (s.first + i)) self.old (is_ok result) self.new }
+        ensures phase { Phased (λ s. all_takes s (s.first + i)) self.old (is_ok result) self.new }
+        ensures full { result ≡ Err ClockFull → IsClockFull self.new }
     {
         self.emission(i, 0, NodeEvent::Take(0))?;
         self.emission(i, 1, NodeEvent::Take(1))?;
@@ -64,7 +69,8 @@ impl Worker {
     /// The next bytes of the outputs are sent.
     fn all_sends(&mut self, i: usize) -> Result<(), TurnFault>
         requires { i < self.old.share.owned }
-        ensures { Phased (λ s. all_sends s (s.first + i)) self.old (is_ok result) self.new }
+        ensures phase { Phased (λ s. all_sends s (s.first + i)) self.old (is_ok result) self.new }
+        ensures full { result ≡ Err ClockFull → IsClockFull self.new }
     {
         self.emission(i, 0, NodeEvent::Send(0))?;
         self.emission(i, 1, NodeEvent::Send(1))?;
@@ -75,7 +81,8 @@ impl Worker {
     /// Runs until none is enabled, or so many are done.
     fn runs(&mut self, i: usize, slice: u32) -> Result<(), TurnFault>
         requires { i < self.old.share.owned }
-        ensures { Phased (λ s. runs_of s slice (s.first + i)) self.old (is_ok result) self.new }
+        ensures phase { Phased (λ s. runs_of s slice (s.first + i)) self.old (is_ok result) self.new }
+        ensures full { result ≡ Err ClockFull → IsClockFull self.new }
     {
         for _done in 0..slice {
             if !self.run(i)? {
@@ -88,7 +95,8 @@ impl Worker {
     /// The part of one node in a turn.
     fn node_turn(&mut self, i: usize, slice: u32) -> Result<(), TurnFault>
         requires { i < self.old.share.owned }
-        ensures { Phased (λ s. NodeTurn s slice (s.first + i)) self.old (is_ok result) self.new }
+        ensures phase { Phased (λ s. NodeTurn s slice (s.first + i)) self.old (is_ok result) self.new }
+        ensures full { result ≡ Err ClockFull → IsClockFull self.new }
     {
         self.all_packets(i)?;
         self.all_takes(i)?;
@@ -98,7 +106,8 @@ impl Worker {
 
     /// All nodes in a turn.
     fn nodes_turn(&mut self, slice: u32) -> Result<(), TurnFault>
-        ensures { Phased (λ s. IsTurn s slice) self.old (is_ok result) self.new }
+        ensures phase { Phased (λ s. IsTurn s slice) self.old (is_ok result) self.new }
+        ensures full { result ≡ Err ClockFull → IsClockFull self.new }
     {
         for i in 0..self.nodes() {
             self.node_turn(i, slice)?;
@@ -114,13 +123,15 @@ impl Worker {
     pub fn turn(&mut self, slice: u32) -> Result<Turned, TurnFault>
         ensures same { self.new.share ≡ self.old.share }
         ensures turn { IsTurn self.old.share slice self.old.events (is_ok result) self.new.events }
+        ensures nodes { AreLeft self.new }
+        ensures full { result ≡ Err ClockFull → IsClockFull self.new }
         ensures extends { Extends self.old.events self.new.events }
         ensures events { IfOk result (λ t. length self.new.events ≡ length self.old.events + t.events) }
     {
         let before = self.events();
-        self.nodes_turn(slice)?;
-        Ok(Turned {
-            events: (self.events() - before) as u64,
-        })
+        let ending = self.nodes_turn(slice);
+        let events = (self.events() - before) as u64;
+        ending?;
+        Ok(Turned { events })
     }
 }
