@@ -15,7 +15,7 @@ use Rattle.tfree.specs.Kept.{link_place, own_end, IsMine, IsShare, Kept, share_w
 use Rattle.tfree.specs.Rings.{place_of, far_place, in_at, out_at, AreRings, part_of}
 use Rattle.tfree.proofs.Joining.{place_back}
 
-part_length : {A : Type 0} (first count : ℕ) (xs : List A) → first + count ≤ length xs → length (part_of first count xs) ≡ count
+pub part_length : {A : Type 0} (first count : ℕ) (xs : List A) → first + count ≤ length xs → length (part_of first count xs) ≡ count
 part_length first count xs b = omega (arith, b, length-take count (drop first xs), length-drop first xs)
 
 part_at : {A : Type 0} (first count k : ℕ) (xs : List A) (d : A) → k < count → get_or (part_of first count xs) k d ≡ get_or xs (first + k) d
@@ -48,12 +48,12 @@ module _ (number count first owned : ℕ) (opened : NetState) (ins : List (Optio
   outs_length : length my_outs ≡ 4 * owned
   outs_length = part_length (4 * first) (4 * owned) outs (omega (arith, within, r.outs_are))
 
-  in_id_at : (i l : ℕ) → i < owned → l < 4 → slice_index_or s.ins (link_place i l) None ≡ option_map (λ (v : InView). v.id) (in_at ins (4 * (first + i) + l))
+  pub in_id_at : (i l : ℕ) → i < owned → l < 4 → slice_index_or s.ins (link_place i l) None ≡ option_map (λ (v : InView). v.id) (in_at ins (4 * (first + i) + l))
   in_id_at i l b c =
       get_or-map (option_map (λ (v : InView). v.id)) my_ins (link_place i l) None None (omega (arith, b, c, ins_length))
       ∙ ap (option_map (λ (v : InView). v.id)) (in_place i l b c)
 
-  out_id_at : (i l : ℕ) → i < owned → l < 4 → slice_index_or s.outs (link_place i l) None ≡ option_map (λ (v : OutView). v.id) (out_at outs (4 * (first + i) + l))
+  pub out_id_at : (i l : ℕ) → i < owned → l < 4 → slice_index_or s.outs (link_place i l) None ≡ option_map (λ (v : OutView). v.id) (out_at outs (4 * (first + i) + l))
   out_id_at i l b c =
       get_or-map (option_map (λ (v : OutView). v.id)) my_outs (link_place i l) None None (omega (arith, b, c, outs_length))
       ∙ ap (option_map (λ (v : OutView). v.id)) (out_place i l b c)
@@ -67,7 +67,7 @@ module _ (number count first owned : ℕ) (opened : NetState) (ins : List (Optio
       let d : ((4 * n + l) / 4 ≡ n) × ((4 * n + l) % 4 ≡ l) = place_back n l c in
       is_some_map place_of (far_end opened.wires (end_at ((4 * n + l) / 4) ((4 * n + l) % 4))) ∙ rw (d.0, d.1) refl
 
-  far_of : (n l : ℕ) (f : End) → l < 4 → far_end opened.wires (end_at n l) ≡ Some f → far_place opened.wires (4 * n + l) ≡ Some (place_of f)
+  pub far_of : (n l : ℕ) (f : End) → l < 4 → far_end opened.wires (end_at n l) ≡ Some f → far_place opened.wires (4 * n + l) ≡ Some (place_of f)
   far_of n l f c h =
       let d : ((4 * n + l) / 4 ≡ n) × ((4 * n + l) % 4 ≡ l) = place_back n l c in
       rw (d.0, d.1) (ap (option_map place_of) h)

@@ -2,7 +2,7 @@
 use Rattle.std.proofs.Common.{◌≡◌, ℕ, sym, ap, ◌∙◌, subst, List, Option, Some}
 use Rattle.std.specs.Prelude.{option_map, slice_set}
 use Rattle.std.proofs.lemmas.List.{map-set}
-use Rattle.tplan.specs.declared.plan.Wire.{Wire}
+use Rattle.tnet.specs.Net.{NetState}
 use Rattle.tfree.specs.declared.ends.InEnd.{InEnd}
 use Rattle.tfree.specs.declared.ends.OutEnd.{OutEnd}
 use Rattle.tfree.specs.Views.{InView, OutView}
@@ -20,8 +20,8 @@ pub pair_ids : (p : Producer Sent Global AnyItems) (c : Consumer Sent Global Any
 pair_ids p c h = let a = h.0 in let b = h.1 in let d = h.2 in let e = h.3 in cc
 
 -- the ends that were set, by what is seen of them
-pub joined_views : (wires : List Wire) (upto q p : ℕ) (ins : List (Option InEnd)) (outs : List (Option OutEnd)) (x : InEnd) (y : OutEnd) (v : InView) (o : OutView) → in_view x ≡ v → out_view y ≡ o
-    → AreJoined wires upto (slice_set (ins_view ins) q (Some v)) (slice_set (outs_view outs) p (Some o)) → AreJoined wires upto (ins_view (slice_set ins q (Some x))) (outs_view (slice_set outs p (Some y)))
-joined_views wires upto q p ins outs x y v o a b h =
-    subst (λ (xs : List (Option InView)). AreJoined wires upto xs (outs_view (slice_set outs p (Some y)))) (sym (map-set (option_map in_view) ins q (Some x) ∙ ap (λ (w : InView). slice_set (ins_view ins) q (Some w)) a))
-    (subst (λ (ys : List (Option OutView)). AreJoined wires upto (slice_set (ins_view ins) q (Some v)) ys) (sym (map-set (option_map out_view) outs p (Some y) ∙ ap (λ (w : OutView). slice_set (outs_view outs) p (Some w)) b)) h)
+pub joined_views : (opened : NetState) (upto q p : ℕ) (ins : List (Option InEnd)) (outs : List (Option OutEnd)) (x : InEnd) (y : OutEnd) (v : InView) (o : OutView) → in_view x ≡ v → out_view y ≡ o
+    → AreJoined opened upto (slice_set (ins_view ins) q (Some v)) (slice_set (outs_view outs) p (Some o)) → AreJoined opened upto (ins_view (slice_set ins q (Some x))) (outs_view (slice_set outs p (Some y)))
+joined_views opened upto q p ins outs x y v o a b h =
+    subst (λ (xs : List (Option InView)). AreJoined opened upto xs (outs_view (slice_set outs p (Some y)))) (sym (map-set (option_map in_view) ins q (Some x) ∙ ap (λ (w : InView). slice_set (ins_view ins) q (Some w)) a))
+    (subst (λ (ys : List (Option OutView)). AreJoined opened upto (slice_set (ins_view ins) q (Some v)) ys) (sym (map-set (option_map out_view) outs p (Some y) ∙ ap (λ (w : OutView). slice_set (outs_view outs) p (Some w)) b)) h)

@@ -1,6 +1,6 @@
 -- Workers that come from one opening, and their lists by their numbers.
 -- Source: own choice.
-use Rattle.std.specs.Prelude.{ℕ, ◌≡◌, ◌≢◌, ◌+◌, ◌*◌, ◌-◌, ◌<◌, ◌==◌, min, All, List, [], ◌∷◌, length, map, Option, Some, None, slice_get, slice_index_or, if◌then◌else◌}
+use Rattle.std.specs.Prelude.{ℕ, ◌≡◌, ◌≢◌, ◌+◌, ◌*◌, ◌-◌, ◌<◌, ◌⊎◌, ◌==◌, min, All, List, [], ◌∷◌, length, map, take, drop, Option, Some, None, slice_get, slice_index_or, if◌then◌else◌}
 use Rattle.tplan.specs.declared.plan.End.{End}
 use Rattle.tnet.specs.Wires.{far_end}
 use Rattle.tnet.specs.Net.{NetState}
@@ -16,6 +16,10 @@ use Rattle.tfree.specs.Kept.{nodes_after, IsMine, link_place}
 -- the first node of a worker, of so many nodes and workers; that of the next one is where its nodes end
 abbrev pub first_of : (nodes workers k : ℕ) → ℕ
 first_of nodes workers k = min nodes (k * share nodes workers)
+
+-- how many nodes a worker has
+abbrev pub owned_of : (nodes workers k : ℕ) → ℕ
+owned_of nodes workers k = first_of nodes workers (k + 1) - first_of nodes workers k
 
 -- the share of the worker with number k
 pub record IsShareOf (opened : NetState) (count k : ℕ) (s : Share) : Type 0 where
@@ -47,8 +51,25 @@ pub record AreOf (opened : NetState) (o : List Share) (shares : List Share) : Ty
 abbrev pub share_of : View → Share
 share_of v = v.share
 
+-- no workers at all come from one opening, too
 abbrev pub ComeFromOneOpen : List View → Type 0
-ComeFromOneOpen ws = (opened : NetState) × (o : List Share) × AreOf opened o (map share_of ws)
+ComeFromOneOpen ws = (ws ≡ []) ⊎ ((opened : NetState) × (o : List Share) × AreOf opened o (map share_of ws))
+
+-- a worker has done nothing: it has its nodes as they were
+pub record HasDoneNothing (v : View) : Type 0 where
+  pub nodes : v.nodes ≡ take v.share.owned (drop v.share.first v.share.opened.nodes)
+  pub events : v.events ≡ []
+  pub told : v.told ≡ []
+
+-- a net was opened for so many workers: they are all the workers of one opening of it, and have done nothing
+pub record IsOpened (opened : NetState) (workers : ℕ) (ws : List View) : Type 0 where
+  pub all : length ws ≡ workers
+  pub one : AreOf opened (map share_of ws) (map share_of ws)
+  pub fresh : All HasDoneNothing ws
+
+-- there are too few workers, or too many
+abbrev pub IsBadCount : ℕ → Type 0
+IsBadCount workers = (workers ≡ 0) ⊎ (64 < workers)
 
 -- the worker of a number
 abbrev pub worker_of : ℕ → List View → Option View

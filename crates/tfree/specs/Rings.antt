@@ -6,6 +6,7 @@ use Rattle.tplan.specs.declared.plan.Wire.{Wire}
 use Rattle.tnet.specs.Wires.{end_at, far_end}
 use Rattle.tnet.specs.Net.{NetState}
 use Rattle.tfree.specs.Views.{InView, OutView, got_of, put_of}
+use Rattle.tfree.specs.Lists.{Sent}
 use Rattle.tfree.specs.Kept.{put_to}
 
 -- the place of an end, four for each node
@@ -22,18 +23,22 @@ in_at xs p = slice_index_or xs p None
 abbrev pub out_at : List (Option OutView) → ℕ → Option OutView
 out_at xs p = slice_index_or xs p None
 
--- the rings that lead from the links below a place are there, each with its two ends, and no others; nothing was put and nothing taken
-pub record AreJoined (wires : List Wire) (upto : ℕ) (ins : List (Option InView)) (outs : List (Option OutView)) : Type 0 where
+-- what lay at the other side of the wire of a place
+abbrev pub first_put : NetState → ℕ → List Sent
+first_put opened p = put_to opened (end_at (p / 4) (p % 4)) []
+
+-- the rings that lead from the links below a place are there, each with its two ends, and no others; what lay at their ends was put in, and nothing taken
+pub record AreJoined (opened : NetState) (upto : ℕ) (ins : List (Option InView)) (outs : List (Option OutView)) : Type 0 where
   pub same : length ins ≡ length outs
   -- the wires lead within, and back
-  pub within : (p q : ℕ) → far_place wires p ≡ Some q → p < length outs → q < length ins
-  pub back : (p q : ℕ) → far_place wires p ≡ Some q → p < length outs → far_place wires q ≡ Some p
-  pub there : (p : ℕ) → p < upto → is_some (out_at outs p) ≡ is_some (far_place wires p)
+  pub within : (p q : ℕ) → far_place opened.wires p ≡ Some q → p < length outs → q < length ins
+  pub back : (p q : ℕ) → far_place opened.wires p ≡ Some q → p < length outs → far_place opened.wires q ≡ Some p
+  pub there : (p : ℕ) → p < upto → is_some (out_at outs p) ≡ is_some (far_place opened.wires p)
   pub not_yet : (p : ℕ) → upto ≤ p → out_at outs p ≡ None
-  pub pairs : (p q : ℕ) → far_place wires p ≡ Some q → p < upto → (v : InView) × (o : OutView) × (in_at ins q ≡ Some v) × (out_at outs p ≡ Some o) × (o.id ≡ v.id)
-  pub alone : (q : ℕ) → ((p : ℕ) → far_place wires p ≡ Some q → upto ≤ p) → in_at ins q ≡ None
+  pub pairs : (p q : ℕ) → far_place opened.wires p ≡ Some q → p < upto → (v : InView) × (o : OutView) × (in_at ins q ≡ Some v) × (out_at outs p ≡ Some o) × (o.id ≡ v.id)
+  pub alone : (q : ℕ) → ((p : ℕ) → far_place opened.wires p ≡ Some q → upto ≤ p) → in_at ins q ≡ None
   pub got : (q : ℕ) → got_of (in_at ins q) ≡ []
-  pub put : (p : ℕ) → put_of (out_at outs p) ≡ []
+  pub put : (p : ℕ) → p < upto → put_of (out_at outs p) ≡ first_put opened p
 
 -- the rings of a net that was opened: one for each direction of each wire, with what lay there
 pub record AreRings (opened : NetState) (ins : List (Option InView)) (outs : List (Option OutView)) : Type 0 where

@@ -1,91 +1,37 @@
-//! The rings of a net that is opened: one for each direction of each wire.
-ghost use Rattle.std.specs.Prelude.{◌≡◌, ◌+◌, ◌*◌, ◌<◌, ◌≤◌, [], None, length, map, replicate, option_map, IfOk, OnOk, IfErr};
-ghost use Rattle.rtrb.specs.Ring.{IsPair, sent, received, known_free, producer_capacity, consumer_capacity};
+//! The rings of a net that is opened: one for each direction of each wire, with what lay there.
+ghost use Rattle.std.specs.Prelude.{◌≡◌, ◌+◌, ◌*◌, ◌<◌, ◌≤◌, [], None, length, replicate, IfOk, OnOk};
+ghost use Rattle.rtrb.specs.Ring.{sent, received};
+ghost use Rattle.tnet.specs.Net.{inbox_at};
+ghost use Rattle.tnet.specs.NetParts.{net_of_parts};
 ghost use Rattle.tnet.specs.Sound.{AreWires};
 ghost use Rattle.tfree.specs.Ends.{in_view, out_view, ins_view, outs_view};
 ghost use Rattle.tfree.specs.Lists.{lying};
-ghost use Rattle.tfree.specs.Views.{put_of, with_put};
-ghost use Rattle.tfree.specs.Rings.{AreJoined, far_place, place_of};
+ghost use Rattle.tfree.specs.Views.{with_put};
+ghost use Rattle.tfree.specs.Rings.{AreJoined, AreRings, far_place, place_of};
 
 use crate::ends::{InEnd, OutEnd};
 use crate::stamp::Sent;
-use rtrb::{Consumer, Producer, RingBuffer};
+use rtrb::RingBuffer;
 use std::alloc::{AllocError, Global};
 use tlink::{Arrival, Packet};
-use tnet::{Inbox, Wires};
+use tnet::{Inbox, NetParts};
 use tplan::End;
 
-/// So many slots, all empty.
-fn empty_slots<T: Drop>(alloc: Global, count: usize) -> Result<Vec<Option<T>>, AllocError>
-    ensures { IfOk result (λ slots. slots.items ≡ replicate count None) }
+/// What lies at an end.
+fn inbox(parts: &NetParts, end: End) -> Inbox
+    ensures { result ≡ inbox_at (net_of_parts parts.now) end }
 {
-    let mut slots = Vec::with_capacity(alloc, count)?;
-    for _slot in 0..count {
-        slots.push(None)?;
+    match parts.inboxes.get(end.node as usize) {
+        Some(links) => links
+            .get(end.link as usize)
+            .copied()
+            .unwrap_or(Inbox::EMPTY),
+        None => Inbox::EMPTY,
     }
-    Ok(slots)
-}
-
-/// The ring that leads from a link, if it has a wire.
-fn join(
-    alloc: Global,
-    wires: &Wires,
-    ins: &mut Vec<Option<InEnd>>,
-    outs: &mut Vec<Option<OutEnd>>,
-    place: usize,
-) -> Result<(), AllocError>
-    requires few { length outs.old.items ≤ 256 }
-    requires place { place < length outs.old.items }
-    requires joined { AreJoined wires.now place (ins_view ins.old.items) (outs_view outs.old.items) }
-    ensures joined { OnOk result (AreJoined wires.now (place + 1) (ins_view ins.new.items) (outs_view outs.new.items)) }
-    ensures lengths { (length ins.new.items ≡ length ins.old.items) × (length outs.new.items ≡ length outs.old.items) }
-{
-    let end = End {
-        node: (place / 4) as u32,
-        link: (place % 4) as u32,
-    };
-    let Some(far) = wires.far_end(end) else {
-        return Ok(());
-    };
-    let (producer, consumer) = RingBuffer::new(alloc, 2)?;
-    outs[place] = Some(OutEnd { producer });
-    let there = 4 * far.node as usize + far.link as usize;
-    ins[there] = Some(InEnd { consumer });
-    Ok(())
-}
-
-/// The rings of all wires: the ends that take and those that put, four places for each node.
-pub fn rings(
-    alloc: Global,
-    wires: &Wires,
-    nodes: usize,
-) -> Result<(Vec<Option<InEnd>>, Vec<Option<OutEnd>>), AllocError>
-    requires few { nodes ≤ 64 }
-    requires wires { AreWires nodes wires.now }
-    ensures joined { IfOk result (λ r. AreJoined wires.now (4 * nodes) (ins_view r.0.items) (outs_view r.1.items)) }
-    ensures lengths { IfOk result (λ r. (length r.0.items ≡ 4 * nodes) × (length r.1.items ≡ 4 * nodes)) }
-{
-    let mut ins = empty_slots(alloc, 4 * nodes)?;
-    let mut outs = empty_slots(alloc, 4 * nodes)?;
-    for place in 0..4 * nodes {
-        join(alloc, wires, &mut ins, &mut outs, place)?;
-    }
-    Ok((ins, outs))
 }
 
 /// What lay at an end when the net was opened goes into its ring, the acknowledge first.
-pub fn preload(slot: &mut Option<OutEnd>, lies: Inbox)
-    requires { put_of (option_map out_view slot.old) ≡ [] }
-    ensures { option_map out_view slot.new ≡ option_map (with_put (lying lies)) (option_map out_view slot.old) }
-{
-    match slot {
-        None => {}
-        Some(out) => preload_ring(out, lies),
-    }
-}
-
-/// The same, into a ring.
-fn preload_ring(out: &mut OutEnd, lies: Inbox)
+fn preload(out: &mut OutEnd, lies: Inbox)
     requires { (out_view out.old).put ≡ [] }
     ensures { out_view out.new ≡ with_put (lying lies) (out_view out.old) }
 {
@@ -102,4 +48,73 @@ fn preload_ring(out: &mut OutEnd, lies: Inbox)
             stamp: 0,
         });
     }
+}
+
+/// A ring that leads to an end, with what lies there in it.
+fn ring_with(alloc: Global, lies: Inbox) -> Result<(OutEnd, InEnd), AllocError>
+    ensures ids { IfOk result (λ r. (out_view r.0).id ≡ (in_view r.1).id) }
+    ensures put { IfOk result (λ r. (out_view r.0).put ≡ lying lies) }
+    ensures got { IfOk result (λ r. (in_view r.1).got ≡ []) }
+{
+    let (producer, consumer) = RingBuffer::new(alloc, 2)?;
+    let mut out = OutEnd { producer };
+    preload(&mut out, lies);
+    Ok((out, InEnd { consumer }))
+}
+
+/// So many slots, all empty.
+fn empty_slots<T: Drop>(alloc: Global, count: usize) -> Result<Vec<Option<T>>, AllocError>
+    ensures { IfOk result (λ slots. slots.items ≡ replicate count None) }
+{
+    let mut slots = Vec::with_capacity(alloc, count)?;
+    for _slot in 0..count {
+        slots.push(None)?;
+    }
+    Ok(slots)
+}
+
+/// The ring that leads from a link, if it has a wire.
+fn join(
+    alloc: Global,
+    parts: &NetParts,
+    ins: &mut Vec<Option<InEnd>>,
+    outs: &mut Vec<Option<OutEnd>>,
+    place: usize,
+) -> Result<(), AllocError>
+    requires few { length outs.old.items ≤ 256 }
+    requires place { place < length outs.old.items }
+    requires joined { AreJoined (net_of_parts parts.now) place (ins_view ins.old.items) (outs_view outs.old.items) }
+    ensures joined { OnOk result (AreJoined (net_of_parts parts.now) (place + 1) (ins_view ins.new.items) (outs_view outs.new.items)) }
+    ensures lengths { (length ins.new.items ≡ length ins.old.items) × (length outs.new.items ≡ length outs.old.items) }
+{
+    let end = End {
+        node: (place / 4) as u32,
+        link: (place % 4) as u32,
+    };
+    let Some(far) = parts.wires.far_end(end) else {
+        return Ok(());
+    };
+    let (out, taker) = ring_with(alloc, inbox(parts, far))?;
+    outs[place] = Some(out);
+    let there = 4 * far.node as usize + far.link as usize;
+    ins[there] = Some(taker);
+    Ok(())
+}
+
+/// The rings of all wires: the ends that take and those that put, four places for each node.
+pub fn rings(
+    alloc: Global,
+    parts: &NetParts,
+) -> Result<(Vec<Option<InEnd>>, Vec<Option<OutEnd>>), AllocError>
+    requires few { length parts.now.nodes.items ≤ 64 }
+    requires wires { AreWires (length parts.now.nodes.items) parts.now.wires }
+    ensures { IfOk result (λ r. AreRings (net_of_parts parts.now) (ins_view r.0.items) (outs_view r.1.items)) }
+{
+    let places = 4 * parts.nodes.len();
+    let mut ins = empty_slots(alloc, places)?;
+    let mut outs = empty_slots(alloc, places)?;
+    for place in 0..places {
+        join(alloc, parts, &mut ins, &mut outs, place)?;
+    }
+    Ok((ins, outs))
 }

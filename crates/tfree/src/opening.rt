@@ -1,0 +1,115 @@
+//! Opening a net for free workers.
+ghost use Rattle.std.specs.Prelude.{◌≡◌, ◌+◌, ◌<◌, ◌≤◌, ◌++◌, [], length, take, drop, vec_len, vec_capacity, IfOk, IfErr, Err};
+ghost use Rattle.tnet.specs.NetParts.{net_of_parts};
+ghost use Rattle.tnet.specs.Sound.{IsSound};
+ghost use Rattle.tfree.specs.Opened.{IsOpened, IsBadCount, ComeFromOneOpen};
+ghost use Rattle.tfree.specs.Seats.{AreSeated};
+ghost use Rattle.tfree.specs.declared.opening.OpenFault.TheVariants as fault;
+
+use crate::seats::{Seat, seats, share};
+use crate::worker::Worker;
+use std::alloc::{AllocError, Global};
+use tlink::Node;
+use tnet::{Net, NetParts};
+
+/// Why a net was not opened.
+#[derive(Clone, Copy, Debug, PartialEq, Eq)]
+pub enum OpenFault {
+    /// There are no workers, or more than 64.
+    BadWorkers,
+    /// The allocator refused.
+    OutOfMemory,
+}
+
+/// The first nodes move behind others, where there is room.
+fn move_front(from: &mut Vec<Node>, to: &mut Vec<Node>, count: usize)
+    requires count { count ≤ length from.old.items }
+    requires room { vec_len to.old + count ≤ vec_capacity to.old }
+    ensures from { from.new.items ≡ drop count from.old.items }
+    ensures to { to.new.items ≡ to.old.items ++ take count from.old.items }
+{
+    for _moved in 0..count {
+        to.push_reserved(from.remove(0));
+    }
+}
+
+/// Each worker gets its seat and its nodes.
+fn share_out(
+    alloc: Global,
+    parts: NetParts,
+    mut seats: Vec<Seat>,
+    mut workers: Vec<Worker>,
+) -> Vec<Worker>
+    requires sound { IsSound (net_of_parts parts) }
+    requires few { length parts.nodes.items ≤ 64 }
+    requires some { (0 < length seats.items) × (length seats.items ≤ 64) }
+    requires seated { AreSeated (net_of_parts parts) (length seats.items) seats.items }
+    requires empty { workers.items ≡ [] }
+    requires room { length seats.items ≤ vec_capacity workers }
+    ensures { IsOpened (net_of_parts parts) (length seats.items) result.items }
+{
+    let NetParts {
+        mut nodes,
+        wires: _,
+        inboxes: _,
+    } = parts;
+    let count = seats.len();
+    let size = share(nodes.len(), count);
+    let mut first = 0;
+    for number in 0..count {
+        let Seat {
+            opened,
+            wires,
+            nodes: mut mine,
+            ins,
+            outs,
+        } = seats.remove(0);
+        let owned = size.min(nodes.len());
+        move_front(&mut nodes, &mut mine, owned);
+        workers.push_reserved(Worker::new(
+            alloc, number, count, first, opened, wires, mine, ins, outs,
+        ));
+        first += owned;
+    }
+    workers
+}
+
+/// All that an opening takes memory for: the seats, and room for the workers.
+fn room(
+    alloc: Global,
+    parts: &NetParts,
+    workers: usize,
+) -> Result<(Vec<Seat>, Vec<Worker>), AllocError>
+    requires sound { IsSound (net_of_parts parts.now) }
+    requires few { length parts.now.nodes.items ≤ 64 }
+    requires workers { (0 < workers) × (workers ≤ 64) }
+    ensures seated { IfOk result (λ r. AreSeated (net_of_parts parts.now) workers r.0.items) }
+    ensures empty { IfOk result (λ r. r.1.items ≡ []) }
+    ensures room { IfOk result (λ r. workers ≤ vec_capacity r.1) }
+{
+    let seats = seats(alloc, parts, workers)?;
+    let list = Vec::with_capacity(alloc, workers)?;
+    Ok((seats, list))
+}
+
+/// Opens a net for so many workers, from 1 to 64. The nodes are shared out in their order, each worker gets as many as
+/// the others, rounded up, and the last may get fewer. What lay at the ends of wires lies in the rings.
+///
+/// # Errors
+/// `BadWorkers`, or `OutOfMemory`; the net comes back as it was.
+pub fn open(alloc: Global, net: Net, workers: usize) -> Result<Vec<Worker>, (OpenFault, Net)>
+    ensures opened { IfOk result (λ ws. IsOpened net workers ws.items) }
+    ensures one { IfOk result (λ ws. ComeFromOneOpen ws.items) }
+    ensures bad { IsBadCount workers → result ≡ Err (fault.BadWorkers, net) }
+    ensures counted { IfErr result (λ e. e.0 ≡ fault.BadWorkers → IsBadCount workers) }
+    ensures same { IfErr result (λ e. e.1 ≡ net) }
+{
+    if workers == 0 || workers > 64 {
+        return Err((OpenFault::BadWorkers, net));
+    }
+    let parts = net.into_parts();
+    match room(alloc, &parts, workers) {
+        Ok((seats, list)) => Ok(share_out(alloc, parts, seats, list)),
+        Err(_refused) => Err((OpenFault::OutOfMemory, Net::from_parts(parts))),
+    }
+}
