@@ -69,11 +69,13 @@ module _ (opened : NetState) (count : ℕ) (ins : List (Option InView)) (outs : 
       (far_of m count (first_of n count m) (owned_of n count m) opened ins outs sound few (within m) r f.node f.link e ends.1.1 back)
       ∙ sym (out_id_at m count (first_of n count m) (owned_of n count m) opened ins outs sound few (within m) r j f.link (omega (arith, yours.0, yours.1)) ends.1.1 ∙ rw here refl))
 
-  pub are_shares : AreShares opened shares
-  are_shares =
+  pub are_shares : count ≤ 64 → AreShares opened shares
+  are_shares many =
       record {
         each = is_of;
         some = omega (arith, some, shares_length);
+        few = omega (arith, many, shares_length);
+        few_nodes = few;
         rings = λ e f k m s t wire hs mine ht yours.
             let a : s ≡ at k = is_share k s hs in
             let b : t ≡ at m = is_share m t ht in
@@ -95,10 +97,10 @@ module _ (opened : NetState) (count : ℕ) (ins : List (Option InView)) (outs : 
       rw e (apart_more (map number_of (map at (first_nodes m))) m (All-map (λ y. y < m) number_of (map at (first_nodes m)) (All-map (λ s. s.number < m) at (first_nodes m) (first-below m))) (apart m))
 
   -- so they are those of one opening
-  pub one_opening : AreOf opened shares shares
-  one_opening =
+  pub one_opening : count ≤ 64 → AreOf opened shares shares
+  one_opening many =
       record {
-        opening = are_shares;
+        opening = are_shares many;
         each = All-map (λ s. slice_get shares s.number ≡ Some s) at (first_nodes count)
             (All-weaker (λ k. k < count) (λ k. slice_get shares k ≡ Some (at k)) (λ k b. slice_get-map at (first_nodes count) k ∙ ap (option_map at) (number_here count k b)) (first_nodes count) (first-below count));
         apart = apart count;

@@ -46,11 +46,11 @@ none_shared opened count seats h =
     }
 
 -- behind the last one
-pub all_shared : (opened : NetState) (count : ℕ) (nodes : List NodeState) (seats : List Seat) (ws : List View) → IsSound opened → length opened.nodes ≤ 64 → 0 < count → AreSharedOut opened count count nodes seats ws → IsOpened opened count ws
-all_shared opened count nodes seats ws sound few some h =
+pub all_shared : (opened : NetState) (count : ℕ) (nodes : List NodeState) (seats : List Seat) (ws : List View) → IsSound opened → length opened.nodes ≤ 64 → 0 < count → count ≤ 64 → AreSharedOut opened count count nodes seats ws → IsOpened opened count ws
+all_shared opened count nodes seats ws sound few some many h =
     record {
       all = sym (length-map ws share_of) ∙ ap length h.shares ∙ length-map (first_nodes count) (share_at opened count h.ins h.outs) ∙ first-length count;
-      one = rw h.shares (one_opening opened count h.ins h.outs sound few some h.rings);
+      one = rw h.shares (one_opening opened count h.ins h.outs sound few some h.rings many);
       fresh = h.fresh;
     }
 

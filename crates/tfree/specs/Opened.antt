@@ -1,6 +1,6 @@
 -- Workers that come from one opening, and their lists by their numbers.
 -- Source: own choice.
-use Rattle.std.specs.Prelude.{ℕ, ◌≡◌, ◌≢◌, ◌+◌, ◌*◌, ◌-◌, ◌<◌, ◌⊎◌, ◌==◌, min, All, List, [], ◌∷◌, length, map, take, drop, Option, Some, None, slice_get, slice_index_or, if◌then◌else◌}
+use Rattle.std.specs.Prelude.{ℕ, ◌≡◌, ◌≢◌, ◌+◌, ◌*◌, ◌-◌, ◌<◌, ◌≤◌, ◌⊎◌, ◌==◌, min, All, List, [], ◌∷◌, length, map, take, drop, Option, Some, None, slice_get, slice_index_or, if◌then◌else◌}
 use Rattle.tplan.specs.declared.plan.End.{End}
 use Rattle.tnet.specs.Wires.{far_end}
 use Rattle.tnet.specs.Net.{NetState}
@@ -33,6 +33,8 @@ pub record IsShareOf (opened : NetState) (count k : ℕ) (s : Share) : Type 0 wh
 pub record AreShares (opened : NetState) (o : List Share) : Type 0 where
   pub each : (k : ℕ) (s : Share) → slice_get o k ≡ Some s → IsShareOf opened (length o) k s
   pub some : 0 < length o
+  pub few : length o ≤ 64
+  pub few_nodes : length opened.nodes ≤ 64
   pub rings : (e f : End) (k m : ℕ) (s t : Share) → far_end opened.wires e ≡ Some f → slice_get o k ≡ Some s → IsMine s e.node → slice_get o m ≡ Some t → IsMine t f.node
       → slice_index_or s.ins (link_place (e.node - s.first) e.link) None ≡ slice_index_or t.outs (link_place (f.node - t.first) f.link) None
 
@@ -51,9 +53,13 @@ pub record AreOf (opened : NetState) (o : List Share) (shares : List Share) : Ty
 abbrev pub share_of : View → Share
 share_of v = v.share
 
--- no workers at all come from one opening, too
+-- workers of an opening of so many, all of them or some
+abbrev pub AreOfOpening : ℕ → List View → Type 0
+AreOfOpening count ws = (opened : NetState) × (o : List Share) × (length o ≡ count) × AreOf opened o (map share_of ws)
+
+-- workers of one opening; none at all are so by themselves
 abbrev pub ComeFromOneOpen : List View → Type 0
-ComeFromOneOpen ws = (ws ≡ []) ⊎ ((opened : NetState) × (o : List Share) × AreOf opened o (map share_of ws))
+ComeFromOneOpen ws = (ws ≡ []) ⊎ ((count : ℕ) × AreOfOpening count ws)
 
 -- a worker has done nothing: it has its nodes as they were
 pub record HasDoneNothing (v : View) : Type 0 where

@@ -77,5 +77,5 @@ loop-number-preserved c =
 pub returns : goal.returns
 returns c =
     let last : c.loop-number.number ≡ length c.args.seats.items = omega (arith, c.loop-number-test.false, c.len-count.ensures, c.args.seats.ok.0, c.loop-number.invariant.seats) in
-    all_shared (net_of_parts c.args.parts) (length c.args.seats.items) c.loop-number.nodes.items c.loop-number.seats.items c.loop-number.workers.items c.requires.sound c.requires.few c.requires.some.0
+    all_shared (net_of_parts c.args.parts) (length c.args.seats.items) c.loop-number.nodes.items c.loop-number.seats.items c.loop-number.workers.items c.requires.sound c.requires.few c.requires.some.0 c.requires.some.1
     (subst (λ (m : ℕ). AreSharedOut (net_of_parts c.args.parts) (length c.args.seats.items) m c.loop-number.nodes.items c.loop-number.seats.items c.loop-number.workers.items) last c.loop-number.invariant.shared)
