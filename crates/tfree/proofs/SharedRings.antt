@@ -16,7 +16,7 @@ use Rattle.tfree.specs.Rings.{AreRings}
 use Rattle.tfree.specs.Opened.{first_of, owned_of, IsShareOf, AreShares, AreApart, AreOf}
 use Rattle.tfree.specs.Seats.{share_at}
 use Rattle.tfree.proofs.FreshWorkers.{in_id_at, out_id_at, far_of}
-use Rattle.tfree.proofs.Gathering.{number_here}
+use Rattle.tfree.proofs.BroughtLogs.{number_here}
 use Rattle.tfree.proofs.NodeOwners.{first-length, first-below}
 use Rattle.tfree.proofs.Portions.{next_first}
 
