@@ -11,13 +11,7 @@ use Rattle.tfree.specs.Lists.{inbox_of}
 use Rattle.tfree.specs.Rings.{place_of, in_at, out_at}
 use Rattle.tfree.specs.Views.{InView, OutView, got_of, put_of}
 
--- what was taken and what is left is what was put, and the inbox holds what is left
-pub record IsDrained (v : InView) (o : OutView) (i : Inbox) : Type 0 where
-  pub pending : List Sent
-  pub kept : v.got ++ pending ≡ o.put
-  pub left : i ≡ inbox_of pending
-
--- the same of ends that may not be there
+-- what was taken and what is left is what was put, and the inbox holds what is left; where no ring is, nothing is
 pub record WasDrained (v : Option InView) (o : Option OutView) (i : Inbox) : Type 0 where
   pub pending : List Sent
   pub kept : got_of v ++ pending ≡ put_of o

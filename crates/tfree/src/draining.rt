@@ -1,11 +1,11 @@
 //! What is left in a ring, once both of its ends are at hand.
-ghost use Rattle.std.specs.Prelude.{◌≡◌, ◌≢◌, ◌+◌, ◌*◌, ◌<◌, ◌≤◌, ℕ, length, vec_len, vec_capacity, option_map, slice_index_or};
+ghost use Rattle.std.specs.Prelude.{◌≡◌, ◌≢◌, ◌+◌, ◌*◌, ◌<◌, ◌≤◌, ℕ, length, vec_len, vec_capacity, Some, option_map, slice_index_or};
 ghost use Rattle.tnet.specs.Packets.{put_in};
 ghost use Rattle.tnet.specs.Wires.{end_at};
 ghost use Rattle.tnet.specs.Net.{empty_inbox};
 ghost use Rattle.tfree.specs.Ends.{in_view, out_view, ins_view, outs_view};
 ghost use Rattle.tfree.specs.Rings.{in_at};
-ghost use Rattle.tfree.specs.Drained.{IsDrained, WasDrained, ArePaired, IsJoined, IsLeftAt, AreLeftAt, AreSameFrom};
+ghost use Rattle.tfree.specs.Drained.{WasDrained, ArePaired, IsJoined, IsLeftAt, AreLeftAt, AreSameFrom};
 
 use crate::ends::{InEnd, OutEnd};
 use tlink::{Arrival, Packet};
@@ -31,7 +31,7 @@ fn put_in(packet: Packet, lies: Inbox) -> Inbox
 /// Takes out of a ring all that is left in it, as an inbox.
 fn drain(end: &mut InEnd, out: &mut OutEnd) -> Inbox
     requires { (out_view out.old).id ≡ (in_view end.old).id }
-    ensures drained { IsDrained (in_view end.old) (out_view out.old) result }
+    ensures drained { WasDrained (Some (in_view end.old)) (Some (out_view out.old)) result }
     ensures out { out_view out.new ≡ out_view out.old }
 {
     let count = end.consumer.slots_beside(&mut out.producer);
