@@ -57,9 +57,9 @@ share_of v = v.share
 abbrev pub AreOfOpening : ℕ → List View → Type 0
 AreOfOpening count ws = (opened : NetState) × (o : List Share) × (length o ≡ count) × AreOf opened o (map share_of ws)
 
--- workers of one opening; none at all are so by themselves
+-- workers of one opening; none at all are so by themselves. Only their shares count, so whatever keeps these keeps it
 abbrev pub ComeFromOneOpen : List View → Type 0
-ComeFromOneOpen ws = (ws ≡ []) ⊎ ((count : ℕ) × AreOfOpening count ws)
+ComeFromOneOpen ws = (map share_of ws ≡ []) ⊎ ((count : ℕ) × AreOfOpening count ws)
 
 -- a worker has done nothing: it has its nodes as they were
 pub record HasDoneNothing (v : View) : Type 0 where
