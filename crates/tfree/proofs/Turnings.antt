@@ -70,16 +70,9 @@ module _ (turns slice : ℕ) where
   shares_of_each (v ∷ vs) (e ∷ es) (w ∷ ws) h = rw (h.0.same, shares_of_each vs es ws h.1) refl
   shares_of_each _ _ _ h = absurd h
 
-  none_left : (ws : List View) → map share_of ws ≡ [] → ws ≡ []
-  none_left [] e = refl
-  none_left (w ∷ ws) e = cc
-
   -- workers of one opening stay so
   pub one_opening_stays : (vs ws : List View) (ok : Bool) → AreTurned turns slice vs ok ws → ComeFromOneOpen vs → ComeFromOneOpen ws
-  one_opening_stays vs ws ok h (inl none) = inl (none_of (shares_of_each vs h.endings ws h.each))
-    where
-      none_of : map share_of ws ≡ map share_of vs → ws ≡ []
-      none_of e = none_left ws (e ∙ rw none refl)
+  one_opening_stays vs ws ok h (inl none) = inl (shares_of_each vs h.endings ws h.each ∙ none)
   one_opening_stays vs ws ok h (inr (n, (net, shares, count, one))) = inr (n, (net, shares, count, subst (λ (o : List Share). AreOf net shares o) (sym (shares_of_each vs h.endings ws h.each)) one))
 
   -- the only worker
