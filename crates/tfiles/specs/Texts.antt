@@ -114,6 +114,10 @@ dump_text w = dump_from 0 w.nodes
 abbrev pub rounds_end : Bool → ℕ → List ℕ
 rounds_end quiet rounds = line (words (codes "end" ∷ (if quiet then codes "quiet" else codes "rounds") ∷ decimal rounds ∷ []))
 
+-- the last line of free workers
+abbrev pub free_end : Bool → List ℕ
+free_end quiet = line (words (codes "end" ∷ (if quiet then codes "quiet" else codes "turns") ∷ []))
+
 -- the last line of a replay
 abbrev pub replay_end : ℕ → List ℕ
 replay_end events = line (words (codes "end" ∷ codes "replay" ∷ decimal events ∷ []))

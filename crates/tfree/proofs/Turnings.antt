@@ -1,19 +1,45 @@
 -- Turns of a worker one after another, and workers that made theirs.
-use Rattle.std.proofs.Common.{◌≡◌, ℕ, zero, suc, ◌+◌, ◌<◌, refl, sym, ◌∙◌, ap, subst, arith, length, get_or, List, [], ◌∷◌, ◌++◌, map, Bool, true, false, ◌&&◌, inl, inr}
+use Rattle.std.proofs.Common.{◌≡◌, ℕ, zero, suc, ◌+◌, ◌<◌, refl, sym, ◌∙◌, ap, subst, arith, length, get_or, List, [], ◌∷◌, ◌++◌, map, Bool, true, false, ◌&&◌}
+use Rattle.std.proofs.lemmas.List.{append-nil, length-append}
 use Rattle.tfree.specs.declared.stamp.OwnEvent.{OwnEvent}
 use Rattle.std.specs.Prelude.{Result, Ok, Err, is_ok, slice_set}
 use Rattle.std.specs.Result.{result_and}
 use Rattle.std.specs.declared.alloc.AllocError.{AllocError}
 use Rattle.std.specs.List.{list_all}
 use Rattle.tfree.specs.Views.{Share, View}
-use Rattle.tfree.specs.Turns.{Times, IsTurn}
-use Rattle.tfree.specs.Opened.{share_of, ComeFromOneOpen, AreOf, AreOfOpening}
+use Rattle.tfree.specs.Turns.{Times, Extends, IsTurn}
+use Rattle.tfree.specs.Opened.{share_of}
 use Rattle.tfree.specs.Turning.{WholeTurn, AreTurns, Ended, IsTurned, had_memory, AreEachTurned, AreTurned}
 
 -- one turn more
 pub turn_more : (s t : Share) (slice k : ℕ) (es mid es' : List OwnEvent) → t ≡ s → Times k (WholeTurn s slice) es mid → IsTurn t slice mid true es' → Times (k + 1) (WholeTurn s slice) es es'
 turn_more s t slice k es mid es' same h turn =
     subst (λ (j : ℕ). Times j (WholeTurn s slice) es es') (let e : suc k ≡ k + 1 = omega arith in e) (mid, h, subst (λ (r : Share). IsTurn r slice mid true es') same turn)
+
+-- a turn that did nothing is as good as any number of them
+idle_turns : (s : Share) (slice n : ℕ) (es : List OwnEvent) → IsTurn s slice es true es → Times n (WholeTurn s slice) es es
+idle_turns s slice zero es h = refl
+idle_turns s slice (suc n) es h = (es, idle_turns s slice n es h, h)
+
+more_turns : (s : Share) (slice k n : ℕ) (es mid es' : List OwnEvent) → Times k (WholeTurn s slice) es mid → Times n (WholeTurn s slice) mid es' → Times (n + k) (WholeTurn s slice) es es'
+more_turns s slice k zero es mid es' h idle =
+    subst (λ (j : ℕ). Times j (WholeTurn s slice) es es') (let e : k ≡ 0 + k = omega arith in e) (subst (λ (x : List OwnEvent). Times k (WholeTurn s slice) es x) (sym idle) h)
+more_turns s slice k (suc n) es mid es' h (last, before, turn) =
+    subst (λ (j : ℕ). Times j (WholeTurn s slice) es es') (let e : suc (n + k) ≡ suc n + k = omega arith in e) (last, more_turns s slice k n es mid last h before, turn)
+
+-- a list that goes on by nothing
+pub nothing_more : (es es' : List OwnEvent) → Extends es es' → length es' ≡ length es → es' ≡ es
+nothing_more es es' (more, is) e = is ∙ (ap (λ (l : List OwnEvent). es ++ l) (empty more (omega (arith, e, ap length is, length-append es more))) ∙ append-nil es)
+  where
+    empty : (l : List OwnEvent) → length l ≡ 0 → l ≡ []
+    empty [] h = refl
+    empty (x ∷ xs) h = absurd (omega (arith, h))
+
+-- so the rest of the turns of a worker that finds nothing
+pub idle_rest : (s t : Share) (turns slice k n : ℕ) (es mid es' : List OwnEvent) → n + k ≡ turns → t ≡ s → Times k (WholeTurn s slice) es mid → IsTurn t slice mid true es' → es' ≡ mid → Times turns (WholeTurn s slice) es es'
+idle_rest s t turns slice k n es mid es' e same h turn idle =
+    let at : IsTurn s slice mid true mid = subst (λ (x : List OwnEvent). IsTurn s slice mid true x) idle (subst (λ (r : Share). IsTurn r slice mid true es') same turn) in
+    subst (λ (j : ℕ). Times j (WholeTurn s slice) es es') e (subst (λ (x : List OwnEvent). Times (n + k) (WholeTurn s slice) es x) (sym idle) (more_turns s slice k n es mid mid h (idle_turns s slice n mid at)))
 
 -- a turn that stopped is the last one
 pub turn_stops : (s t : Share) (turns slice k : ℕ) (es mid es' : List OwnEvent) (ok : Bool) → ok ≡ false → k < turns → t ≡ s → Times k (WholeTurn s slice) es mid → IsTurn t slice mid false es' → AreTurns s turns slice es ok es'
@@ -70,10 +96,9 @@ module _ (turns slice : ℕ) where
   shares_of_each (v ∷ vs) (e ∷ es) (w ∷ ws) h = rw (h.0.same, shares_of_each vs es ws h.1) refl
   shares_of_each _ _ _ h = absurd h
 
-  -- workers of one opening stay so
-  pub one_opening_stays : (vs ws : List View) (ok : Bool) → AreTurned turns slice vs ok ws → ComeFromOneOpen vs → ComeFromOneOpen ws
-  one_opening_stays vs ws ok h (inl none) = inl (shares_of_each vs h.endings ws h.each ∙ none)
-  one_opening_stays vs ws ok h (inr (n, (net, shares, count, one))) = inr (n, (net, shares, count, subst (λ (o : List Share). AreOf net shares o) (sym (shares_of_each vs h.endings ws h.each)) one))
+  -- each keeps its share
+  pub shares_stay : (vs ws : List View) (ok : Bool) → AreTurned turns slice vs ok ws → map share_of ws ≡ map share_of vs
+  shares_stay vs ws ok h = shares_of_each vs h.endings ws h.each
 
   -- the only worker
   pub only_turned : (vs : List View) (v w : View) (e : Ended) (ok : Bool) → length vs ≡ 1 → ok ≡ had_memory e → IsTurned turns slice (get_or vs 0 v) e w → AreTurned turns slice vs ok (slice_set vs 0 w)

@@ -4,3 +4,4 @@ pub mod Outcomes
 pub mod Replays
 pub mod FaultLines
 pub mod Commands
+pub mod Free

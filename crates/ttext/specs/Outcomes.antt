@@ -63,8 +63,8 @@ opened_with w (Err f) = Err f
 abbrev pub opened_of : Wiring → List (List ℕ) → Result NetState Fault
 opened_of w files = opened_with w (images_of files)
 
--- a report, unless it is refused to make one
-abbrev pub unless_refused : Option NetFault → Report → Result Report Fault
+-- what is due, unless it is refused
+abbrev pub unless_refused : {T : Type 0} → Option NetFault → T → Result T Fault
 unless_refused None r = Ok r
 unless_refused (Some f) r = Err (fault.Rounds f)
 

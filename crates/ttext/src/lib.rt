@@ -4,12 +4,14 @@
 pub mod commands;
 pub mod fault;
 mod fault_line;
+pub mod free;
 mod opened;
 pub mod replaying;
 pub mod run;
 
-pub use commands::{dis_file, end_command, replay_files, run_files};
+pub use commands::{dis_file, end_command, free_files, replay_files, run_files};
 pub use fault::Fault;
 pub use fault_line::write_fault;
+pub use free::free_text;
 pub use replaying::replay_text;
 pub use run::run_text;

@@ -1,7 +1,7 @@
 //! The last line of what a run prints.
 
 ghost use Rattle.std.specs.Prelude.{codes, if◌then◌else◌};
-ghost use Rattle.tfiles.specs.Texts.{replay_end, rounds_end};
+ghost use Rattle.tfiles.specs.Texts.{free_end, replay_end, rounds_end};
 ghost use Rattle.tfiles.specs.Outputs.{Tells};
 
 use crate::writing::output::Output;
@@ -27,6 +27,17 @@ fn put_how<W: Write>(out: &mut Output<'_, W>, quiet: bool)
         out.put(b"quiet");
     } else {
         out.put(b"rounds");
+    }
+}
+
+/// The last line of free workers: `end quiet`, or `end turns` where the net was not quiet.
+pub fn put_free_end<W: Write>(out: &mut Output<'_, W>, quiet: bool)
+    ensures { Tells W.contents out.old out.new (free_end quiet) }
+{
+    if quiet {
+        out.put(b"end quiet\n");
+    } else {
+        out.put(b"end turns\n");
     }
 }
 

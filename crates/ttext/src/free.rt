@@ -1,0 +1,118 @@
+//! Free workers, and what is printed of what they did: trace, dumps and last line.
+
+ghost use Rattle.std.specs.Prelude.{◌≡◌, Ok, IfOk, IfErr, IsOk, MatchResult, length};
+ghost use Rattle.std.specs.Io.KnownBytes.{Appends};
+ghost use Rattle.tnet.specs.Notes.{notes};
+ghost use Rattle.tnet.specs.Runs.{IsSeenRun};
+ghost use Rattle.tnet.specs.Sound.{IsSound};
+ghost use Rattle.tfree.specs.Opened.{IsOpened};
+ghost use Rattle.tfiles.specs.Outputs.{IsOut};
+ghost use Rattle.ttext.specs.Free as spec;
+ghost use Rattle.ttext.specs.Free.{shared_of, shared_with, free_last, AreFree, IsFreeLeft, IsFreeRun};
+ghost use Rattle.ttext.specs.Outcomes.{IsDue, IsFaultOf, ShowsOneRun};
+
+use crate::fault::Fault;
+use crate::opened::open_net;
+use std::alloc::Global;
+use std::io::Write;
+use std::thread::Threads;
+use tfiles::writing::dump::put_dump;
+use tfiles::writing::end::put_free_end;
+use tfiles::writing::output::{Output, WriteFault};
+use tfiles::writing::trace::put_trace;
+use tfree::laws::opened_workers_stay;
+use tfree::{GatherFault, Gathered, OpenFault, Worker, gather, open, turn_all};
+use tnet::Net;
+use tnet::laws::quiet_is_nothing_enabled;
+use tplan::{Options, Wiring};
+use trounds::NetFault;
+use tword::Items;
+
+/// Runs the net of a wiring and the files of its images, one file a node, by free workers: each makes so many turns as the
+/// options have rounds, on a thread of its own where one can be started, or stops at a full clock; then they are gathered. It
+/// writes the trace, the dump of each node and a last line `end quiet`, or `end turns` where the net is not quiet. What the
+/// wiring holds is ignored. Nothing is written before the workers are gathered.
+///
+/// # Errors
+/// The first of these: `Image` for the first file that is no image, `Net` for the lowest fault of the plan, `Rounds` with
+/// `BadWorkers` outside 1 to 64, `Output` where the writer failed. `Memory` where the allocator refused, in a turn too. But for
+/// `Output` nothing was written.
+pub fn free_text<R: Threads + Sync, W: Write>(
+    rt: &R,
+    alloc: Global,
+    wiring: &Wiring,
+    files: &[Items<u8>],
+    options: &Options,
+    out: &mut W,
+) -> Result<Gathered, Fault>
+    requires { length files.now ≡ length wiring.now.nodes }
+    // what workers did on the net of the wiring; and each fault is the first that is due
+    ensures answer { MatchResult result
+        (IsFreeRun wiring.now files.now options.now)
+        (IsDue (shared_of wiring.now files.now options.now)) }
+
+    // its text is written
+    ensures text { IfOk result (λ g. Appends (W.contents out.old) (W.contents out.new) (spec.free_text g)) }
+
+    // the headline: this is the text of one run of the rendezvous machine, in which each message that is complete is one step
+    // that copies it whole
+    ensures run { IfOk result (λ g. ShowsOneRun wiring.now files.now g.history (free_last g) (W.contents out.old) (W.contents out.new)) }
+
+    // else nothing is written, or the beginning of the text of what workers did
+    ensures left { IfErr result (IsFreeLeft W.contents (IsFreeRun wiring.now files.now options.now) out.old out.new) }
+{
+    let net = open_net(alloc, wiring, files)?;
+    let gathered = run_free(rt, alloc, net, options)?;
+    write_gathered(out, &gathered)?;
+    Ok(gathered)
+}
+
+/// What free workers do on a net.
+fn run_free<R: Threads + Sync>(
+    rt: &R,
+    alloc: Global,
+    net: Net,
+    options: &Options,
+) -> Result<Gathered, Fault>
+    ensures answer { MatchResult result (AreFree net options.now) (IsFaultOf (shared_with options.now (Ok net))) }
+    ensures due { IfOk result (λ _. shared_with options.now (Ok net) ≡ Ok net) }
+    ensures run { IfOk result (λ g. IsSeenRun net g.history g.net) }
+    ensures told { IfOk result (λ g. g.notes ≡ notes g.history net) }
+    ensures sound { IfOk result (λ g. IsSound g.net) }
+{
+    let mut workers = share(alloc, net, options)?;
+    turn_all(rt, workers.as_mut_slice(), options.rounds, options.slice)?;
+    opened_workers_stay();
+    match gather(alloc, workers) {
+        Ok(gathered) => Ok(gathered),
+        Err((GatherFault::OutOfMemory, _workers)) => Err(Fault::Memory),
+        Err((GatherFault::Missing(_number), _workers)) => unreachable!(),
+    }
+}
+
+/// The workers that share a net.
+fn share(alloc: Global, net: Net, options: &Options) -> Result<Vec<Worker>, Fault>
+    ensures answer { MatchResult result
+        (λ workers. IsOpened net options.now.workers workers.items)
+        (IsFaultOf (shared_with options.now (Ok net))) }
+    ensures due { IfOk result (λ _. shared_with options.now (Ok net) ≡ Ok net) }
+{
+    match open(alloc, net, options.workers) {
+        Ok(workers) => Ok(workers),
+        Err((OpenFault::BadWorkers, _net)) => Err(Fault::Rounds(NetFault::BadWorkers)),
+        Err((OpenFault::OutOfMemory, _net)) => Err(Fault::Memory),
+    }
+}
+
+/// Writes what is printed of what workers did.
+fn write_gathered<W: Write>(out: &mut W, gathered: &Gathered) -> Result<(), WriteFault>
+    requires { IsSound gathered.now.net }
+    ensures { IsOut (W.contents out.old) (W.contents out.new) (spec.free_text gathered.now) result }
+{
+    quiet_is_nothing_enabled();
+    let mut output = Output::new(out);
+    put_trace(&mut output, gathered.notes.as_slice());
+    put_dump(&mut output, &gathered.net);
+    put_free_end(&mut output, gathered.net.is_quiet());
+    output.finish()
+}
