@@ -1,17 +1,17 @@
 -- Workers of one opening: all of them, or some, and what they keep.
-use Rattle.std.proofs.Common.{◌≡◌, ◌≢◌, ◌∙◌, ℕ, zero, suc, ◌<◌, refl, sym, ap, subst, arith, List, [], ◌∷◌, ◌++◌, length, map, get_or, true, inl, inr}
+use Rattle.std.proofs.Common.{◌≡◌, ◌≢◌, ◌∙◌, ℕ, zero, suc, ◌<◌, refl, sym, ap, subst, arith, List, [], ◌∷◌, ◌++◌, length, map, get_or, inl, inr}
 use Rattle.std.specs.Prelude.{All, Some, slice_get}
 use Rattle.std.specs.Option.{IsSome}
 use Rattle.std.proofs.lemmas.Bool.{cases_eq}
 use Rattle.std.proofs.lemmas.List.{length-map, map-append}
-use Rattle.std.proofs.lemmas.List.Elements.{All-nil, All-cons, All-head, All-tail}
+use Rattle.std.proofs.lemmas.List.Elements.{All-cons, All-head, All-tail}
 use Rattle.std.proofs.lemmas.Option.{slice_get-get_or}
 use Rattle.tplan.specs.declared.event.Event.{Event}
 use Rattle.tplan.specs.declared.event.Note.{Note}
 use Rattle.tnet.specs.Net.{NetState}
 use Rattle.tnet.specs.Notes as notes
-use Rattle.tfree.specs.Gather.{AreComplete, AreAllWorkers, OpenedWorkersStay, OneOpeningStays, SomeComeFromOneOpen}
-use Rattle.tfree.specs.Opened.{share_of, worker_of, AreApart, AreOf, AreOfOpening, ComeFromOneOpen, Gathers, IsOpened, IsShareOf}
+use Rattle.tfree.specs.Gather.{AreAllWorkers, OpenedWorkersStay, OneOpeningStays, SomeComeFromOneOpen}
+use Rattle.tfree.specs.Opened.{share_of, worker_of, AreApart, AreOf, AreOfOpening, Gathers, IsOpened}
 use Rattle.tfree.specs.Views.{Share, View}
 use Rattle.tfree.proofs.TakenParts.{counts, get_map, nets}
 use Rattle.tfree.proofs.WorkerNumbers.{All-right}
