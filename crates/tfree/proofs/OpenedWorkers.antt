@@ -101,7 +101,7 @@ some_come us vs ws (inr (n, (net, o, count, one))) =
         o,
         count,
         subst (λ (s : List Share). AreOf net o s) (sym (map-append share_of us ws))
-        (some_shares net o (map share_of us) (map share_of vs) (map share_of ws) (subst (λ (s : List Share). AreOf net o s) (map_of_three share_of us vs ws) one)),
+            (some_shares net o (map share_of us) (map share_of vs) (map share_of ws) (subst (λ (s : List Share). AreOf net o s) (map_of_three share_of us vs ws) one)),
       ),
     )
 

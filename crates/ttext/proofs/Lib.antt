@@ -1,2 +1,3 @@
 pub mod OpenedFiles
 pub mod DueFaults
+mod GatheredWorkers

@@ -59,11 +59,11 @@ IsFreeLeft contents may old new f = new ≡ old
 -- ---- the command: the text, and then the log
 
 -- free workers ran, and all is written: the text of one run of the rendezvous machine, and its log, where there is to be one
-pub record IsFreeDone {W L : Type 0} (contents : W → Option (List ℕ)) (log_contents : L → Option (List ℕ)) (w : Wiring) (files : List (List ℕ)) (o : Options) (frozen : Bool) (old new : W) (log_old log_new : Option L) : Type 0 where
+pub record IsFreeDone {W L : Type 0} (contents : W → Option (List ℕ)) (log_contents : L → Option (List ℕ)) (w : Wiring) (files : List (List ℕ)) (o : Options) (told : Bool) (old new : W) (log_old log_new : Option L) : Type 0 where
   pub gathered : Gathered
   pub ran : IsFreeRun w files o gathered
-  -- whether a node is frozen
-  pub frozen : frozen ≡ has_frozen gathered.net
+  -- whether a node is frozen is told
+  pub frozen : told ≡ has_frozen gathered.net
   pub text : Appends (contents old) (contents new) (free_text gathered)
   -- the headline: the text is that of one run of the rendezvous machine, in which each message that is complete is one step that copies it whole
   pub run : ShowsOneRun w files gathered.history (free_last gathered) (contents old) (contents new)

@@ -1,12 +1,14 @@
 //! Free workers, and what is printed of what they did: trace, dumps and last line.
 
-ghost use Rattle.std.specs.Prelude.{◌≡◌, Ok, IfOk, IfErr, IsOk, MatchResult, length};
+ghost use Rattle.std.specs.Prelude.{◌≡◌, Ok, IfOk, IfErr, IsOk, MatchResult, length, map, true};
 ghost use Rattle.std.specs.Io.KnownBytes.{Appends};
 ghost use Rattle.tnet.specs.Notes.{notes};
 ghost use Rattle.tnet.specs.Runs.{IsSeenRun};
 ghost use Rattle.tnet.specs.Sound.{IsSound};
-ghost use Rattle.tfree.specs.Opened.{IsOpened};
+ghost use Rattle.tfree.specs.Opened.{share_of, IsOpened};
+ghost use Rattle.tfree.specs.Turning.{AreTurned};
 ghost use Rattle.tfiles.specs.Outputs.{IsOut};
+ghost use Rattle.ttext.specs.declared.fault.Fault.TheVariants.{Memory};
 ghost use Rattle.ttext.specs.Free as spec;
 ghost use Rattle.ttext.specs.Free.{shared_of, shared_with, free_last, AreFree, IsFreeLeft, IsFreeRun};
 ghost use Rattle.ttext.specs.Outcomes.{IsDue, IsFaultOf, ShowsOneRun};
@@ -80,8 +82,7 @@ fn run_free<R: Threads + Sync>(
     ensures told { IfOk result (λ g. g.notes ≡ notes g.history net) }
     ensures sound { IfOk result (λ g. IsSound g.net) }
 {
-    let mut workers = share(alloc, net, options)?;
-    turn_all(rt, workers.as_mut_slice(), options.rounds, options.slice)?;
+    let workers = turned(rt, share(alloc, net, options)?, options)?;
     opened_workers_stay();
     match gather(alloc, workers) {
         Ok(gathered) => Ok(gathered),
@@ -102,6 +103,20 @@ fn share(alloc: Global, net: Net, options: &Options) -> Result<Vec<Worker>, Faul
         Err((OpenFault::BadWorkers, _net)) => Err(Fault::Rounds(NetFault::BadWorkers)),
         Err((OpenFault::OutOfMemory, _net)) => Err(Fault::Memory),
     }
+}
+
+/// Workers that made their turns.
+fn turned<R: Threads + Sync>(
+    rt: &R,
+    mut workers: Vec<Worker>,
+    options: &Options,
+) -> Result<Vec<Worker>, Fault>
+    ensures turns { IfOk result (λ turned. AreTurned options.now.rounds options.now.slice workers.items true turned.items) }
+    ensures same { IfOk result (λ turned. map share_of turned.items ≡ map share_of workers.items) }
+    ensures memory { IfErr result (λ fault. fault ≡ Memory) }
+{
+    turn_all(rt, workers.as_mut_slice(), options.rounds, options.slice)?;
+    Ok(workers)
 }
 
 /// Writes what is printed of what workers did.
