@@ -18,7 +18,7 @@ use Rattle.clap.specs.declared.parser.matches.ArgMatches.{ArgMatches}
 use Rattle.clap.specs.declared.parser.matches.ArgMatches.TheViews.{out-ArgMatches, out-SubCommand}
 use Rattle.std.specs.Box.{box_value}
 use Rattle.clap.proofs.ValueTestLemmas.{accepts-Accepts}
-use Rattle.twords.specs.CommandLines.{HasText, HasNumber, IsWhole, between, program, refusals, run_shape, replay_shape, dis_shape, file_rule, number_rule}
+use Rattle.twords.specs.CommandLines.{HasText, HasNumber, IsRun, IsWhole, between, program, refusals, running_shape, run_shape, free_shape, replay_shape, dis_shape, file_rule, number_rule}
 use Rattle.twords.proofs.WordWalks.{Each, IsFit, Holds, Rows, Found, default_found, each_found, level_passes, neither, required_found, subcommand_wanted}
 
 -- ---- what a row gives
@@ -70,6 +70,9 @@ asks_help c a first help = record { first = first; action = inr help }
 run_fits : RulesFit (built_of run_shape)
 run_fits = (one_value _ _ refl refl refl, (one_value _ _ refl refl refl, (one_value _ _ refl refl refl, (one_value _ _ refl refl refl, (one_value _ _ refl refl refl, (asks_help _ _ refl refl, tt))))))
 
+free_fits : RulesFit (built_of free_shape)
+free_fits = (one_value _ _ refl refl refl, (one_value _ _ refl refl refl, (one_value _ _ refl refl refl, (one_value _ _ refl refl refl, (one_value _ _ refl refl refl, (asks_help _ _ refl refl, tt))))))
+
 replay_fits : RulesFit (built_of replay_shape)
 replay_fits = (one_value _ _ refl refl refl, (one_value _ _ refl refl refl, (asks_help _ _ refl refl, tt)))
 
@@ -79,7 +82,7 @@ dis_fits = (one_value _ _ refl refl refl, (asks_help _ _ refl refl, tt))
 top_fits : RulesFit (built program).top
 top_fits = (asks_help _ _ refl refl, tt)
 
--- ---- the three commands
+-- ---- the four commands
 
 -- what the words ask for is whole
 abbrev pub IsAnswered : Option (Text × List Row) → Type 0
@@ -109,37 +112,60 @@ file_built i id = with_index i (filled (file_rule id))
 abbrev number_built : Text → ValueParser → Text → Rule
 number_built id parser default = filled (number_rule id parser default)
 
+-- a run that is taken has what it needs
+is_run : (name limit : Text) (words : List Text) (fits : RulesFit (built_of (running_shape name limit))) → IsTaken (built_of (running_shape name limit)) words
+    → IsRun limit (rows_after (built_of (running_shape name limit)).rules [] words)
+is_run name limit words fits e = record {
+  wiring = file_named s words (file_built 1 (codes "wiring")) fits e fits.0.first refl;
+  workers = number_named s words (number_built (codes "workers") (between 1 64) (codes "1")) 1 64 fits e fits.1.0.first (omega arith) refl;
+  limit = number_named s words (number_built limit (between 0 4294967295) (codes "100000")) 0 4294967295 fits e fits.1.1.0.first (omega arith) refl;
+  slice = number_named s words (number_built (codes "slice") (between 1 65536) (codes "64")) 1 65536 fits e fits.1.1.1.0.first (omega arith) refl;
+}
+  where
+    s : Shape
+    s = built_of (running_shape name limit)
+
+-- a command of another name
+other : {A : Type 0} → false ≡ true → A
+other is = absurd (true≢false (sym is))
+
 run_whole : (words : List Text) → IsTaken (built_of run_shape) words → IsWhole (codes "run") (rows_after (built_of run_shape).rules [] words)
 run_whole words e = record {
-  run = λ is. record {
-    wiring = file_named (built_of run_shape) words (file_built 1 (codes "wiring")) run_fits e refl refl;
-    workers = number_named (built_of run_shape) words (number_built (codes "workers") (between 1 64) (codes "1")) 1 64 run_fits e refl (omega arith) refl;
-    rounds = number_named (built_of run_shape) words (number_built (codes "rounds") (between 0 4294967295) (codes "100000")) 0 4294967295 run_fits e refl (omega arith) refl;
-    slice = number_named (built_of run_shape) words (number_built (codes "slice") (between 1 65536) (codes "64")) 1 65536 run_fits e refl (omega arith) refl;
-  };
-  replay = λ other. absurd (true≢false other);
-  dis = λ other. absurd (true≢false other);
+  run = λ is. is_run (codes "run") (codes "rounds") words run_fits e;
+  free = other;
+  replay = other;
+  dis = λ run. absurd (true≢false run);
+}
+
+free_whole : (words : List Text) → IsTaken (built_of free_shape) words → IsWhole (codes "free") (rows_after (built_of free_shape).rules [] words)
+free_whole words e = record {
+  run = other;
+  free = λ is. is_run (codes "free") (codes "turns") words free_fits e;
+  replay = other;
+  dis = λ run free. absurd (true≢false free);
 }
 
 replay_whole : (words : List Text) → IsTaken (built_of replay_shape) words → IsWhole (codes "replay") (rows_after (built_of replay_shape).rules [] words)
 replay_whole words e = record {
-  run = λ is. absurd (true≢false (sym is));
-  replay = λ other is. (
+  run = other;
+  free = other;
+  replay = λ is. (
     file_named (built_of replay_shape) words (file_built 1 (codes "wiring")) replay_fits e refl refl,
     file_named (built_of replay_shape) words (file_built 2 (codes "log")) replay_fits e refl refl,
   );
-  dis = λ other is. absurd (true≢false is);
+  dis = λ run free replay. absurd (true≢false replay);
 }
 
 dis_whole : (words : List Text) → IsTaken (built_of dis_shape) words → IsWhole (codes "dis") (rows_after (built_of dis_shape).rules [] words)
 dis_whole words e = record {
-  run = λ is. absurd (true≢false (sym is));
-  replay = λ other is. absurd (true≢false (sym is));
-  dis = λ other more. (refl, file_named (built_of dis_shape) words (file_built 1 (codes "image")) dis_fits e refl refl);
+  run = other;
+  free = other;
+  replay = other;
+  dis = λ run free replay. (refl, file_named (built_of dis_shape) words (file_built 1 (codes "image")) dis_fits e refl refl);
 }
 
 each_whole : Each (λ s. (words : List Text) → IsTaken s words → IsAnswered (Some (rows_at s words))) (built program).subs
-each_whole = (run_whole, (replay_whole, (dis_whole, tt)))
+each_whole = (run_whole, (free_whole, (replay_whole, (dis_whole, tt))))
 
 -- words that are not refused ask for one of the commands, with all that it needs
 pub whole : (words : List Text) → refusals words ≡ [] → IsAnswered (subcommand_of program words)

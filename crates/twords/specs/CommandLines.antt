@@ -15,7 +15,7 @@ use Rattle.clap.specs.declared.builder.value_parser.ValueParser.{ValueParser}
 use Rattle.clap.specs.declared.builder.value_parser.ValueParser.TheVariants.{Signed}
 use Rattle.tplan.specs.declared.options.Options.{Options}
 use Rattle.twords.specs.declared.words.Command.{Command}
-use Rattle.twords.specs.declared.words.Command.TheVariants.{Run, Replay, Dis}
+use Rattle.twords.specs.declared.words.Command.TheVariants.{Run, Free, Replay, Dis}
 
 -- ---- the words that are taken
 
@@ -35,16 +35,24 @@ number_rule id parser default = record (option_rule id) { parser = Some parser; 
 abbrev pub between : ℕ → ℕ → ValueParser
 between least most = Signed (pos least) (pos most)
 
--- `run WIRING [--workers N] [--rounds N] [--slice N] [--log FILE]`
-abbrev pub run_shape : Shape
-run_shape = record (new_shape (codes "run")) {
+-- a command that runs a net, `NAME WIRING [--workers N] [--LIMIT N] [--slice N] [--log FILE]`
+abbrev pub running_shape : (name limit : Text) → Shape
+running_shape name limit = record (new_shape name) {
   rules = file_rule (codes "wiring")
       ∷ number_rule (codes "workers") (between 1 64) (codes "1")
-      ∷ number_rule (codes "rounds") (between 0 4294967295) (codes "100000")
+      ∷ number_rule limit (between 0 4294967295) (codes "100000")
       ∷ number_rule (codes "slice") (between 1 65536) (codes "64")
       ∷ option_rule (codes "log")
       ∷ [];
 }
+
+-- `run WIRING [--workers N] [--rounds N] [--slice N] [--log FILE]`
+abbrev pub run_shape : Shape
+run_shape = running_shape (codes "run") (codes "rounds")
+
+-- `free WIRING [--workers N] [--turns N] [--slice N] [--log FILE]`
+abbrev pub free_shape : Shape
+free_shape = running_shape (codes "free") (codes "turns")
 
 -- `replay WIRING LOG`
 abbrev pub replay_shape : Shape
@@ -63,18 +71,20 @@ top = record {
 
 -- the program
 abbrev pub program : App
-program = with_subcommand (with_subcommand (with_subcommand top run_shape) replay_shape) dis_shape
+program = with_subcommand (with_subcommand (with_subcommand (with_subcommand top run_shape) free_shape) replay_shape) dis_shape
 
 -- ---- what they ask for
 
 -- what a command line asks for, with the texts of its words
 pub data Asked : Type 0 where
   run : Text → Options → Option Text → Asked
+  free : Text → Options → Option Text → Asked
   replay : Text → Text → Asked
   dis : Text → Asked
 
 abbrev pub asked_of : Command → Asked
 asked_of (Run wiring options log) = run wiring.bytes.items options (option_map (λ s. s.bytes.items) log)
+asked_of (Free wiring options log) = free wiring.bytes.items options (option_map (λ s. s.bytes.items) log)
 asked_of (Replay wiring log) = replay wiring.bytes.items log.bytes.items
 asked_of (Dis image) = dis image.bytes.items
 
@@ -86,12 +96,15 @@ text_at id rows = option_map_or (λ t. t) (first_of id rows) []
 abbrev pub number_at : Text → List Row → ℕ
 number_at id rows = option_map_or (λ t. digits_value 10 (without_leading_plus t)) (one_of id rows) 0
 
--- the options of a run
-abbrev pub options_in : List Row → Options
-options_in rows = record { workers = number_at (codes "workers") rows; rounds = number_at (codes "rounds") rows; slice = number_at (codes "slice") rows }
+-- the options of a run, whose limit is the argument of this id
+abbrev pub options_in : Text → List Row → Options
+options_in id rows = record { workers = number_at (codes "workers") rows; rounds = number_at id rows; slice = number_at (codes "slice") rows }
 
 abbrev pub run_in : List Row → Asked
-run_in rows = run (text_at (codes "wiring") rows) (options_in rows) (first_of (codes "log") rows)
+run_in rows = run (text_at (codes "wiring") rows) (options_in (codes "rounds") rows) (first_of (codes "log") rows)
+
+abbrev pub free_in : List Row → Asked
+free_in rows = free (text_at (codes "wiring") rows) (options_in (codes "turns") rows) (first_of (codes "log") rows)
 
 abbrev pub replay_in : List Row → Asked
 replay_in rows = replay (text_at (codes "wiring") rows) (text_at (codes "log") rows)
@@ -104,6 +117,7 @@ abbrev pub command_in : Option (Text × List Row) → Option Asked
 command_in None = None
 command_in (Some (name, rows)) =
     if bytes_eq name (codes "run") then Some (run_in rows)
+    else if bytes_eq name (codes "free") then Some (free_in rows)
     else if bytes_eq name (codes "replay") then Some (replay_in rows)
     else if bytes_eq name (codes "dis") then Some (dis_in rows)
     else None
@@ -124,6 +138,7 @@ pub record AreOptions (o : Options) : Type 0 where
 
 abbrev pub IsInRange : Command → Type 0
 IsInRange (Run wiring options log) = AreOptions options
+IsInRange (Free wiring options log) = AreOptions options
 IsInRange (Replay wiring log) = Unit {0}
 IsInRange (Dis image) = Unit {0}
 
@@ -139,11 +154,11 @@ pub record HasNumber (least most : ℕ) (id : Text) (rows : List Row) : Type 0 w
   pub read : one_of id rows ≡ Some (without_minus text)
   pub within : IsSignedIn (pos least) (pos most) text
 
--- the arguments of `run` that cannot be absent are there
-pub record IsRun (rows : List Row) : Type 0 where
+-- the arguments of a run that cannot be absent are there; its limit is the one of this id
+pub record IsRun (id : Text) (rows : List Row) : Type 0 where
   pub wiring : HasText (codes "wiring") rows
   pub workers : HasNumber 1 64 (codes "workers") rows
-  pub rounds : HasNumber 0 4294967295 (codes "rounds") rows
+  pub limit : HasNumber 0 4294967295 id rows
   pub slice : HasNumber 1 65536 (codes "slice") rows
 
 abbrev pub IsReplay : List Row → Type 0
@@ -152,11 +167,12 @@ IsReplay rows = HasText (codes "wiring") rows × HasText (codes "log") rows
 abbrev pub IsDis : List Row → Type 0
 IsDis rows = HasText (codes "image") rows
 
--- the command of this name is one of the three, and its arguments are there
+-- the command of this name is one of the four, and its arguments are there
 pub record IsWhole (name : Text) (rows : List Row) : Type 0 where
-  pub run : bytes_eq name (codes "run") ≡ true → IsRun rows
-  pub replay : bytes_eq name (codes "run") ≡ false → bytes_eq name (codes "replay") ≡ true → IsReplay rows
-  pub dis : bytes_eq name (codes "run") ≡ false → bytes_eq name (codes "replay") ≡ false → (bytes_eq name (codes "dis") ≡ true) × IsDis rows
+  pub run : bytes_eq name (codes "run") ≡ true → IsRun (codes "rounds") rows
+  pub free : bytes_eq name (codes "free") ≡ true → IsRun (codes "turns") rows
+  pub replay : bytes_eq name (codes "replay") ≡ true → IsReplay rows
+  pub dis : bytes_eq name (codes "run") ≡ false → bytes_eq name (codes "free") ≡ false → bytes_eq name (codes "replay") ≡ false → (bytes_eq name (codes "dis") ≡ true) × IsDis rows
 
 -- a parser reads a command of this shape, and no subcommand
 abbrev pub HasShape : Shape → Parser → Type 0
@@ -176,10 +192,19 @@ example_run : command_of words_of_run ≡ Some (run (codes "pair.toml") (record 
 unfolding clap_on_literals
 example_run = refl
 
+-- likewise of `free`
+example_free : command_of (codes "temu" ∷ codes "free" ∷ codes "--log" ∷ codes "pair.log" ∷ codes "--turns=7" ∷ codes "pair.toml" ∷ codes "--slice" ∷ codes "65536" ∷ []) ≡ Some (free (codes "pair.toml") (record { workers = 1; rounds = 7; slice = 65536 }) (Some (codes "pair.log")))
+unfolding clap_on_literals
+example_free = refl
+
 -- nothing but the file
 example_defaults : command_of (codes "temu" ∷ codes "run" ∷ codes "pair.toml" ∷ []) ≡ Some (run (codes "pair.toml") (record { workers = 1; rounds = 100000; slice = 64 }) None)
 unfolding clap_on_literals
 example_defaults = refl
+
+example_free_defaults : command_of (codes "temu" ∷ codes "free" ∷ codes "pair.toml" ∷ []) ≡ Some (free (codes "pair.toml") (record { workers = 1; rounds = 100000; slice = 64 }) None)
+unfolding clap_on_literals
+example_free_defaults = refl
 
 example_replay : command_of (codes "temu" ∷ codes "replay" ∷ codes "pair.toml" ∷ codes "pair.log" ∷ []) ≡ Some (replay (codes "pair.toml") (codes "pair.log"))
 unfolding clap_on_literals
@@ -194,18 +219,30 @@ example_taken : refusals words_of_run ≡ []
 unfolding clap_on_literals
 example_taken = refl
 
--- a number out of its range, an option that no command has, a file that is missing, no words, and help
+-- a number out of its range, an option of another command, a file that is missing, no words, and help
 example_workers : refusals (codes "temu" ∷ codes "run" ∷ codes "pair.toml" ∷ codes "--workers" ∷ codes "0" ∷ []) ≡ ValueValidation ∷ []
 unfolding clap_on_literals
 example_workers = refl
+
+example_turns : refusals (codes "temu" ∷ codes "free" ∷ codes "pair.toml" ∷ codes "--turns" ∷ codes "4294967296" ∷ []) ≡ ValueValidation ∷ []
+unfolding clap_on_literals
+example_turns = refl
 
 example_unknown : refusals (codes "temu" ∷ codes "run" ∷ codes "pair.toml" ∷ codes "--turns" ∷ codes "5" ∷ []) ≡ UnknownArgument ∷ []
 unfolding clap_on_literals
 example_unknown = refl
 
+example_free_unknown : refusals (codes "temu" ∷ codes "free" ∷ codes "pair.toml" ∷ codes "--rounds" ∷ codes "5" ∷ []) ≡ UnknownArgument ∷ []
+unfolding clap_on_literals
+example_free_unknown = refl
+
 example_missing : refusals (codes "temu" ∷ codes "replay" ∷ codes "pair.toml" ∷ []) ≡ MissingRequiredArgument ∷ []
 unfolding clap_on_literals
 example_missing = refl
+
+example_free_missing : refusals (codes "temu" ∷ codes "free" ∷ codes "--turns" ∷ codes "5" ∷ []) ≡ MissingRequiredArgument ∷ []
+unfolding clap_on_literals
+example_free_missing = refl
 
 example_nothing : refusals (codes "temu" ∷ []) ≡ DisplayHelpOnMissingArgumentOrSubcommand ∷ []
 unfolding clap_on_literals

@@ -6,6 +6,7 @@ ghost use Rattle.clap.specs.declared.builder.command.Command.TheViews.{out-Comma
 ghost use Rattle.twords.specs.CommandLines as spec;
 ghost use Rattle.twords.specs.CommandLines.{IsInRange, asked_of, command_of, refusals};
 
+use crate::help::{self, RunHelp};
 use clap::{Arg, ArgMatches, Command as Parser, value_parser};
 use std::alloc::{AllocError, Global};
 use tplan::Options;
@@ -23,6 +24,13 @@ pub enum Command {
         options: Options,
         log: Option<String>,
     },
+    /// Runs the net of a wiring file by free workers, and writes what they did into a log file where one is named:
+    /// `options.rounds` are the turns.
+    Free {
+        wiring: String,
+        options: Options,
+        log: Option<String>,
+    },
     /// Does the events of a log file on the net of a wiring file.
     Replay {
         wiring: String,
@@ -33,65 +41,6 @@ pub enum Command {
         image: String,
     },
 }
-
-/// What stands below the help of the program.
-const PROGRAM_HELP: &str = "\
-Examples:
-  temu run pair.toml
-  temu run pair.toml --workers 4 --log pair.log
-  temu replay pair.toml pair.log
-  temu dis first.img
-
-`temu run --help` and its like tell what goes into a command and what comes out.
-
-Exit status: 0 done; 1 done, and a node is frozen, since it broke a usage rule; 2 bad input, which standard error
-names; 3 the output failed; 4 no memory.";
-
-/// What stands below the help of `run`.
-const RUN_HELP: &str = "\
-In: a wiring file such as
-
-  version = 1
-  timeslice = 1024     # may be left out
-  [[node]]             # node 0, 1, ..
-  memory = 2048        # in bytes
-  image = \"a.img\"      # the path of its boot image
-  [[wire]]
-  a = [0, 1]           # node and link
-  b = [1, 2]
-  [[hold]]             # packets that wait at an end
-  end = [1, 2]
-  kind = \"data\"        # or \"ack\"
-  from = 1             # the first round in which they wait
-  until = 5            # and the first in which they do not
-
-Out: a line for each message that went over, as `msg 0.1 1.2 4 01020304` (from, to, length, bytes), and for each node
-that halted or froze; the memory of each node, without lines of zeros; last `end quiet R`, where nothing is left to do
-after R rounds, or `end rounds R`.
-
-Example:
-  temu run pair.toml --workers 4 --log pair.log";
-
-/// What stands below the help of `replay`.
-const REPLAY_HELP: &str = "\
-In: a wiring file (see `temu run --help`) and a log, which has a line for each event: `run 0`, `send 0 1`, `data 1 2`,
-`take 1 2` or `ack 0 1`, with the number of the node and that of its link.
-
-Out: what `temu run` prints of these events; last `end replay E` after E events.
-
-Example:
-  temu replay pair.toml pair.log";
-
-/// What stands below the help of `dis`.
-const DIS_HELP: &str = "\
-In: a boot image: the 8 bytes TEMUIMG1, the numbers of segments and of processes as little-endian words, the address,
-the length and the bytes of each segment, and the workspace descriptor and the instruction pointer of each process.
-
-Out: for each segment a line for each instruction, as `80000080: ldc 4`; a byte that begins none is shown as
-`80000080: db xx`.
-
-Example:
-  temu dis first.img";
 
 /// What the words of a command line ask for, of which the first is the program's name: each option is the value that the
 /// words give or its default.
@@ -118,6 +67,8 @@ fn asked(alloc: Global, name: &str, given: &ArgMatches) -> Result<Command, Alloc
 {
     if name == "run" {
         run(alloc, given)
+    } else if name == "free" {
+        free(alloc, given)
     } else if name == "replay" {
         replay(alloc, given)
     } else {
@@ -127,26 +78,58 @@ fn asked(alloc: Global, name: &str, given: &ArgMatches) -> Result<Command, Alloc
 
 /// What the arguments of `run` ask for.
 fn run(alloc: Global, given: &ArgMatches) -> Result<Command, AllocError>
-    requires { spec.IsRun (rows_of (found_of given.now)) }
+    requires { spec.IsRun (codes "rounds") (rows_of (found_of given.now)) }
     ensures command { IfOk result (λ c. asked_of c ≡ spec.run_in (rows_of (found_of given.now))) }
     ensures range { IfOk result IsInRange }
 {
+    let (wiring, options, log) = run_parts(alloc, given, "rounds")?;
     Ok(Command::Run {
-        wiring: file(alloc, given, "wiring")?,
-        options: options(given),
-        log: optional_file(alloc, given, "log")?,
+        wiring,
+        options,
+        log,
     })
 }
 
-/// The options of a run.
-fn options(given: &ArgMatches) -> Options
-    requires { spec.IsRun (rows_of (found_of given.now)) }
-    ensures value { result ≡ spec.options_in (rows_of (found_of given.now)) }
+/// What the arguments of `free` ask for.
+fn free(alloc: Global, given: &ArgMatches) -> Result<Command, AllocError>
+    requires { spec.IsRun (codes "turns") (rows_of (found_of given.now)) }
+    ensures command { IfOk result (λ c. asked_of c ≡ spec.free_in (rows_of (found_of given.now))) }
+    ensures range { IfOk result IsInRange }
+{
+    let (wiring, options, log) = run_parts(alloc, given, "turns")?;
+    Ok(Command::Free {
+        wiring,
+        options,
+        log,
+    })
+}
+
+/// The wiring file, the options and the log file of `run` or `free`, whose limit has this name.
+fn run_parts(
+    alloc: Global,
+    given: &ArgMatches,
+    limit: &str,
+) -> Result<(String, Options, Option<String>), AllocError>
+    requires { spec.IsRun limit.now (rows_of (found_of given.now)) }
+    ensures wiring { IfOk result (λ r. r.0.bytes.items ≡ spec.text_at (codes "wiring") (rows_of (found_of given.now))) }
+    ensures options { IfOk result (λ r. r.1 ≡ spec.options_in limit.now (rows_of (found_of given.now))) }
+    ensures log { IfOk result (λ r. option_map (λ s. s.bytes.items) r.2 ≡ first_of (codes "log") (rows_of (found_of given.now))) }
+    ensures range { IfOk result (λ r. spec.AreOptions r.1) }
+{
+    let wiring = file(alloc, given, "wiring")?;
+    let log = optional_file(alloc, given, "log")?;
+    Ok((wiring, options(given, limit), log))
+}
+
+/// The options of a run, whose limit has this name.
+fn options(given: &ArgMatches, limit: &str) -> Options
+    requires { spec.IsRun limit.now (rows_of (found_of given.now)) }
+    ensures value { result ≡ spec.options_in limit.now (rows_of (found_of given.now)) }
     ensures range { spec.AreOptions result }
 {
     Options {
         workers: number(given, "workers") as usize,
-        rounds: number(given, "rounds"),
+        rounds: number(given, limit),
         slice: number(given, "slice"),
     }
 }
@@ -204,6 +187,7 @@ fn program<'a>(alloc: Global) -> Result<Parser<'a>, AllocError>
 {
     top_parser(alloc)?
         .subcommand(run_parser(alloc)?)?
+        .subcommand(free_parser(alloc)?)?
         .subcommand(replay_parser(alloc)?)?
         .subcommand(dis_parser(alloc)?)
 }
@@ -214,7 +198,7 @@ fn top_parser<'a>(alloc: Global) -> Result<Parser<'a>, AllocError>
 {
     Parser::new(alloc, "temu")
         .about("Emulates nets of Inmos T414 transputers")
-        .after_help(PROGRAM_HELP)
+        .after_help(help::PROGRAM)
         .disable_help_subcommand(true)
         .arg_required_else_help(true)
         .subcommand_required(true)
@@ -225,13 +209,32 @@ fn top_parser<'a>(alloc: Global) -> Result<Parser<'a>, AllocError>
 fn run_parser<'a>(alloc: Global) -> Result<Parser<'a>, AllocError>
     ensures { IfOk result (spec.HasShape spec.run_shape) }
 {
-    Parser::new(alloc, "run")
-        .about("Runs the net of a wiring file by rounds, and prints its trace and its memories")
-        .after_help(RUN_HELP)
-        .arg(file_arg(alloc, "wiring", "WIRING", "The wiring file, as TOML"))?
-        .arg(workers_arg(alloc))?
-        .arg(rounds_arg(alloc))?
-        .arg(slice_arg(alloc))?
+    running_parser(alloc, "run", "rounds", &help::RUN)
+}
+
+/// The words of `free`.
+fn free_parser<'a>(alloc: Global) -> Result<Parser<'a>, AllocError>
+    ensures { IfOk result (spec.HasShape spec.free_shape) }
+{
+    running_parser(alloc, "free", "turns", &help::FREE)
+}
+
+/// The words of `run` or `free`, with this name and this name of the limit.
+fn running_parser<'a>(
+    alloc: Global,
+    name: &'a str,
+    limit: &'a str,
+    help: &RunHelp,
+) -> Result<Parser<'a>, AllocError>
+    ensures { IfOk result (spec.HasShape (spec.running_shape name.entry.now limit.entry.now)) }
+{
+    Parser::new(alloc, name)
+        .about(help.about)
+        .after_help(help.below)
+        .arg(file_arg(alloc, "wiring", "WIRING", help.wiring))?
+        .arg(workers_arg(alloc, help.workers))?
+        .arg(limit_arg(alloc, limit, help.limit))?
+        .arg(slice_arg(alloc, help.slice))?
         .arg(log_arg(alloc))
 }
 
@@ -243,7 +246,7 @@ fn replay_parser<'a>(alloc: Global) -> Result<Parser<'a>, AllocError>
         .about(
             "Does the events of a log on the net of a wiring file, and prints its trace and its memories",
         )
-        .after_help(REPLAY_HELP)
+        .after_help(help::REPLAY)
         .arg(file_arg(
             alloc,
             "wiring",
@@ -254,7 +257,7 @@ fn replay_parser<'a>(alloc: Global) -> Result<Parser<'a>, AllocError>
             alloc,
             "log",
             "LOG",
-            "The log file, as `run --log` writes it",
+            "The log file, as `run --log` or `free --log` writes it",
         ))
 }
 
@@ -264,7 +267,7 @@ fn dis_parser<'a>(alloc: Global) -> Result<Parser<'a>, AllocError>
 {
     Parser::new(alloc, "dis")
         .about("Prints the instructions of a boot image")
-        .after_help(DIS_HELP)
+        .after_help(help::DIS)
         .arg(file_arg(alloc, "image", "IMAGE", "The boot image"))
 }
 
@@ -290,36 +293,36 @@ fn log_arg<'a>(alloc: Global) -> Arg<'a>
 }
 
 /// `--workers N`.
-fn workers_arg<'a>(alloc: Global) -> Arg<'a>
+fn workers_arg<'a>(alloc: Global, help: &'a str) -> Arg<'a>
     ensures rule { rule_of result ≡ spec.number_rule (codes "workers") (spec.between 1 64) (codes "1") }
     ensures local { spec.IsLocal result }
 {
     number_arg(alloc, "workers")
         .value_parser(value_parser!(u32).range(1..=64))
         .default_value("1")
-        .help("How many threads share the nodes of a round: 1 to 64")
+        .help(help)
 }
 
-/// `--rounds N`.
-fn rounds_arg<'a>(alloc: Global) -> Arg<'a>
-    ensures rule { rule_of result ≡ spec.number_rule (codes "rounds") (spec.between 0 4294967295) (codes "100000") }
+/// `--rounds N` or `--turns N`.
+fn limit_arg<'a>(alloc: Global, id: &'a str, help: &'a str) -> Arg<'a>
+    ensures rule { rule_of result ≡ spec.number_rule id.entry.now (spec.between 0 4294967295) (codes "100000") }
     ensures local { spec.IsLocal result }
 {
-    number_arg(alloc, "rounds")
+    number_arg(alloc, id)
         .value_parser(value_parser!(u32))
         .default_value("100000")
-        .help("After how many rounds the run ends at the latest: 0 to 4294967295")
+        .help(help)
 }
 
 /// `--slice N`.
-fn slice_arg<'a>(alloc: Global) -> Arg<'a>
+fn slice_arg<'a>(alloc: Global, help: &'a str) -> Arg<'a>
     ensures rule { rule_of result ≡ spec.number_rule (codes "slice") (spec.between 1 65536) (codes "64") }
     ensures local { spec.IsLocal result }
 {
     number_arg(alloc, "slice")
         .value_parser(value_parser!(u32).range(1..=65_536))
         .default_value("64")
-        .help("How many instructions and dispatches a node does in a round at most: 1 to 65536")
+        .help(help)
 }
 
 /// An option with a value.

@@ -10,6 +10,6 @@ pub returns-clause-range : goal.returns-clause-range
 returns-clause-range c =
     let rows = rows_of (found_of c.args.given.now) in
     let workers = number_in 1 64 (codes "workers") rows (omega arith) c.requires.workers in
-    let rounds = number_in 0 4294967295 (codes "rounds") rows (omega arith) c.requires.rounds in
+    let limit = number_in 0 4294967295 c.args.limit.now rows (omega arith) c.requires.limit in
     let slice = number_in 1 65536 (codes "slice") rows (omega arith) c.requires.slice in
     record { workers = (omega arith, omega arith); rounds = omega arith; slice = (omega arith, omega arith) }

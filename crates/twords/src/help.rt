@@ -1,0 +1,105 @@
+//! The texts of help.
+
+/// What help tells of a command that runs a net.
+pub(crate) struct RunHelp {
+    /// What it does.
+    pub about: &'static str,
+    /// Its wiring file.
+    pub wiring: &'static str,
+    /// `--workers`.
+    pub workers: &'static str,
+    /// `--rounds` or `--turns`.
+    pub limit: &'static str,
+    /// `--slice`.
+    pub slice: &'static str,
+    /// What stands below.
+    pub below: &'static str,
+}
+
+/// What stands below the help of the program.
+pub(crate) const PROGRAM: &str = "\
+Examples:
+  temu run pair.toml
+  temu run pair.toml --workers 4 --log pair.log
+  temu free pair.toml --workers 4
+  temu replay pair.toml pair.log
+  temu dis first.img
+
+`temu run --help` and its like tell what goes into a command and what comes out.
+
+Exit status: 0 done; 1 done, and a node is frozen, since it broke a usage rule; 2 bad input, which standard error
+names; 3 the output failed; 4 no memory.";
+
+/// The help of `run`.
+pub(crate) const RUN: RunHelp = RunHelp {
+    about: "Runs the net of a wiring file by rounds, and prints its trace and its memories",
+    wiring: "The wiring file, as TOML",
+    workers: "How many threads share the nodes of a round: 1 to 64",
+    limit: "After how many rounds the run ends at the latest: 0 to 4294967295",
+    slice: "How many instructions and dispatches a node does in a round at most: 1 to 65536",
+    below: "\
+In: a wiring file such as
+
+  version = 1
+  timeslice = 1024     # may be left out
+  [[node]]             # node 0, 1, ..
+  memory = 2048        # in bytes
+  image = \"a.img\"      # the path of its boot image
+  [[wire]]
+  a = [0, 1]           # node and link
+  b = [1, 2]
+  [[hold]]             # packets that wait at an end
+  end = [1, 2]
+  kind = \"data\"        # or \"ack\"
+  from = 1             # the first round in which they wait
+  until = 5            # and the first in which they do not
+
+Out: a line for each message that went over, as `msg 0.1 1.2 4 01020304` (from, to, length, bytes), and for each node
+that halted or froze; the memory of each node, without lines of zeros; last `end quiet R`, where nothing is left to do
+after R rounds, or `end rounds R`.
+
+Example:
+  temu run pair.toml --workers 4 --log pair.log",
+};
+
+/// The help of `free`.
+pub(crate) const FREE: RunHelp = RunHelp {
+    about: "Runs the net of a wiring file by free workers, and prints its trace and its memories",
+    wiring: "The wiring file, as TOML; its holds are ignored",
+    workers: "How many threads share the nodes: 1 to 64",
+    limit: "How many turns each worker makes at most: 0 to 4294967295",
+    slice: "How many instructions and dispatches a node does in a turn at most: 1 to 65536",
+    below: "\
+In: a wiring file (see `temu run --help`), whose holds are ignored.
+
+Out: what `temu run` prints; last `end quiet`, where nothing is left to do, or `end turns`.
+
+Each worker is one thread, which makes so many turns over its own nodes and waits for nobody. Packets cross between
+threads by rings of two places, so the threads' timing decides which order comes out; but what is printed is always
+one run of the machine. Where the order decides nothing, a quiet end has the messages and the memories of `temu run`.
+`--log` writes the events in an order that `temu replay` does again.
+
+Example:
+  temu free pair.toml --workers 4 --log pair.log",
+};
+
+/// What stands below the help of `replay`.
+pub(crate) const REPLAY: &str = "\
+In: a wiring file (see `temu run --help`) and a log, which has a line for each event: `run 0`, `send 0 1`, `data 1 2`,
+`take 1 2` or `ack 0 1`, with the number of the node and that of its link.
+
+Out: what `temu run` prints of these events; last `end replay E` after E events.
+
+Example:
+  temu replay pair.toml pair.log";
+
+/// What stands below the help of `dis`.
+pub(crate) const DIS: &str = "\
+In: a boot image: the 8 bytes TEMUIMG1, the numbers of segments and of processes as little-endian words, the address,
+the length and the bytes of each segment, and the workspace descriptor and the instruction pointer of each process.
+
+Out: for each segment a line for each instruction, as `80000080: ldc 4`; a byte that begins none is shown as
+`80000080: db xx`.
+
+Example:
+  temu dis first.img";
