@@ -142,6 +142,7 @@ pub fn emit_at(
 }
 
 /// A run is done, if it is enabled.
+#[inline(always)]
 pub fn run_at(node: &mut Node, log: &mut Log, number: u8) -> Result<bool, TurnFault>
     ensures did { Whether result
         (Ran number node.old node.new (log_view log.old) (log_view log.new))

@@ -22,6 +22,9 @@ impl Worker {
         ensures phase { Phased (λ s. packets_of s (s.first + i) link) self.old (is_ok result) self.new }
         ensures full { result ≡ Err ClockFull → IsClockFull self.new }
     {
+        if !self.has_ring(i, link) {
+            return Ok(());
+        }
         for _done in 0..2_u32 {
             if !self.receive(i, link)? {
                 return Ok(());
@@ -38,7 +41,9 @@ impl Worker {
         ensures phase { Phased (λ s. emission_of s (s.first + i) link event) self.old (is_ok result) self.new }
         ensures full { result ≡ Err ClockFull → IsClockFull self.new }
     {
-        self.emit(i, link, event)?;
+        if self.enabled(i, event) {
+            self.emit(i, link, event)?;
+        }
         Ok(())
     }
 
