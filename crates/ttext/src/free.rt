@@ -31,7 +31,8 @@ use trounds::NetFault;
 use tword::Items;
 
 /// Runs the net of a wiring and the files of its images, one file a node, by free workers: each makes so many turns as the
-/// options have rounds, on a thread of its own where one can be started, or stops at a full clock; then they are gathered. It
+/// options have rounds, on a thread of its own where one can be started, or stops at a full clock, or when none finds anything
+/// more to do; then they are gathered. It
 /// writes the trace, the dump of each node and a last line `end quiet`, or `end turns` where the net is not quiet. What the
 /// wiring holds is ignored. Nothing is written before the workers are gathered.
 ///
@@ -82,7 +83,7 @@ fn run_free<R: Threads + Sync>(
     ensures told { IfOk result (λ g. g.notes ≡ notes g.history net) }
     ensures sound { IfOk result (λ g. IsSound g.net) }
 {
-    let workers = turned(rt, share(alloc, net, options)?, options)?;
+    let workers = turned(rt, alloc, share(alloc, net, options)?, options)?;
     opened_workers_stay();
     match gather(alloc, workers) {
         Ok(gathered) => Ok(gathered),
@@ -108,6 +109,7 @@ fn share(alloc: Global, net: Net, options: &Options) -> Result<Vec<Worker>, Faul
 /// Workers that made their turns.
 fn turned<R: Threads + Sync>(
     rt: &R,
+    alloc: Global,
     mut workers: Vec<Worker>,
     options: &Options,
 ) -> Result<Vec<Worker>, Fault>
@@ -115,7 +117,13 @@ fn turned<R: Threads + Sync>(
     ensures same { IfOk result (λ turned. map share_of turned.items ≡ map share_of workers.items) }
     ensures memory { IfErr result (λ fault. fault ≡ Memory) }
 {
-    turn_all(rt, workers.as_mut_slice(), options.rounds, options.slice)?;
+    turn_all(
+        rt,
+        alloc,
+        workers.as_mut_slice(),
+        options.rounds,
+        options.slice,
+    )?;
     Ok(workers)
 }
 

@@ -7,8 +7,8 @@ decreases-turn_both-first g l = 3 * length l.front.now + 3
 abbrev pub decreases-turn_both-second : goal.decreases-turn_both-second
 decreases-turn_both-second g l = 3 * length l.back.now + 3
 
-abbrev pub decreases-turn_all : goal.decreases-turn_all
-decreases-turn_all g l = 3 * length l.workers.now + 2
+abbrev pub decreases-turn_some : goal.decreases-turn_some
+decreases-turn_some g l = 3 * length l.workers.now + 2
 
 abbrev pub decreases-turn_both : goal.decreases-turn_both
 decreases-turn_both g l = 3 * (length l.front.now + length l.back.now) + 1

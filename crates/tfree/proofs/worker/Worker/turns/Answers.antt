@@ -9,12 +9,12 @@ loop-done-preserved c = record {
   done = turn_more c.args.self.now.share c.loop-done.self.share c.args.slice c.loop-done._done c.args.self.now.events c.loop-done.self.events c.turn.new.self.events c.loop-done.invariant.same c.loop-done.invariant.done c.in_ok-turned.ensures.turn;
 }
 
--- alone, a worker that finds nothing has done the rest of its turns
-pub returns-then-count-eq1 : goal.returns-then-count-eq1
-returns-then-count-eq1 c = record {
+-- a worker that found nothing may leave out the rest of its turns: it would find nothing in them either
+pub returns-then-is_over : goal.returns-then-is_over
+returns-then-is_over c = record {
   same = c.in_ok-turned.ensures.same ∙ c.loop-done.invariant.same;
   did = idle_rest c.args.self.now.share c.loop-done.self.share c.args.turns c.args.slice c.loop-done._done (c.args.turns - c.loop-done._done) c.args.self.now.events c.loop-done.self.events c.turn.new.self.events (omega (arith, c.loop-done-test.true)) c.loop-done.invariant.same c.loop-done.invariant.done c.in_ok-turned.ensures.turn
-      (nothing_more c.loop-done.self.events c.turn.new.self.events c.in_ok-turned.ensures.extends (omega (arith, c.in_ok-turned.ensures.events, c.if-turned-eq0.true)));
+      (nothing_more c.loop-done.self.events c.turn.new.self.events c.in_ok-turned.ensures.extends (omega (arith, c.in_ok-turned.ensures.events, c.if-turned-gt0.false)));
   full = λ e. search rules;
 }
 
