@@ -1,11 +1,12 @@
-//! The benchmarks of rounds in plain, safe Rust, by one thread: nodes in a ring, of which all compute or nearly all wait.
+//! The benchmarks of rounds and of free workers in plain, safe Rust, by one thread and round by round: nodes in a ring,
+//! of which all compute, nearly all wait, or all send and receive until they stop.
 
 mod plain;
 
 use plain::memory::Break;
 use plain::net::{End, Net};
 use plain::processor::Processor;
-use plain::programs::{LOOP, PING, PONG, START};
+use plain::programs::{COUNTED_PING, COUNTED_PONG, LOOP, PING, PONG, START};
 use plain::{checksum, mixed, BEGIN};
 
 const NODES: usize = 64;
@@ -17,26 +18,52 @@ const BUFFER: u32 = 0x8000_2000;
 const ONWARD: u32 = 0x8000_0004;
 const BACK: u32 = 0x8000_0018;
 
-/// How many bytes the message has that goes round.
+/// How many bytes a message has.
 const LENGTH: u32 = 4;
 
 /// How many Runs a node does at most until what was reported is dropped.
 const RUNS: u32 = 262_144;
 
-fn slice(name: &str) -> Option<u32> {
+/// What the nodes do.
+#[derive(Clone, Copy)]
+enum Load {
+    /// All of them compute.
+    Computing,
+    /// One message goes round, so that nearly all of them wait.
+    Waiting,
+    /// Each sends and receives so many messages, and stops.
+    Exchanging(u32),
+}
+
+/// The load of a benchmark, and its slice.
+fn job(name: &str, thousands: u32) -> Option<(Load, u32)> {
     Some(match name {
-        "rounds-1024" | "rounds-1024-2" | "rounds-1024-4" | "rounds-idle" => 1_024,
-        "rounds-65536" | "rounds-65536-2" | "rounds-65536-4" => 65_536,
+        "rounds-1024" | "rounds-1024-2" | "rounds-1024-4" => (Load::Computing, 1_024),
+        "free-compute" | "free-compute-2" | "free-compute-4" => (Load::Computing, 1_024),
+        "rounds-65536" | "rounds-65536-2" | "rounds-65536-4" => (Load::Computing, 65_536),
+        "rounds-idle" => (Load::Waiting, 1_024),
+        "run-ring" | "free-ring" | "free-ring-2" | "free-ring-4" => {
+            (Load::Exchanging(thousands * 100), 64)
+        }
         _ => return None,
     })
 }
 
-fn processor(number: usize, computes: bool) -> Result<Processor, Break> {
-    let (code, words): (&[u8], [u32; 4]) = match (computes, number) {
-        (true, _) => (&LOOP, [0; 4]),
-        (false, 0) => (&PING, [ONWARD, BACK, BUFFER, LENGTH]),
-        (false, _) => (&PONG, [BACK, ONWARD, BUFFER, LENGTH]),
-    };
+/// The code of a node, and the words that it finds in its workspace.
+fn program(number: usize, load: Load) -> (&'static [u8], Vec<u32>) {
+    match load {
+        Load::Computing => (&LOOP, vec![]),
+        Load::Waiting if number == 0 => (&PING, vec![ONWARD, BACK, BUFFER, LENGTH]),
+        Load::Waiting => (&PONG, vec![BACK, ONWARD, BUFFER, LENGTH]),
+        Load::Exchanging(count) if number % 2 == 0 => {
+            (&COUNTED_PING, vec![ONWARD, BACK, BUFFER, LENGTH, 0, count])
+        }
+        Load::Exchanging(count) => (&COUNTED_PONG, vec![BACK, ONWARD, BUFFER, LENGTH, 0, count]),
+    }
+}
+
+fn processor(number: usize, load: Load) -> Result<Processor, Break> {
+    let (code, words) = program(number, load);
     let mut p = Processor::new(MEMORY, 1_024);
     p.load(START, code);
     for (address, word) in (WORKSPACE..).step_by(4).zip(words) {
@@ -46,8 +73,8 @@ fn processor(number: usize, computes: bool) -> Result<Processor, Break> {
     Ok(p)
 }
 
-fn prepared(computes: bool) -> Result<Net, Break> {
-    let processors: Result<Vec<_>, _> = (0..NODES).map(|number| processor(number, computes)).collect();
+fn prepared(load: Load) -> Result<Net, Break> {
+    let processors: Result<Vec<_>, _> = (0..NODES).map(|number| processor(number, load)).collect();
     let wires: Vec<_> = (0..NODES)
         .map(|node| (End { node, link: 1 }, End { node: (node + 1) % NODES, link: 2 }))
         .collect();
@@ -56,15 +83,23 @@ fn prepared(computes: bool) -> Result<Net, Break> {
 
 fn main() {
     let name = plain::name();
-    let runs = plain::amount() * 1_000;
-    let slice = slice(&name).expect("the rounds are known").min(runs);
-    let computes = name != "rounds-idle";
-    let mut net = prepared(computes).expect("the processes fit");
-    let mut left = if computes { runs.div_ceil(slice) } else { runs / 10 };
+    let thousands = plain::amount();
+    let (load, slice) = job(&name, thousands).expect("the benchmark is known");
+    let slice = slice.min(thousands * 1_000);
+    let mut net = prepared(load).expect("the processes fit");
+    let mut left = match load {
+        Load::Computing => (thousands * 1_000).div_ceil(slice),
+        Load::Waiting => thousands * 100,
+        Load::Exchanging(_) => u32::MAX,
+    };
     let mut done = 0;
     while left > 0 {
         let count = left.min(RUNS / slice);
-        done += net.rounds(count, slice).events.len();
+        let events = net.rounds(count, slice).events.len();
+        if events == 0 {
+            break;
+        }
+        done += events;
         left -= count;
     }
     let begin = mixed(BEGIN, done as u32);

@@ -1,6 +1,7 @@
 //! What a benchmark answers.
 
 use std::alloc::AllocError;
+use tfree::{GatherFault, OpenFault};
 use tplan::BuildFault;
 use trounds::NetFault;
 use tword::{Break, MemoryFault};
@@ -20,12 +21,16 @@ pub enum Fault {
     Memory(MemoryFault),
     /// An access breaks a rule.
     Broken(Break),
-    /// There is no memory for a plan.
+    /// There is no memory for a plan, or for what workers do.
     Refused(AllocError),
     /// A net is not to be had.
     Unbuilt(BuildFault),
     /// Rounds did not come to their end.
     Stopped(NetFault),
+    /// A net was not opened for workers.
+    Unopened(OpenFault),
+    /// Workers were not gathered.
+    Apart(GatherFault),
 }
 
 /// Where a checksum begins: FNV-1a's number.

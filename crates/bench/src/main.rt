@@ -3,6 +3,8 @@
 #![tactic(auto)]
 
 mod answer;
+mod crew;
+mod free;
 mod local_loop;
 mod mixed_code;
 mod nets;
@@ -11,9 +13,9 @@ mod rounds;
 mod scheduling;
 
 use answer::{Answer, Fault};
+use crew::{Crew, Load, Manner};
 use local_loop::Claims;
 use nets::Ring;
-use rounds::{Load, Rounds};
 use scheduling::{Job, Others};
 use std::alloc::Global;
 use std::thread::Threads;
@@ -26,120 +28,84 @@ enum Benchmark {
     Local(Claims),
     Processor(Job),
     Net(Ring),
-    Rounds(Rounds),
+    Crew(Crew),
+}
+
+/// A process in the loop, among others.
+fn looping(others: Others) -> Benchmark {
+    Benchmark::Processor(Job::Loop(others))
+}
+
+/// So many processes that yield.
+fn switching(count: u16) -> Benchmark {
+    Benchmark::Processor(Job::Switch(count))
+}
+
+/// Messages of so many bytes between two processes, among others.
+fn messages(length: u32, others: Others) -> Benchmark {
+    Benchmark::Processor(Job::Message(length, others))
+}
+
+/// A ring of so many nodes, with messages of so many bytes.
+fn ring(nodes: u8, length: u32) -> Benchmark {
+    Benchmark::Net(Ring { nodes, length })
+}
+
+/// So many workers, round by round.
+fn in_rounds(load: Load, slice: u32, workers: usize) -> Benchmark {
+    Benchmark::Crew(Crew {
+        manner: Manner::Rounds,
+        load,
+        slice,
+        workers,
+    })
+}
+
+/// So many free workers.
+fn in_turns(load: Load, slice: u32, workers: usize) -> Benchmark {
+    Benchmark::Crew(Crew {
+        manner: Manner::Free,
+        load,
+        slice,
+        workers,
+    })
 }
 
 /// All of them, by name.
-const BENCHMARKS: [(&str, Benchmark); 23] = [
-    ("decode", Benchmark::Decode),
-    ("local", Benchmark::Local(Claims::Nothing)),
-    ("local-links", Benchmark::Local(Claims::LinkBuffers)),
-    ("local-saved", Benchmark::Local(Claims::SavedWords)),
-    ("processor", Benchmark::Processor(Job::Loop(Others::Nobody))),
-    (
-        "processor-queued",
-        Benchmark::Processor(Job::Loop(Others::Queued(500))),
-    ),
-    (
-        "processor-waiting",
-        Benchmark::Processor(Job::Loop(Others::Waiting(500))),
-    ),
-    ("switch", Benchmark::Processor(Job::Switch(2))),
-    ("switch-500", Benchmark::Processor(Job::Switch(500))),
-    (
-        "message",
-        Benchmark::Processor(Job::Message(4, Others::Nobody)),
-    ),
-    (
-        "message-500",
-        Benchmark::Processor(Job::Message(4, Others::Waiting(498))),
-    ),
-    (
-        "message-1024",
-        Benchmark::Processor(Job::Message(1_024, Others::Nobody)),
-    ),
-    (
-        "message-1024-500",
-        Benchmark::Processor(Job::Message(1_024, Others::Waiting(498))),
-    ),
-    (
-        "net-byte",
-        Benchmark::Net(Ring {
-            nodes: 2,
-            length: 1,
-        }),
-    ),
-    (
-        "net-kilobyte",
-        Benchmark::Net(Ring {
-            nodes: 2,
-            length: 1_024,
-        }),
-    ),
-    (
-        "net-ring",
-        Benchmark::Net(Ring {
-            nodes: 64,
-            length: 4,
-        }),
-    ),
-    (
-        "rounds-1024",
-        Benchmark::Rounds(Rounds {
-            load: Load::Computing,
-            slice: 1_024,
-            workers: 1,
-        }),
-    ),
-    (
-        "rounds-1024-2",
-        Benchmark::Rounds(Rounds {
-            load: Load::Computing,
-            slice: 1_024,
-            workers: 2,
-        }),
-    ),
-    (
-        "rounds-1024-4",
-        Benchmark::Rounds(Rounds {
-            load: Load::Computing,
-            slice: 1_024,
-            workers: 4,
-        }),
-    ),
-    (
-        "rounds-65536",
-        Benchmark::Rounds(Rounds {
-            load: Load::Computing,
-            slice: 65_536,
-            workers: 1,
-        }),
-    ),
-    (
-        "rounds-65536-2",
-        Benchmark::Rounds(Rounds {
-            load: Load::Computing,
-            slice: 65_536,
-            workers: 2,
-        }),
-    ),
-    (
-        "rounds-65536-4",
-        Benchmark::Rounds(Rounds {
-            load: Load::Computing,
-            slice: 65_536,
-            workers: 4,
-        }),
-    ),
-    (
-        "rounds-idle",
-        Benchmark::Rounds(Rounds {
-            load: Load::Waiting,
-            slice: 1_024,
-            workers: 1,
-        }),
-    ),
-];
+fn benchmarks() -> [(&'static str, Benchmark); 30] {
+    [
+        ("decode", Benchmark::Decode),
+        ("local", Benchmark::Local(Claims::Nothing)),
+        ("local-links", Benchmark::Local(Claims::LinkBuffers)),
+        ("local-saved", Benchmark::Local(Claims::SavedWords)),
+        ("processor", looping(Others::Nobody)),
+        ("processor-queued", looping(Others::Queued(500))),
+        ("processor-waiting", looping(Others::Waiting(500))),
+        ("switch", switching(2)),
+        ("switch-500", switching(500)),
+        ("message", messages(4, Others::Nobody)),
+        ("message-500", messages(4, Others::Waiting(498))),
+        ("message-1024", messages(1_024, Others::Nobody)),
+        ("message-1024-500", messages(1_024, Others::Waiting(498))),
+        ("net-byte", ring(2, 1)),
+        ("net-kilobyte", ring(2, 1_024)),
+        ("net-ring", ring(64, 4)),
+        ("rounds-1024", in_rounds(Load::Computing, 1_024, 1)),
+        ("rounds-1024-2", in_rounds(Load::Computing, 1_024, 2)),
+        ("rounds-1024-4", in_rounds(Load::Computing, 1_024, 4)),
+        ("rounds-65536", in_rounds(Load::Computing, 65_536, 1)),
+        ("rounds-65536-2", in_rounds(Load::Computing, 65_536, 2)),
+        ("rounds-65536-4", in_rounds(Load::Computing, 65_536, 4)),
+        ("rounds-idle", in_rounds(Load::Waiting, 1_024, 1)),
+        ("run-ring", in_rounds(Load::Exchanging, 64, 1)),
+        ("free-compute", in_turns(Load::Computing, 1_024, 1)),
+        ("free-compute-2", in_turns(Load::Computing, 1_024, 2)),
+        ("free-compute-4", in_turns(Load::Computing, 1_024, 4)),
+        ("free-ring", in_turns(Load::Exchanging, 64, 1)),
+        ("free-ring-2", in_turns(Load::Exchanging, 64, 2)),
+        ("free-ring-4", in_turns(Load::Exchanging, 64, 4)),
+    ]
+}
 
 /// Does so much work of a benchmark.
 fn done<R: Threads + Sync>(
@@ -153,7 +119,7 @@ fn done<R: Threads + Sync>(
         Benchmark::Local(claims) => local_loop::looped(alloc, amount, claims),
         Benchmark::Processor(job) => scheduling::worked(alloc, amount, job),
         Benchmark::Net(ring) => nets::went_round(alloc, amount, ring),
-        Benchmark::Rounds(rounds) => rounds::ran(rt, alloc, amount, rounds),
+        Benchmark::Crew(crew) => crew::worked(rt, alloc, amount, crew),
     }
 }
 
@@ -165,7 +131,7 @@ fn main(rt: HostRuntime) -> io::Result<()> {
     let Some(wanted) = wanted else {
         return println!(rt; "no benchmark is named");
     };
-    for (name, benchmark) in BENCHMARKS.iter() {
+    for (name, benchmark) in benchmarks().iter() {
         if wanted.as_str() == "all" || wanted.as_str() == *name {
             match done(&rt, rt.alloc(), *benchmark, amount) {
                 Ok(answer) => println!(rt; "{name} {} {}", answer.operations, answer.sum)?,

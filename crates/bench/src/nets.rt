@@ -40,7 +40,7 @@ fn segment(alloc: Global, address: u32, bytes: &[u8]) -> Result<Segment, AllocEr
 }
 
 /// A node with this code, which finds these words in its workspace.
-pub fn node(alloc: Global, code: &[u8], words: [u32; 4]) -> Result<NodePlan, AllocError> {
+pub fn node(alloc: Global, code: &[u8], words: &[u32]) -> Result<NodePlan, AllocError> {
     let mut segments = Vec::new(alloc);
     segments.push(segment(alloc, START, code)?)?;
     let mut address = WORKSPACE;
@@ -90,9 +90,9 @@ fn plan(alloc: Global, ring: Ring) -> Result<Plan, AllocError> {
     let mut nodes = Vec::new(alloc);
     for number in 0..ring.nodes {
         let planned = if number % 2 == 0 {
-            node(alloc, &PING, [ONWARD, BACK, BUFFER, ring.length])?
+            node(alloc, &PING, &[ONWARD, BACK, BUFFER, ring.length])?
         } else {
-            node(alloc, &PONG, [BACK, ONWARD, BUFFER, ring.length])?
+            node(alloc, &PONG, &[BACK, ONWARD, BUFFER, ring.length])?
         };
         nodes.push(planned)?;
     }

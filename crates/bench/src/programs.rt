@@ -108,3 +108,46 @@ pub const PONG: [u8; 10] = [
     0xfb, // out
     0x60, 0x06, // j again
 ];
+
+/// Counts up in a buffer, sends it and receives it, so many times, and stops. The workspace has the channel for
+/// sending, that for receiving, the buffer, the length, and from word 4 on the index and the count.
+#[rattlefmt::skip]
+pub const COUNTED_PING: [u8; 20] = [
+    // again:
+    0x72, // ldl 2
+    0x30, // ldnl 0
+    0x81, // adc 1
+    0x72, // ldl 2
+    0xe0, // stnl 0
+    0x72, // ldl 2
+    0x70, // ldl 0
+    0x73, // ldl 3
+    0xfb, // out
+    0x72, // ldl 2
+    0x71, // ldl 1
+    0x73, // ldl 3
+    0xf7, // in
+    0x14, // ldlp 4
+    0x21, 0x42, // ldc 18
+    0x22, 0xf1, // lend
+    0x21, 0xf5, // stopp
+];
+
+/// Receives a buffer and sends it back, so many times, and stops. The workspace has the channel for receiving, that for
+/// sending, the buffer, the length, and from word 4 on the index and the count.
+#[rattlefmt::skip]
+pub const COUNTED_PONG: [u8; 14] = [
+    // again:
+    0x72, // ldl 2
+    0x70, // ldl 0
+    0x73, // ldl 3
+    0xf7, // in
+    0x72, // ldl 2
+    0x71, // ldl 1
+    0x73, // ldl 3
+    0xfb, // out
+    0x14, // ldlp 4
+    0x4c, // ldc 12
+    0x22, 0xf1, // lend
+    0x21, 0xf5, // stopp
+];
