@@ -20,7 +20,7 @@ pub fn turned<R: Threads + Sync>(
         Ok(workers) => workers,
         Err((fault, _net)) => return Err(Fault::Unopened(fault)),
     };
-    turn_all(rt, workers.as_mut_slice(), count, crew.slice).map_err(Fault::Refused)?;
+    turn_all(rt, alloc, workers.as_mut_slice(), count, crew.slice).map_err(Fault::Refused)?;
     one_opening_stays();
     match gather(alloc, workers) {
         Ok(gathered) => Ok((gathered.history.as_slice().len() as u64, gathered.net)),
