@@ -1,7 +1,7 @@
 //! Events drawn at random on small nets of real programs. What they come to was worked out by a program that was
 //! written apart, `random_events.py` beside src/.
 
-use crate::plans::{CODE, LOW, SENDER, event, node, pair, plan, receiver, wire};
+use crate::plans::{CODE, LOW, SENDER, event, lengths, node, pair, plan, receiver, ring, wire};
 use std::alloc::{AllocError, Global};
 use std::test::Fail;
 use tlink::{Emitted, Mark, Packet, StepFault};
@@ -29,35 +29,6 @@ const TWENTY: [u8; 8] = [0, 0, 0, 0, 20, 0, 0, 0];
 const FORTY: [u8; 8] = [0, 0, 0, 0, 40, 0, 0, 0];
 
 const FIFTY: [u8; 8] = [0, 0, 0, 0, 50, 0, 0, 0];
-
-const RING_FIRST: [u8; 19] = [
-    0x11, 0x24, 0xf2, 0x51, 0x44, 0xfb, 0x11, 0x24, 0xf2, 0x56, 0x44, 0xf7, 0x12, 0x21, 0x41, 0x22,
-    0xf1, 0x21, 0xf5,
-];
-
-const RING_OTHER: [u8; 19] = [
-    0x11, 0x24, 0xf2, 0x56, 0x44, 0xf7, 0x11, 0x24, 0xf2, 0x51, 0x44, 0xfb, 0x12, 0x21, 0x41, 0x22,
-    0xf1, 0x21, 0xf5,
-];
-
-/// A node of the ring, with its first word.
-fn ring_node(alloc: Global, code: &[u8], word: u8) -> Result<NodePlan, AllocError> {
-    let words = [word, 0, 0, 0, 0, 0, 0, 0, 100, 0, 0, 0];
-    node(alloc, &[(CODE, code), (0x8000_0104, &words)], &[LOW])
-}
-
-fn ring(alloc: Global) -> Result<Plan, AllocError> {
-    let mut nodes = Vec::new(alloc);
-    nodes.push(ring_node(alloc, &RING_FIRST, 42)?)?;
-    nodes.push(ring_node(alloc, &RING_OTHER, 0)?)?;
-    nodes.push(ring_node(alloc, &RING_OTHER, 0)?)?;
-    let wires = [
-        wire((0, 1), (1, 2)),
-        wire((1, 1), (2, 2)),
-        wire((2, 1), (0, 2)),
-    ];
-    plan(alloc, 1_024, nodes, &wires)
-}
 
 fn choice(alloc: Global) -> Result<Plan, AllocError> {
     let sender = [
@@ -122,16 +93,6 @@ fn writer(alloc: Global) -> Result<Plan, AllocError> {
             (0x8000_0208, &TWENTY),
         ],
         &[LOW, (0x8000_0201, 0x8000_00a0)],
-    )?;
-    pair(alloc, first, receiver(alloc)?)
-}
-
-fn lengths(alloc: Global) -> Result<Plan, AllocError> {
-    let sender = [0x11, 0x24, 0xf2, 0x51, 0x48, 0xfb, 0x21, 0xf5];
-    let first = node(
-        alloc,
-        &[(CODE, &sender), (0x8000_0104, &[1, 2, 3, 4])],
-        &[LOW],
     )?;
     pair(alloc, first, receiver(alloc)?)
 }

@@ -8,12 +8,22 @@ mod encodings;
 #[cfg(test)]
 mod events;
 #[cfg(test)]
+mod free;
+#[cfg(test)]
 mod gates;
 #[cfg(test)]
 mod plans;
 #[cfg(test)]
 mod processors;
 #[cfg(test)]
+mod refused;
+#[cfg(test)]
 mod rounds;
+#[cfg(test)]
+mod texts;
+#[cfg(test)]
+mod threads;
+#[cfg(test)]
+mod workers;
 #[cfg(test)]
 mod writers;
