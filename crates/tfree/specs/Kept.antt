@@ -16,7 +16,7 @@ use Rattle.tfree.specs.declared.stamp.OwnEvent.{OwnEvent}
 use Rattle.tfree.specs.declared.stamp.Told.{Told}
 use Rattle.tfree.specs.Ids.{RingId}
 use Rattle.tfree.specs.Lists.{AreDone, AreStamped, lying, puts, takes, takes_packet}
-use Rattle.tfree.specs.Told.{own_told}
+use Rattle.tfree.specs.Told.{told_at}
 use Rattle.tfree.specs.Views.{InView, OutView, got_of, put_of, Share}
 use Rattle.tfree.specs.Logs.{notes_at}
 
@@ -48,7 +48,7 @@ last_stamp last (d ∷ ds) = last_stamp d.stamp ds
 -- what one event told, and then the rest
 abbrev pub kept_rest : List Wire → OwnEvent → Option NodeState → (NodeState → List Told) → List Told
 kept_rest wires d None rest = []
-kept_rest wires d (Some node) rest = notes_at d.stamp (own_told wires d.node node (happens d.event node)) ++ rest node
+kept_rest wires d (Some node) rest = notes_at d.stamp (told_at wires d.node d.event node) ++ rest node
 
 -- what events told, each note with the stamp of its event
 abbrev pub kept_notes : List Wire → List NodeState → List OwnEvent → List Told

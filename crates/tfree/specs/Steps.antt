@@ -9,7 +9,9 @@ use Rattle.tplan.specs.declared.plan.End.{End}
 use Rattle.tfree.specs.declared.stamp.Sent.{Sent}
 use Rattle.tfree.specs.Lists.{event_taking}
 use Rattle.tfree.specs.Views.{InView, OutView, got_of, put_of, with_put, with_got}
-use Rattle.tfree.specs.Logs.{LogView, Acted, act_told, packet_of, sent_as}
+use Rattle.tnet.specs.FarEnds.{far_in_row}
+use Rattle.tnet.specs.Stations.{note_of, listed}
+use Rattle.tfree.specs.Logs.{LogView, Acted, packet_of, sent_as}
 use Rattle.tfree.specs.Ends.{IsFront}
 use Rattle.tfree.specs.Turns.{IsFull}
 
@@ -48,11 +50,15 @@ pub record HasRoom (own : Option ℕ) (x : Option OutView) (ins : List (Option I
   pub exact : (q : ℕ) (o : OutView) (w : InView) → x ≡ Some o → own ≡ Some q → slice_get ins q ≡ Some (Some w) → room ≡ nat_lt (length o.put) (length w.got + 2)
 
 -- an event that emits was done, where there was room
-pub record Emitted (n l : ℕ) (far : Option End) (e : NodeEvent) (own : Option ℕ) (node node' : NodeState) (v v' : LogView) (x x' : Option OutView) (ins : List (Option InView)) : Type 0 where
-  pub acted : Acted (act_told n l far e node) n e 0 node node' v v'
+pub record Emitted (n : ℕ) (far : List (Option End)) (e : NodeEvent) (own : Option ℕ) (node node' : NodeState) (v v' : LogView) (x x' : Option OutView) (ins : List (Option InView)) : Type 0 where
+  pub acted : Acted (listed (note_of n (far_in_row far) e node)) n e 0 node node' v v'
   pub put : x' ≡ option_map (with_put (sent_as (packet_of (happens e node)) v'.clock)) x
   pub room : HasRoom own x ins true
 
+-- the far ends of no wires
+abbrev pub unwired : List (Option End)
+unwired = None ∷ None ∷ None ∷ None ∷ []
+
 -- a run was done
 abbrev pub Ran : ℕ → NodeState → NodeState → LogView → LogView → Type 0
-Ran n node node' v v' = Acted (act_told n 0 None Run node) n Run 0 node node' v v'
+Ran n node node' v v' = Acted (listed (note_of n (far_in_row unwired) Run node)) n Run 0 node node' v v'

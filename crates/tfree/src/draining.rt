@@ -1,6 +1,6 @@
 //! What is left in a ring, once both of its ends are at hand.
 ghost use Rattle.std.specs.Prelude.{◌≡◌, ◌≢◌, ◌+◌, ◌*◌, ◌<◌, ◌≤◌, ℕ, length, vec_len, vec_capacity, Some, option_map, slice_index_or};
-ghost use Rattle.tnet.specs.Packets.{put_in};
+ghost use Rattle.tnet.specs.Stations.{put_in};
 ghost use Rattle.tnet.specs.Wires.{end_at};
 ghost use Rattle.tnet.specs.Net.{empty_inbox};
 ghost use Rattle.tfree.specs.Ends.{in_view, out_view, ins_view, outs_view};

@@ -118,14 +118,13 @@ pub fn emit_at(
     log: &mut Log,
     own: Option<usize>,
     number: u8,
-    link: u8,
-    far: Option<End>,
+    far: &[Option<End>; 4],
     event: NodeEvent,
 ) -> Result<bool, TurnFault>
     requires { (o : OutView) → option_map out_view slot.old ≡ Some o → SameRingBack own o (ins_view ins.old.items) }
     ensures ins { ins_view ins.new.items ≡ ins_view ins.old.items }
     ensures did { Whether result
-        (Put number link far event own node.old node.new (log_view log.old) (log_view log.new) (option_map out_view slot.old) (option_map out_view slot.new) (ins_view ins.old.items))
+        (Put number far.now event own node.old node.new (log_view log.old) (log_view log.new) (option_map out_view slot.old) (option_map out_view slot.new) (ins_view ins.old.items))
         ((node.new ≡ node.old) × (log_view log.new ≡ log_view log.old) × (option_map out_view slot.new ≡ option_map out_view slot.old)) }
     ensures rests { result ≡ Ok false → is_node_enabled event node.old ≡ true → HasRoom own (option_map out_view slot.old) (ins_view ins.old.items) false }
     ensures full { result ≡ Err ClockFull → (is_node_enabled event node.old ≡ true) × IsFull log.old.clock 0 }
@@ -136,7 +135,7 @@ pub fn emit_at(
     if !room(slot, ins, own) {
         return Ok(false);
     }
-    let (stamp, packet) = act(node, log, number, link, event, far)?;
+    let (stamp, packet) = act(node, log, number, far, event)?;
     put(slot, stamp, packet);
     Ok(true)
 }
@@ -153,6 +152,6 @@ pub fn run_at(node: &mut Node, log: &mut Log, number: u8) -> Result<bool, TurnFa
     if !node.enabled(NodeEvent::Run) {
         return Ok(false);
     }
-    act(node, log, number, 0, NodeEvent::Run, None)?;
+    act(node, log, number, &[None; 4], NodeEvent::Run)?;
     Ok(true)
 }

@@ -1,12 +1,15 @@
 -- What a call on one net, or on one node of it, promises.
 -- Source: own choice, what is seen and proved of nets.
-use Rattle.std.specs.Prelude.{◌≡◌, ℕ, Bool, true, false, Option, Some, None, Result, Err}
+use Rattle.std.specs.Prelude.{◌≡◌, ◌≢◌, ◌≤◌, ⊤, ℕ, Bool, true, false, Option, Some, None, Result, Err, IfSome}
+use Rattle.tproc.specs.declared.offer.Offer.{Offer}
 use Rattle.tlink.specs.declared.event.Emitted.{Emitted}
 use Rattle.tlink.specs.declared.event.NodeEvent.{NodeEvent}
 use Rattle.tlink.specs.declared.event.StepFault.{StepFault}
 use Rattle.tlink.specs.declared.event.StepFault.TheVariants.{NotEnabled}
 use Rattle.tlink.specs.Node.{NodeState}
 use Rattle.tlink.specs.Events.{happens, node_left_by, node_answered}
+use Rattle.tplan.specs.declared.event.Act.{Act}
+use Rattle.tplan.specs.declared.event.Act.TheVariants.{Data, Take, Ack}
 use Rattle.tplan.specs.declared.event.Event.{Event}
 use Rattle.tnet.specs.Net.{NetState, with_node}
 use Rattle.tnet.specs.Packets.{NetAnswer, net_left_by, answered}
@@ -25,3 +28,14 @@ DoesAt n e (Some node) old result new = (result ≡ node_answered (happens e nod
 abbrev pub Did : Option NetState → NetState → Bool → NetState → Type 0
 Did None old result new = (result ≡ false) × (new ≡ old)
 Did (Some net) old result new = (result ≡ true) × (new ≡ net)
+
+-- room for the message of an input, in so many bytes
+abbrev pub HasRoom : Option Offer → ℕ → Type 0
+HasRoom input room = IfSome input (λ (o : Offer). o.length ≤ room)
+
+-- the inputs that surely stand after an act: all after one that takes a packet, and all others after one that takes a byte
+abbrev pub KeepsInput : Act → ℕ → Type 0
+KeepsInput (Data k) l = ⊤
+KeepsInput (Ack k) l = ⊤
+KeepsInput (Take k) l = l ≢ k
+KeepsInput _ l = ⊥

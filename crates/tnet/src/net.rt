@@ -8,6 +8,7 @@ ghost use Rattle.tnet.specs.View.{view};
 ghost use Rattle.tplan.specs.declared.plan.BuildFault.TheVariants.{OutOfMemory};
 ghost use Rattle.tnet.specs.Building.{built, opening_configuration};
 ghost use Rattle.tnet.specs.Wires.{far_end};
+ghost use Rattle.tnet.specs.FarEnds.{IsRow};
 ghost use Rattle.tnet.specs.NetParts.{net_of_parts};
 ghost use Rattle.tnet.specs.Runs.{IsSeenRun, refused, done, done_one};
 ghost use Rattle.tnet.specs.WireLaw.{WiresCarryInOrder};
@@ -141,6 +142,13 @@ impl Net {
         ensures { result ≡ far_end self.now.wires end }
     {
         self.parts.far_end(end)
+    }
+
+    /// The far ends of a node's links.
+    pub fn far_ends(&self, node: u8) -> [Option<End>; 4]
+        ensures { IsRow self.now.wires node result }
+    {
+        self.parts.far_ends(node)
     }
 
     /// The nodes, the wires and the packets of the net. It takes no memory.

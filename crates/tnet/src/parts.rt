@@ -1,17 +1,20 @@
-ghost use Rattle.std.specs.Prelude.{◌≡◌, ◌<◌, ℕ, not, slice_set, Option, None, IfOk};
+ghost use Rattle.std.specs.Prelude.{◌≡◌, ◌<◌, ℕ, not, [], slice_index_or, slice_set, Option, None, IfOk};
 ghost use Rattle.std.specs.List.{list_all};
 ghost use Rattle.tlink.specs.Node.{NodeState};
 ghost use Rattle.tnet.specs.Quiet.{node_events, is_quiet, is_quiet_from};
 ghost use Rattle.tnet.specs.Wires.{end_at, far_end};
-ghost use Rattle.tnet.specs.Net.{NetState, node_at, inbox_at, with_inbox, empty_inbox};
-ghost use Rattle.tnet.specs.Packets.{node_event, received, delivered, sent_off, put_in, net_happens, is_enabled};
+ghost use Rattle.tnet.specs.Net.{NetState, node_at};
+ghost use Rattle.tnet.specs.Packets.{node_event, received, delivered, sent_off, net_happens, is_enabled};
+ghost use Rattle.tnet.specs.Stations.{put_in};
 ghost use Rattle.tnet.specs.Answers.{DoesAt, DoesNet};
-ghost use Rattle.tnet.specs.FarEnds.{IsLaidOut, box_in, with_box};
+ghost use Rattle.tnet.specs.FarEnds.{IsLaidOut, IsRow};
+ghost use Rattle.tnet.specs.Stations.{asked};
 
 use crate::inbox::Inbox;
+use crate::station::{self, empty, put};
 use std::alloc::{AllocError, Global};
 use std::marker::Model;
-use tlink::{Arrival, Emitted, Node, NodeEvent, Packet, StepFault};
+use tlink::{Emitted, Node, NodeEvent, Packet, StepFault};
 use tplan::{Act, End, Event, Wire};
 use tword::Items;
 
@@ -28,7 +31,7 @@ pub struct Parts {
 
 impl Model for Parts {
     ghost use Rattle.tnet.specs.Net.{NetState};
-    ghost use Rattle.tnet.specs.FarEnds.{IsLaidOut};
+    ghost use Rattle.tnet.specs.FarEnds.{IsLaidOut, IsRow};
 
     ghost Value = { NetState };
 
@@ -58,28 +61,13 @@ const ALL_ACTS: [Act; 17] = [
     Act::Ack(3),
 ];
 
-/// What lies at an end.
-fn inbox(all: &[[Inbox; 4]], end: End) -> Inbox
-    ensures { result ≡ box_in all.now end }
+/// What lies at the links of a node; nothing where there is no such node.
+fn inboxes_at(all: &[[Inbox; 4]], node: u8) -> [Inbox; 4]
+    ensures { (act : Act) → asked act result ≡ asked act (slice_index_or all.now node []) }
 {
-    match all.get(end.node as usize) {
-        Some(links) => links
-            .get(end.link as usize)
-            .copied()
-            .unwrap_or(Inbox::EMPTY),
-        None => Inbox::EMPTY,
-    }
-}
-
-/// What lies at an end is set.
-fn set_inbox(all: &mut [[Inbox; 4]], end: End, inbox: Inbox)
-    ensures { all.new ≡ with_box end inbox all.old }
-{
-    let node = end.node as usize;
-    let link = end.link as usize;
-    if node < all.len() && link < 4 {
-        all[node][link] = inbox;
-    }
+    all.get(usize::from(node))
+        .copied()
+        .unwrap_or([Inbox::EMPTY; 4])
 }
 
 /// The end of a wire at a link.
@@ -166,57 +154,16 @@ impl Parts {
     fn node_event(&self, event: Event) -> Option<NodeEvent>
         ensures { result ≡ node_event self.now event.node event.act }
     {
-        match event.act {
-            Act::Run => Some(NodeEvent::Run),
-            Act::Send(link) => Some(NodeEvent::Send(link)),
-            Act::Data(link) => {
-                let Arrival { byte, last } = inbox(
-                    &self.inboxes,
-                    end_of(event.node, link),
-                ).carried?;
-                Some(NodeEvent::Data(link, byte, last))
-            }
-            Act::Take(link) => Some(NodeEvent::Take(link)),
-            Act::Ack(link) => {
-                if inbox(&self.inboxes, end_of(event.node, link)).acknowledged {
-                    Some(NodeEvent::Ack(link))
-                } else {
-                    None
-                }
-            }
-        }
+        station::asked(&inboxes_at(&self.inboxes, event.node), event.act)
     }
 
     /// The packet that an event takes is gone.
     fn receive(&mut self, event: Event)
         ensures { self.new ≡ received event.node event.act self.old }
     {
-        match event.act {
-            Act::Data(link) => {
-                let end = end_of(event.node, link);
-                let lies = inbox(&self.inboxes, end);
-                set_inbox(
-                    &mut self.inboxes,
-                    end,
-                    Inbox {
-                        carried: None,
-                        ..lies
-                    },
-                );
-            }
-            Act::Ack(link) => {
-                let end = end_of(event.node, link);
-                let lies = inbox(&self.inboxes, end);
-                set_inbox(
-                    &mut self.inboxes,
-                    end,
-                    Inbox {
-                        acknowledged: false,
-                        ..lies
-                    },
-                );
-            }
-            _ => {}
+        let place = usize::from(event.node);
+        if place < self.inboxes.len() {
+            empty(&mut self.inboxes[place], event.act);
         }
     }
 
@@ -230,6 +177,16 @@ impl Parts {
         }
     }
 
+    /// The far ends of a node's links.
+    pub fn far_ends(&self, node: u8) -> [Option<End>; 4]
+        ensures { IsRow self.now.wires node result }
+    {
+        self.far
+            .get(usize::from(node))
+            .copied()
+            .unwrap_or([None; 4])
+    }
+
     /// What was emitted lies at the far end.
     fn send_off(&mut self, node: u8, packet: Option<(u8, Packet)>)
         ensures { self.new ≡ sent_off node packet self.old }
@@ -240,18 +197,10 @@ impl Parts {
         let Some(far) = self.far_end(end_of(node, link)) else {
             return;
         };
-        let lies = inbox(&self.inboxes, far);
-        let lies = match packet {
-            Packet::Data { byte, last } => Inbox {
-                carried: Some(Arrival { byte, last }),
-                ..lies
-            },
-            Packet::Ack => Inbox {
-                acknowledged: true,
-                ..lies
-            },
-        };
-        set_inbox(&mut self.inboxes, far, lies);
+        let place = far.node as usize;
+        if place < self.inboxes.len() {
+            put(&mut self.inboxes[place], far.link, packet);
+        }
     }
 
     /// The nodes.

@@ -1,7 +1,7 @@
 //! The wires of a net with the table of their far ends, and the parts of a net.
 ghost use Rattle.std.specs.Prelude.{◌≡◌};
 ghost use Rattle.tnet.specs.Wires.{far_end};
-ghost use Rattle.tnet.specs.FarEnds.{AgreesWith, row_of};
+ghost use Rattle.tnet.specs.FarEnds.{AgreesWith, IsRow};
 
 use crate::inbox::Inbox;
 use std::marker::Model;
@@ -64,13 +64,11 @@ impl Wires {
 
     /// The far ends of a node's links.
     pub fn far_ends(&self, node: u32) -> [Option<End>; 4]
-        ensures { result ≡ row_of self.now node }
+        ensures { IsRow self.now node result }
     {
-        [
-            self.far_end(End { node, link: 0 }),
-            self.far_end(End { node, link: 1 }),
-            self.far_end(End { node, link: 2 }),
-            self.far_end(End { node, link: 3 }),
-        ]
+        self.far
+            .get(node as usize)
+            .copied()
+            .unwrap_or([None; 4])
     }
 }

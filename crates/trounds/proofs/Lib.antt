@@ -2,13 +2,14 @@
 pub mod RoundsRun
 -- what the calls do
 pub mod Replaying
+pub mod ReplayNotes
 -- the parts of a round
-pub mod PartAnswers
 pub mod PartBoxes
 pub mod PartNets
 pub mod PartRounds
 pub mod PartSteps
 pub mod PartCells
+pub mod PartActs
 pub mod PartRuns
 pub mod PartLists
 pub mod PartLoops

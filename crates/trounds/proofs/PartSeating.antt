@@ -11,7 +11,7 @@ use Rattle.tnet.specs.declared.inbox.Inbox.{Inbox}
 use Rattle.trounds.specs.declared.cell.Cell.{Cell}
 use Rattle.tnet.specs.Wires.{end_at, far_end}
 use Rattle.tnet.specs.Sound.{IsEnd}
-use Rattle.tnet.specs.FarEnds.{row_of}
+use Rattle.tnet.specs.FarEnds.{IsRow, row_of}
 use Rattle.tnet.proofs.Tables.{link_of_row, nowhere}
 use Rattle.trounds.specs.Parts.{Seat, net_of, AreSeated}
 use Rattle.trounds.specs.Cells.{seat_of, seats_of}
@@ -32,6 +32,20 @@ module _ {A : Type 0} where
       read
       ∙ (ap (λ (zs : List A). get_or zs i x) is
       ∙ (get_or-take (n - k) (reverse xs) i x (omega (arith, at)) ∙ (get_or-reverse xs i x (omega (arith, at, len)) ∙ ap (λ j. get_or xs j x) m)))
+
+-- a row of four is that of its node
+pub row_is : (wires : List Wire) (n : ℕ) (row : List (Option End)) → length row ≡ 4 → IsRow wires n row → row ≡ row_of wires n
+row_is wires n [] four h = absurd (omega (arith, four))
+row_is wires n (a ∷ []) four h = absurd (omega (arith, four))
+row_is wires n (a ∷ b ∷ []) four h = absurd (omega (arith, four))
+row_is wires n (a ∷ b ∷ c ∷ []) four h = absurd (omega (arith, four))
+row_is wires n (a ∷ b ∷ c ∷ d ∷ []) four h =
+    let p : a ≡ far_end wires (end_at n 0) = h 0 in
+    let q : b ≡ far_end wires (end_at n 1) = h 1 in
+    let r : c ≡ far_end wires (end_at n 2) = h 2 in
+    let s : d ≡ far_end wires (end_at n 3) = h 3 in
+    rw (p, q, r, s) refl
+row_is wires n (a ∷ b ∷ c ∷ d ∷ e ∷ row) four h = absurd (omega (arith, four))
 
 -- the seats of nodes from a number on
 abbrev pub laid : List Wire → List (List Inbox) → ℕ → List NodeState → List Seat

@@ -3,6 +3,8 @@
 use Rattle.std.specs.Prelude.{◌≡◌, ℕ, ◌+◌, ◌<◌, ◌≤◌, ◌++◌, length, List, [], map, vec_len, vec_capacity, slice_index_or, IfSome}
 use Rattle.tproc.specs.declared.offer.Offer.{Offer}
 use Rattle.tlink.specs.Node.{input_at}
+use Rattle.tplan.specs.declared.event.Act.{Act}
+use Rattle.tplan.specs.declared.event.Act.TheVariants.{Run, Send, Data, Take, Ack}
 use Rattle.tplan.specs.declared.event.Event.{Event}
 use Rattle.tplan.specs.declared.event.Note.{Note}
 use Rattle.trounds.specs.declared.cell.Letter.{Letter}
@@ -60,9 +62,26 @@ HasMessageRoom c l = IfSome (input_at c.node l) (λ (o : Offer). o.length ≤ sp
 abbrev pub HasBytes : ℕ → Cell → Type 0
 HasBytes from c = (l : ℕ) → from ≤ l → l < 4 → HasMessageRoom c l
 
+-- room for the message of an act
+abbrev pub HasMessage : Act → Cell → Type 0
+HasMessage act c = (l : ℕ) → act ≡ Take l → HasMessageRoom c l
+
+-- the link of an act; 0 where it has none
+abbrev pub link_of : Act → ℕ
+link_of Run = 0
+link_of (Send l) = l
+link_of (Data l) = l
+link_of (Take l) = l
+link_of (Ack l) = l
+
+-- how many letters an act may send: a run sends none
+abbrev pub letters_of : Act → ℕ
+letters_of Run = 0
+letters_of _ = 1
+
 -- a cell is ready for a round with so many runs
 pub record IsReady (slice : ℕ) (c : Cell) : Type 0 where
-  pub room : HasRoom (slice + 16) 5 8 c
+  pub room : HasRoom (slice + 16) 17 16 c
   pub bytes : HasBytes 0 c
   pub no_mail : c.mail.items ≡ []
   pub no_events : c.events.items ≡ []

@@ -4,12 +4,8 @@ use Rattle.std.specs.Prelude.{◌≡◌, ℕ, zero, suc, Bool, false, not, ◌&&
 use Rattle.std.specs.List.{flat_map}
 use Rattle.tlink.specs.declared.event.Packet.{Packet}
 use Rattle.tlink.specs.declared.event.NodeEvent.{NodeEvent}
-use Rattle.tlink.specs.declared.event.NodeEvent.TheVariants as at_node
-use Rattle.tlink.specs.declared.event.Mark.{Mark}
-use Rattle.tlink.specs.declared.event.Mark.TheVariants.{Nothing, Halted, Completed}
-use Rattle.tlink.specs.declared.event.StepFault.TheVariants.{NotEnabled, Frozen}
-use Rattle.tlink.specs.Node.{NodeState, input_at, frozen}
-use Rattle.tlink.specs.Events.{Answer, happens, is_node_done}
+use Rattle.tlink.specs.Node.{NodeState}
+use Rattle.tlink.specs.Events.{happens, is_node_done, node_left_by}
 use Rattle.tplan.specs.declared.event.Act.{Act}
 use Rattle.tplan.specs.declared.event.Act.TheVariants.{Run, Send, Data, Take, Ack}
 use Rattle.tplan.specs.declared.event.Event.{Event}
@@ -17,15 +13,15 @@ use Rattle.tplan.specs.declared.event.Hold.{Hold}
 use Rattle.tplan.specs.declared.event.PacketKind.{PacketKind}
 use Rattle.tplan.specs.declared.event.PacketKind.TheVariants as kind
 use Rattle.tplan.specs.declared.event.Note.{Note}
-use Rattle.tplan.specs.declared.event.Note.TheVariants.{Halt, Freeze}
 use Rattle.tplan.specs.declared.plan.End.{End}
 use Rattle.tplan.specs.declared.plan.Wire.{Wire}
 use Rattle.tnet.specs.declared.inbox.Inbox.{Inbox}
 use Rattle.trounds.specs.declared.cell.Letter.{Letter}
 use Rattle.tnet.specs.Wires.{end_at, far_end}
 use Rattle.tnet.specs.Net.{NetState, empty_inbox}
-use Rattle.tnet.specs.Packets.{with_carried, put_in}
-use Rattle.tnet.specs.Notes.{message_note, input_bytes}
+use Rattle.tnet.specs.declared.station.Done.{Done}
+use Rattle.tnet.specs.FarEnds.{far_in_row}
+use Rattle.tnet.specs.Stations.{box_at, put_in, asked, emptied, done_of, listed}
 use Rattle.trounds.specs.Rounds.{is_held, taking}
 use Rattle.tnet.specs.Net.{four_links}
 
@@ -47,31 +43,13 @@ pub record Part : Type 0 where
 abbrev pub fresh : Seat → Part
 fresh s = record { seat = s; mail = []; events = []; notes = [] }
 
--- what lies at a link
-abbrev pub box_at : Seat → ℕ → Inbox
-box_at s l = slice_index_or s.inboxes l empty_inbox
-
--- what lies at a link is set
-abbrev pub with_box_at : ℕ → Inbox → Seat → Seat
-with_box_at l i s = record s { inboxes = slice_set s.inboxes l i }
+-- a packet lies at a link of a seat
+abbrev pub with_packet : ℕ → Packet → Seat → Seat
+with_packet l p s = record s { inboxes = slice_set s.inboxes l (put_in p (box_at s.inboxes l)) }
 
 -- the far end of a link
 abbrev pub far_at : Seat → ℕ → Option End
-far_at s l = slice_index_or s.far l None
-
--- the event of the node for an act, if its packet lies there
-abbrev pub asked : Act → Seat → Option NodeEvent
-asked Run s = Some at_node.Run
-asked (Send l) s = Some (at_node.Send l)
-asked (Data l) s = with_carried l (box_at s l).carried
-asked (Take l) s = Some (at_node.Take l)
-asked (Ack l) s = if (box_at s l).acknowledged then Some (at_node.Ack l) else None
-
--- the packet that an act takes is gone
-abbrev pub emptied : Act → Seat → Seat
-emptied (Data l) s = with_box_at l (record (box_at s l) { carried = None }) s
-emptied (Ack l) s = with_box_at l (record (box_at s l) { acknowledged = false }) s
-emptied _ s = s
+far_at s l = far_in_row s.far l
 
 -- a packet as a letter, if there is a far end
 abbrev pub letter_to : Packet → Option End → List Letter
@@ -81,40 +59,35 @@ letter_to p (Some e) = record { to = e; packet = p } ∷ []
 -- the letters of what an act emits
 abbrev pub letters : List (Option End) → Option (ℕ × Packet) → List Letter
 letters far None = []
-letters far (Some (l, p)) = letter_to p (slice_index_or far l None)
+letters far (Some (l, p)) = letter_to p (far_in_row far l)
 
--- what a mark tells
-abbrev pub marked : Seat → Mark → NodeState → List Note
-marked s Nothing node = []
-marked s Halted node = Halt s.number ∷ []
-marked s (Completed l) node = message_note (far_at s l) (end_at s.number l) (input_bytes (input_at s.node l) (Some node))
+-- what an event did is written down
+abbrev pub written : Act → Done → Part → Part
+written act d p =
+    record {
+      seat = p.seat;
+      mail = p.mail ++ letters p.seat.far d.packet;
+      events = p.events ++ record { node = p.seat.number; act = act } ∷ [];
+      notes = p.notes ++ listed d.note;
+    }
 
--- the part after an answer of its node
-abbrev pub answered_part : Act → Part → Answer → Part
-answered_part act p (Ok (node, e)) =
-    record {
-      seat = record (emptied act p.seat) { node = node };
-      mail = p.mail ++ letters p.seat.far e.packet;
-      events = p.events ++ record { node = p.seat.number; act = act } ∷ [];
-      notes = p.notes ++ marked p.seat e.mark node;
-    }
-answered_part act p (Err NotEnabled) = p
-answered_part act p (Err (Frozen b)) =
-    record {
-      seat = record p.seat { node = frozen b p.seat.node };
-      mail = p.mail;
-      events = p.events ++ record { node = p.seat.number; act = act } ∷ [];
-      notes = p.notes ++ Freeze p.seat.number b ∷ [];
-    }
+-- the seat after an event that left this node
+abbrev pub seat_after : Act → NodeState → Seat → Seat
+seat_after act node s = record { number = s.number; node = node; inboxes = emptied act s.inboxes; far = s.far }
+
+-- the part after an event that did this, and left this node
+abbrev pub part_done : Act → Part → NodeState → Option Done → Part
+part_done act p node None = p
+part_done act p node (Some d) = written act d (record p { seat = seat_after act node p.seat })
 
 -- the part after an event of its node, if there is one
 abbrev pub part_asked : Act → Part → Option NodeEvent → Part
 part_asked act p None = p
-part_asked act p (Some e) = answered_part act p (happens e p.seat.node)
+part_asked act p (Some e) = part_done act p (node_left_by p.seat.node (happens e p.seat.node)) (done_of p.seat.number (far_at p.seat) e p.seat.node)
 
 -- an act is done if it is enabled
 abbrev pub part_does : Act → Part → Part
-part_does act p = part_asked act p (asked act p.seat)
+part_does act p = part_asked act p (asked act p.seat.inboxes)
 
 -- a packet of this kind lies in an inbox
 abbrev pub lies : Inbox → PacketKind → Bool
@@ -154,7 +127,7 @@ part_of_round holds slice r s = after_sends (part_runs slice (after_takes (after
 -- a letter lies in the inbox of the end that it goes to
 abbrev pub delivered_to : Letter → Option Seat → List Seat → List Seat
 delivered_to x None seats = seats
-delivered_to x (Some s) seats = slice_set seats x.to.node (with_box_at x.to.link (put_in x.packet (box_at s x.to.link)) s)
+delivered_to x (Some s) seats = slice_set seats x.to.node (with_packet x.to.link x.packet s)
 
 abbrev pub deliver : List Seat → Letter → List Seat
 deliver seats x = delivered_to x (slice_get seats x.to.node) seats
@@ -174,7 +147,7 @@ is_asked_enabled node (Some e) = is_node_done (happens e node)
 
 -- an act of a seat is enabled
 abbrev pub is_seat_enabled : Seat → Act → Bool
-is_seat_enabled s act = is_asked_enabled s.node (asked act s)
+is_seat_enabled s act = is_asked_enabled s.node (asked act s.inboxes)
 
 -- no event of a link of a seat is enabled
 abbrev pub is_link_quiet : Seat → ℕ → Bool

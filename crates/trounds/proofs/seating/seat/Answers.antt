@@ -4,7 +4,7 @@ use Rattle.tlink.specs.Node.{NodeState}
 use Rattle.tnet.specs.Net.{NetState}
 use Rattle.tnet.specs.declared.inbox.Inbox.{Inbox}
 use Rattle.trounds.specs.Cells.{seat_of, seats_of}
-use Rattle.trounds.proofs.PartSeating.{last_removed, last_read, seat_more, all_laid, same_seat}
+use Rattle.trounds.proofs.PartSeating.{last_removed, last_read, seat_more, all_laid, same_seat, row_is}
 use Rattle.trounds.proofs.seating.seat.Goals as goal
 
 pub loop-place-preserved : goal.loop-place-preserved
@@ -22,7 +22,7 @@ loop-place-preserved c =
       node_room = c.remove-node.ensures.capacity ∙ c.loop-place.invariant.node_room;
       seats =
           seat_more c.into_parts-nodes.result.wires c.into_parts-nodes.result.inboxes.items c.loop-place.place c.args.net.nodes c.remove-node.result (seat_of c.new-cell.result) (seats_of c.loop-place.cells.items) _ (omega (arith, count, c.loop-place-test.true)) read c.loop-place.invariant.seats
-          (c.new-cell.ensures ∙ same_seat c.loop-place.place c.remove-node.result _ _ _ _ box c.far_ends-far.ensures)
+          (c.new-cell.ensures ∙ same_seat c.loop-place.place c.remove-node.result _ _ _ _ box (row_is c.into_parts-nodes.result.wires c.loop-place.place c.far_ends-far.result (omega arith) c.far_ends-far.ensures))
           (ap seats_of c.push_reserved.ensures.items ∙ map-append seat_of c.loop-place.cells.items (c.new-cell.result ∷ []));
       done = omega (arith, c.push_reserved.ensures.len, c.loop-place.invariant.done);
       room = c.push_reserved.ensures.capacity ∙ c.loop-place.invariant.room;

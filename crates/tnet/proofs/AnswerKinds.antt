@@ -1,0 +1,269 @@
+-- What a node may answer to each kind of event: what it emits, what it tells, and which inputs stay.
+use Rattle.std.proofs.Common.{◌≡◌, ◌≢◌, ℕ, refl, sym, ap, ◌∙◌, List, set, Bool, true, false, Result, Ok, Err, Option, Some, None, ◌⊎◌, inl, inr}
+use Rattle.std.specs.Prelude.{⊤, slice_index_or, ◌+◌, ◌&&◌, ◌==◌, not, nat_lt, if◌then◌else◌, is_none, IsSome, IfSome}
+use Rattle.std.proofs.lemmas.List.{get_or-set_other}
+use Rattle.std.proofs.lemmas.Option.{same_Some}
+use Rattle.tword.specs.declared.breaks.Break.{Break}
+use Rattle.tproc.specs.declared.offer.Offer.{Offer}
+use Rattle.tproc.specs.declared.offer.Ran.{Ran}
+use Rattle.tproc.specs.declared.offer.Ran.TheVariants as ran
+use Rattle.tproc.specs.declared.waiting.LinkEnd.{LinkEnd}
+use Rattle.tproc.specs.Machine.{Machine}
+use Rattle.tproc.specs.Steps.{step}
+use Rattle.tproc.specs.Links.{notice, finish_input, finish_output}
+use Rattle.tproc.specs.LinkChannels.{link_end, quiet_end}
+use Rattle.tproc.proofs.Noticing.{notice-links}
+use Rattle.tproc.proofs.Finishing.{finish_input-links, finish_output-links}
+use Rattle.tproc.proofs.Resting.{halting_halts}
+use Rattle.tlink.specs.declared.counts.Arrival.{Arrival}
+use Rattle.tlink.specs.declared.counts.Counts.{Counts}
+use Rattle.tlink.specs.declared.event.Packet.{Packet}
+use Rattle.tlink.specs.declared.event.Packet.TheVariants as packet
+use Rattle.tlink.specs.declared.event.NodeEvent.{NodeEvent}
+use Rattle.tlink.specs.declared.event.NodeEvent.TheVariants.{Run, Send, Data, Take, Ack}
+use Rattle.tlink.specs.declared.event.Emitted.{Emitted}
+use Rattle.tlink.specs.declared.event.StepFault.{StepFault}
+use Rattle.tlink.specs.declared.event.Mark.{Mark}
+use Rattle.tlink.specs.declared.event.Mark.TheVariants.{Nothing, Halted, Completed}
+use Rattle.tlink.specs.declared.event.StepFault.TheVariants.{NotEnabled, Frozen}
+use Rattle.tlink.specs.Node.{NodeState, counts_at, with_counts, with_machine, output_at, input_at, is_wired, frozen}
+use Rattle.tlink.specs.Events.{Answer, happens, unless_frozen, after_run, after_send, after_take, after_ack, take_marked, stored, noticed_by, silently, emitting, ended, node_left_by, node_answered}
+use Rattle.tplan.specs.declared.event.Act.{Act}
+use Rattle.tplan.specs.declared.event.Act.TheVariants as act
+use Rattle.tplan.specs.declared.plan.End.{End}
+use Rattle.tnet.specs.declared.inbox.Inbox.{Inbox}
+use Rattle.tnet.specs.declared.station.Done.{Done}
+use Rattle.tnet.specs.Wires.{end_at}
+use Rattle.tnet.specs.Stations.{box_at, with_carried, asked, emptied, input_of, input_bytes, message_note, mark_note, answer_note, note_of, answer_done, done_of}
+use Rattle.tnet.specs.Answers.{KeepsInput}
+use Rattle.tnet.proofs.Places.{part_kept}
+
+-- the pending inputs stay
+abbrev pub SameInputs : NodeState → NodeState → Type 0
+SameInputs a b = (k : ℕ) → input_at b k ≡ input_at a k
+
+-- an event that brings a packet: nothing is emitted, told or frozen, and the pending inputs stay
+abbrev pub Brings : NodeState → Answer → Type 0
+Brings n (Ok (n', e)) = (e.packet ≡ None) × (e.mark ≡ Nothing) × SameInputs n n'
+Brings n (Err NotEnabled) = ⊤
+Brings n (Err (Frozen b)) = ⊥
+
+-- an event that sends: nothing is told or frozen
+abbrev pub Sends : Answer → Type 0
+Sends (Ok (n', e)) = e.mark ≡ Nothing
+Sends (Err NotEnabled) = ⊤
+Sends (Err (Frozen b)) = ⊥
+
+-- an event that takes a byte: it may complete the message of its link, and the other pending inputs stay
+abbrev pub Takes : ℕ → NodeState → Answer → Type 0
+Takes l n (Ok (n', e)) = ((e.mark ≡ Nothing) ⊎ ((e.mark ≡ Completed l) × IsSome (input_at n l))) × ((k : ℕ) → k ≢ l → input_at n' k ≡ input_at n k)
+Takes l n (Err f) = ⊤
+
+-- a run: nothing is emitted, and after one that halts there is none
+abbrev pub Runs : Answer → Type 0
+Runs (Ok (n', e)) = (e.packet ≡ None) × ((e.mark ≡ Nothing) ⊎ ((e.mark ≡ Halted) × (happens Run n' ≡ Err NotEnabled)))
+Runs (Err f) = ⊤
+
+-- the inputs after a link was set
+link_inputs : (m m' : Machine) (l : ℕ) (e : LinkEnd) → m'.control.links ≡ set m.control.links l e → e.input ≡ (link_end m.control l).input → (k : ℕ) → (link_end m'.control k).input ≡ (link_end m.control k).input
+link_inputs m m' l e h same k =
+    ap (λ (ls : List LinkEnd). (slice_index_or ls k quiet_end).input) h ∙ part_kept (λ (x : LinkEnd). x.input) m.control.links l k e quiet_end same
+
+other_inputs : (m m' : Machine) (l : ℕ) (e : LinkEnd) → m'.control.links ≡ set m.control.links l e → (k : ℕ) → k ≢ l → (link_end m'.control k).input ≡ (link_end m.control k).input
+other_inputs m m' l e h k d = ap (λ (ls : List LinkEnd). (slice_index_or ls k quiet_end).input) h ∙ ap (λ (x : LinkEnd). x.input) (get_or-set_other m.control.links l k e quiet_end d)
+
+noticed-inputs : (l : ℕ) (o : Option Offer) (n : NodeState) → SameInputs n (noticed_by l o n)
+noticed-inputs l None n = link_inputs n.machine (notice l n.machine) l _ (notice-links l n.machine) refl
+noticed-inputs l (Some o) n = λ k. refl
+
+unless_brings : (n : NodeState) (b : Option Break) (a : Answer) → Brings n a → Brings n (unless_frozen b a)
+unless_brings n None a h = h
+unless_brings n (Some b) a h = tt
+
+data_by : (l : ℕ) (o : Option Offer) (c : Counts) (n : NodeState) (t : Bool) → Brings n (if t then silently Nothing (noticed_by l o (with_counts l c n)) else Err NotEnabled)
+data_by l o c n true = (refl, refl, noticed-inputs l o (with_counts l c n))
+data_by l o c n false = tt
+
+-- Data
+pub data_brings : (l byte : ℕ) (last : Bool) (n : NodeState) → Brings n (happens (Data l byte last) n)
+unfolding happens
+data_brings l byte last n = unless_brings n n.broken _ (data_by l (input_at n l) _ n (is_wired n l && is_none (counts_at n l).arrived))
+
+ack_by : (l : ℕ) (c : Counts) (o : Offer) (n : NodeState) (a b : Bool)
+    → Brings n (if a then Err NotEnabled else if b then silently Nothing (ended l c n) else silently Nothing (with_counts l (record c { acked = c.acked + 1 }) n))
+ack_by l c o n true b = tt
+ack_by l c o n false true = (refl, refl, link_inputs n.machine (finish_output l n.machine) l _ (finish_output-links l n.machine) refl)
+ack_by l c o n false false = (refl, refl, (λ k. refl))
+
+ack_of : (l : ℕ) (o : Option Offer) (c : Counts) (n : NodeState) → Brings n (after_ack l o c n)
+ack_of l None c n = tt
+ack_of l (Some o) c n = ack_by l c o n (not (c.sent == c.acked + 1)) (c.acked + 1 == o.length)
+
+-- Ack
+pub ack_brings : (l : ℕ) (n : NodeState) → Brings n (happens (Ack l) n)
+unfolding happens
+ack_brings l n = unless_brings n n.broken _ (ack_of l (output_at n l) (counts_at n l) n)
+
+unless_sends : (b : Option Break) (a : Answer) → Sends a → Sends (unless_frozen b a)
+unless_sends None a h = h
+unless_sends (Some b) a h = tt
+
+send_by : (l : ℕ) (p : Packet) (n : NodeState) (t : Bool) → Sends (if t then emitting l p Nothing n else Err NotEnabled)
+send_by l p n true = refl
+send_by l p n false = tt
+
+send_of : (l : ℕ) (o : Option Offer) (c : Counts) (n : NodeState) → Sends (after_send l o c n)
+send_of l None c n = tt
+send_of l (Some o) c n = send_by l _ _ (is_wired n l && (c.acked == c.sent) && nat_lt c.sent o.length)
+
+-- Send
+pub send_sends : (l : ℕ) (n : NodeState) → Sends (happens (Send l) n)
+unfolding happens
+send_sends l n = unless_sends n.broken _ (send_of l (output_at n l) (counts_at n l) n)
+
+unless_takes : (l : ℕ) (n : NodeState) (b : Option Break) (a : Answer) → Takes l n a → Takes l n (unless_frozen b a)
+unless_takes l n None a h = h
+unless_takes l n (Some b) a h = tt
+
+take_by : (l : ℕ) (n : NodeState) (marked full : Bool) (byte : ℕ) (o : Offer) (c : Counts) → input_at n l ≡ Some o → Takes l n (take_marked l marked full byte o c n)
+take_by l n true true byte o c h = (inr (refl, rw h refl), (λ k d. other_inputs (stored (o.buffer + c.got) byte n).machine (finish_input l (stored (o.buffer + c.got) byte n).machine) l _ (finish_input-links l (stored (o.buffer + c.got) byte n).machine) k d))
+take_by l n false false byte o c h = (inl refl, (λ k d. refl))
+take_by l n true false byte o c h = tt
+take_by l n false true byte o c h = tt
+
+take_of : (l : ℕ) (a : Option Arrival) (o : Option Offer) (c : Counts) (n : NodeState) → input_at n l ≡ o → Takes l n (after_take l a o c n)
+take_of l None o c n h = tt
+take_of l (Some a) None c n h = tt
+take_of l (Some a) (Some o) c n h = take_by l n a.last (c.got + 1 == o.length) a.byte o c h
+
+-- Take
+pub take_takes : (l : ℕ) (n : NodeState) → Takes l n (happens (Take l) n)
+unfolding happens
+take_takes l n = unless_takes l n n.broken _ (take_of l (counts_at n l).arrived (input_at n l) (counts_at n l) n refl)
+
+-- a processor that has halted has no step
+halted-step : (m : Machine) → m.control.halted ≡ true → step m ≡ Ok (m, ran.Halted)
+unfolding step
+halted-step m h = rw h refl
+
+not_enabled : (b : Option Break) (a : Answer) → a ≡ Err NotEnabled → unless_frozen b a ≡ Err NotEnabled
+not_enabled None a h = h
+not_enabled (Some b) a h = refl
+
+stopped : (m : Machine) (n : NodeState) → m.control.halted ≡ true → happens Run (with_machine m n) ≡ Err NotEnabled
+unfolding happens
+stopped m n h = not_enabled n.broken (after_run (with_machine m n) (step m)) (ap (after_run (with_machine m n)) (halted-step m h))
+
+unless_runs : (b : Option Break) (a : Answer) → Runs a → Runs (unless_frozen b a)
+unless_runs None a h = h
+unless_runs (Some b) a h = tt
+
+run_of : (n : NodeState) (r : Result (Machine × Ran) Break) → step n.machine ≡ r → Runs (after_run n r)
+run_of n (Ok (m, ran.Idle)) h = tt
+run_of n (Ok (m, ran.Halted)) h = tt
+run_of n (Ok (m, ran.Halting)) h = (refl, inr (refl, stopped m n (halting_halts n.machine m h)))
+run_of n (Ok (m, ran.Instruction)) h = (refl, inl refl)
+run_of n (Ok (m, ran.Dispatch)) h = (refl, inl refl)
+run_of n (Ok (m, ran.LinkOut l)) h = (refl, inl refl)
+run_of n (Ok (m, ran.LinkIn l)) h = (refl, inl refl)
+run_of n (Err b) h = tt
+
+-- Run
+pub run_runs : (n : NodeState) → Runs (happens Run n)
+unfolding happens
+run_runs n = unless_runs n.broken _ (run_of n (step n.machine) refl)
+
+-- a frozen node does nothing
+pub frozen-stops : (e : NodeEvent) (b : Break) (n : NodeState) → happens e (frozen b n) ≡ Err NotEnabled
+unfolding happens
+frozen-stops e b n = refl
+
+-- what was not enabled leaves the node
+pub not_done : (n : ℕ) (far : ℕ → Option End) (e : NodeEvent) (node : NodeState) → done_of n far e node ≡ None → node_left_by node (happens e node) ≡ node
+not_done n far e node h = by (happens e node) refl
+  where
+    by : (a : Answer) → happens e node ≡ a → node_left_by node (happens e node) ≡ node
+    by (Ok (node', x)) is = let q = rw is at h in cc
+    by (Err NotEnabled) is = rw is refl
+    by (Err (Frozen b)) is = let q = rw is at h in cc
+
+-- an event that takes a packet freezes no node: where one freezes, what lies at the links stands
+pub frozen_takes_none : (a : Act) (boxes : List Inbox) (e : NodeEvent) (node : NodeState) (b : Break) → asked a boxes ≡ Some e → happens e node ≡ Err (Frozen b) → emptied a boxes ≡ boxes
+frozen_takes_none act.Run boxes e node b is h = refl
+frozen_takes_none (act.Send l) boxes e node b is h = refl
+frozen_takes_none (act.Take l) boxes e node b is h = refl
+frozen_takes_none (act.Data l) boxes e node b is h = by (box_at boxes l).carried is
+  where
+    by : (o : Option Arrival) → with_carried l o ≡ Some e → emptied (act.Data l) boxes ≡ boxes
+    by None q = cc
+    by (Some x) q = absurd (rw h at (rw (same_Some _ _ q) at (data_brings l x.byte x.last node)))
+frozen_takes_none (act.Ack l) boxes e node b is h = by (box_at boxes l).acknowledged is
+  where
+    by : (t : Bool) → (if t then Some (Ack l) else None) ≡ Some e → emptied (act.Ack l) boxes ≡ boxes
+    by false q = cc
+    by true q = absurd (rw h at (rw (same_Some _ _ q) at (ack_brings l node)))
+
+-- the far ends are looked up one by one
+pub answer_by_far : (n : ℕ) (f g : ℕ → Option End) (input : Option Offer) (r : Result Emitted StepFault) (node : NodeState) → ((l : ℕ) → f l ≡ g l)
+    → answer_note n f input r node ≡ answer_note n g input r node
+answer_by_far n f g input (Ok x) node h = by x.mark
+  where
+    by : (m : Mark) → mark_note n f input m node ≡ mark_note n g input m node
+    by Nothing = refl
+    by Halted = refl
+    by (Completed l) = ap (λ (o : Option End). message_note o (end_at n l) (input_bytes input node)) (h l)
+answer_by_far n f g input (Err NotEnabled) node h = refl
+answer_by_far n f g input (Err (Frozen b)) node h = refl
+
+pub note_by_far : (n : ℕ) (f g : ℕ → Option End) (e : NodeEvent) (node : NodeState) → ((l : ℕ) → f l ≡ g l) → note_of n f e node ≡ note_of n g e node
+note_by_far n f g e node h = answer_by_far n f g (input_of e node) (node_answered (happens e node)) (node_left_by node (happens e node)) h
+
+-- a run emits nothing
+pub run_emits_none : (n : ℕ) (far : ℕ → Option End) (node : NodeState) → IfSome (done_of n far Run node) (λ (d : Done). d.packet ≡ None)
+run_emits_none n far node = by (happens Run node) (run_runs node)
+  where
+    by : (a : Answer) → Runs a → IfSome (answer_done (node_answered a) (note_of n far Run node)) (λ (d : Done). d.packet ≡ None)
+    by (Ok (m, x)) h = h.0
+    by (Err NotEnabled) h = tt
+    by (Err (Frozen b)) h = refl
+
+-- and after one that tells something, as after one that is not enabled, there is none
+pub run_ends : (n : ℕ) (far : ℕ → Option End) (node : NodeState) → IfSome (done_of n far Run node) (λ (d : Done). d.note ≡ None) ⊎ (happens Run (node_left_by node (happens Run node)) ≡ Err NotEnabled)
+run_ends n far node = by (happens Run node) refl (run_runs node)
+  where
+    by : (a : Answer) → happens Run node ≡ a → Runs a → IfSome (done_of n far Run node) (λ (d : Done). d.note ≡ None) ⊎ (happens Run (node_left_by node (happens Run node)) ≡ Err NotEnabled)
+    by (Ok (m, x)) is h = by_mark h.1
+      where
+        by_mark : ((x.mark ≡ Nothing) ⊎ ((x.mark ≡ Halted) × (happens Run m ≡ Err NotEnabled))) → IfSome (done_of n far Run node) (λ (d : Done). d.note ≡ None) ⊎ (happens Run (node_left_by node (happens Run node)) ≡ Err NotEnabled)
+        by_mark (inl q) = inl (rw (is, q) refl)
+        by_mark (inr q) = inr (rw is q.1)
+    by (Err NotEnabled) is h = inr (rw is is)
+    by (Err (Frozen b)) is h = inr (rw is (frozen-stops Run b node))
+
+brought_stand : (node : NodeState) (l : ℕ) (a : Answer) → Brings node a → input_at (node_left_by node a) l ≡ input_at node l
+brought_stand node l (Ok (n', x)) h = h.2 l
+brought_stand node l (Err NotEnabled) h = refl
+brought_stand node l (Err (Frozen b)) h = refl
+
+-- the inputs that stand
+pub inputs_stand : (a : Act) (boxes : List Inbox) (e : NodeEvent) (node : NodeState) (l : ℕ) → asked a boxes ≡ Some e → KeepsInput a l → input_at (node_left_by node (happens e node)) l ≡ input_at node l
+inputs_stand act.Run boxes e node l is k = absurd k
+inputs_stand (act.Send m) boxes e node l is k = absurd k
+inputs_stand (act.Take m) boxes e node l is k =
+    let q : Take m ≡ e = same_Some _ _ is in
+    rw (← q) (by (happens (Take m) node) (take_takes m node))
+  where
+    by : (a : Answer) → Takes m node a → input_at (node_left_by node a) l ≡ input_at node l
+    by (Ok (n', x)) h = h.1 l k
+    by (Err NotEnabled) h = refl
+    by (Err (Frozen b)) h = refl
+inputs_stand (act.Data m) boxes e node l is k = by (box_at boxes m).carried is
+  where
+    by : (o : Option Arrival) → with_carried m o ≡ Some e → input_at (node_left_by node (happens e node)) l ≡ input_at node l
+    by None q = cc
+    by (Some x) q = let f : Data m x.byte x.last ≡ e = same_Some _ _ q in rw (← f) (brought_stand node l (happens (Data m x.byte x.last) node) (data_brings m x.byte x.last node))
+inputs_stand (act.Ack m) boxes e node l is k = by (box_at boxes m).acknowledged is
+  where
+    by : (t : Bool) → (if t then Some (Ack m) else None) ≡ Some e → input_at (node_left_by node (happens e node)) l ≡ input_at node l
+    by false q = cc
+    by true q = let f : Ack m ≡ e = same_Some _ _ q in rw (← f) (brought_stand node l (happens (Ack m) node) (ack_brings m node))

@@ -1,0 +1,217 @@
+//! A node at its place in a net: what lies at its links, and what an event of it takes, emits and tells. Nets, rounds and
+//! free workers do their events by these.
+ghost use Rattle.std.specs.Prelude.{◌≡◌, None, slice_set, vec_capacity};
+ghost use Rattle.tlink.specs.Events.{happens, node_left_by};
+ghost use Rattle.tnet.specs.Stations as plain;
+ghost use Rattle.tnet.specs.Stations.{box_at, emptied, put_in, answer_note, done_of};
+ghost use Rattle.tnet.specs.Wires.{end_at};
+ghost use Rattle.tnet.specs.FarEnds.{far_in_row};
+ghost use Rattle.tnet.specs.Answers.{HasRoom};
+
+use crate::inbox::Inbox;
+use crate::messages::message;
+use std::alloc::Global;
+use std::mem;
+use tlink::{Arrival, Emitted, Mark, Node, NodeEvent, Packet, StepFault};
+use tplan::{Act, End, Note};
+use tproc::Offer;
+use tword::Items;
+
+/// What an event of a node did, as others see it.
+#[derive(Drop)]
+pub struct Done {
+    /// The packet that it emitted, with its link.
+    pub packet: Option<(u8, Packet)>,
+    /// What it told.
+    pub note: Option<Note>,
+}
+
+/// What lies at a link.
+#[inline]
+fn inbox_at(inboxes: &[Inbox; 4], link: u8) -> Inbox
+    ensures { result ≡ box_at inboxes.now link }
+{
+    inboxes
+        .get(usize::from(link))
+        .copied()
+        .unwrap_or(Inbox::EMPTY)
+}
+
+/// The event that an act asks a node for, if its packet lies there.
+#[inline]
+pub fn asked(inboxes: &[Inbox; 4], act: Act) -> Option<NodeEvent>
+    ensures { result ≡ plain.asked act inboxes.now }
+{
+    match act {
+        Act::Run => Some(NodeEvent::Run),
+        Act::Send(link) => Some(NodeEvent::Send(link)),
+        Act::Data(link) => {
+            let Arrival { byte, last } = inbox_at(inboxes, link).carried?;
+            Some(NodeEvent::Data(link, byte, last))
+        }
+        Act::Take(link) => Some(NodeEvent::Take(link)),
+        Act::Ack(link) => {
+            if inbox_at(inboxes, link).acknowledged {
+                Some(NodeEvent::Ack(link))
+            } else {
+                None
+            }
+        }
+    }
+}
+
+/// What lies at a link is set.
+#[inline]
+fn set_inbox(inboxes: &mut [Inbox; 4], link: usize, inbox: Inbox)
+    ensures { inboxes.new ≡ slice_set inboxes.old link inbox }
+{
+    if link < inboxes.len() {
+        inboxes[link] = inbox;
+    }
+}
+
+/// The packet that an act takes is gone.
+#[inline]
+pub fn empty(inboxes: &mut [Inbox; 4], act: Act)
+    ensures { inboxes.new ≡ emptied act inboxes.old }
+{
+    match act {
+        Act::Data(link) => {
+            let lies = inbox_at(inboxes, link);
+            set_inbox(
+                inboxes,
+                usize::from(link),
+                Inbox {
+                    carried: None,
+                    ..lies
+                },
+            );
+        }
+        Act::Ack(link) => {
+            let lies = inbox_at(inboxes, link);
+            set_inbox(
+                inboxes,
+                usize::from(link),
+                Inbox {
+                    acknowledged: false,
+                    ..lies
+                },
+            );
+        }
+        _ => {}
+    }
+}
+
+/// A packet lies at a link.
+#[inline]
+pub fn put(inboxes: &mut [Inbox; 4], link: u32, packet: Packet)
+    ensures { inboxes.new ≡ slice_set inboxes.old link (put_in packet (box_at inboxes.old link)) }
+{
+    let link = link as usize;
+    let lies = inboxes.get(link).copied().unwrap_or(Inbox::EMPTY);
+    let lies = match packet {
+        Packet::Data { byte, last } => Inbox {
+            carried: Some(Arrival { byte, last }),
+            ..lies
+        },
+        Packet::Ack => Inbox {
+            acknowledged: true,
+            ..lies
+        },
+    };
+    set_inbox(inboxes, link, lies);
+}
+
+/// The input that an event takes a byte for.
+#[inline]
+pub fn input_of(node: &Node, event: NodeEvent) -> Option<Offer>
+    ensures { result ≡ plain.input_of event node.now }
+{
+    match event {
+        NodeEvent::Take(link) => node.processor().pending_in(link),
+        _ => None,
+    }
+}
+
+/// What an event told, by the answer to its caller and the node that it left. The bytes of a message go into `room`, which is
+/// used up.
+#[inline]
+pub fn note_of(
+    alloc: Global,
+    number: u8,
+    far: &[Option<End>; 4],
+    input: Option<Offer>,
+    answer: &Result<Emitted, StepFault>,
+    node: &Node,
+    room: &mut Vec<u8>,
+) -> Option<Note>
+    requires room { HasRoom input (vec_capacity room.old) }
+    ensures note { result ≡ answer_note number (far_in_row far.now) input answer.now node.now }
+    ensures kept { input ≡ None → room.new ≡ room.old }
+{
+    match answer {
+        Ok(emitted) => match emitted.mark {
+            Mark::Nothing => None,
+            Mark::Halted => Some(Note::Halt(number)),
+            Mark::Completed(link) => message_note(alloc, number, link, far, input, node, room),
+        },
+        Err(StepFault::Frozen(broken)) => Some(Note::Freeze(number, *broken)),
+        Err(StepFault::NotEnabled) => None,
+    }
+}
+
+/// A message that has come to its end at a link, if that has a wire.
+fn message_note(
+    alloc: Global,
+    number: u8,
+    link: u8,
+    far: &[Option<End>; 4],
+    input: Option<Offer>,
+    node: &Node,
+    room: &mut Vec<u8>,
+) -> Option<Note>
+    requires room { HasRoom input (vec_capacity room.old) }
+    ensures note { result ≡ plain.message_note (far_in_row far.now link) (end_at number link) (plain.input_bytes input node.now) }
+    ensures kept { input ≡ None → room.new ≡ room.old }
+{
+    let from = far.get(usize::from(link)).copied().unwrap_or(None)?;
+    let to = End {
+        node: u32::from(number),
+        link: u32::from(link),
+    };
+    let bytes = match input {
+        Some(offer) => message(node, offer, mem::replace(room, Vec::new(alloc))),
+        None => Items::new(Vec::new(alloc)),
+    };
+    Some(Note::Msg { from, to, bytes })
+}
+
+/// Does an event of a node: what it emitted and told, or nothing where it is not enabled. The bytes of a message go into
+/// `room`, which is used up.
+#[inline]
+pub fn act(
+    alloc: Global,
+    number: u8,
+    far: &[Option<End>; 4],
+    node: &mut Node,
+    event: NodeEvent,
+    room: &mut Vec<u8>,
+) -> Option<Done>
+    requires room { HasRoom (plain.input_of event node.old) (vec_capacity room.old) }
+    ensures done { result ≡ done_of number (far_in_row far.now) event node.old }
+    ensures left { node.new ≡ node_left_by node.old (happens event node.old) }
+    ensures rests { result ≡ None → node.new ≡ node.old }
+    ensures kept { plain.input_of event node.old ≡ None → room.new ≡ room.old }
+{
+    let input = input_of(node, event);
+    let answer = node.step(event);
+    let note = note_of(alloc, number, far, input, &answer, node, room);
+    match answer {
+        Ok(emitted) => Some(Done {
+            packet: emitted.packet,
+            note,
+        }),
+        Err(StepFault::Frozen(_broken)) => Some(Done { packet: None, note }),
+        Err(StepFault::NotEnabled) => None,
+    }
+}

@@ -1,0 +1,95 @@
+-- What an act does to a cell: how much it writes down, after which run there is none, and which room for messages stands.
+use Rattle.std.proofs.Common.{◌≡◌, ◌≢◌, ℕ, ◌<◌, ◌≤◌, refl, sym, ap, ◌∙◌, subst, List, length, get_or, set, map, Bool, true, false, Option, Some, None, Err, IfSome, ◌⊎◌, inl, inr, arith}
+use Rattle.std.specs.Prelude.{⊤, is_none, if◌then◌else◌}
+use Rattle.std.proofs.lemmas.Bool.{cases_eq}
+use Rattle.std.proofs.lemmas.List.{map-set, set-get_or}
+use Rattle.std.proofs.lemmas.Option.{same_Some}
+use Rattle.tproc.specs.declared.offer.Offer.{Offer}
+use Rattle.tlink.specs.declared.counts.Arrival.{Arrival}
+use Rattle.tlink.specs.declared.event.Packet.{Packet}
+use Rattle.tlink.specs.declared.event.NodeEvent.{NodeEvent}
+use Rattle.tlink.specs.declared.event.NodeEvent.TheVariants as at_node
+use Rattle.tlink.specs.declared.event.StepFault.TheVariants.{NotEnabled}
+use Rattle.tlink.specs.Node.{NodeState, input_at}
+use Rattle.tlink.specs.Events.{happens, node_left_by}
+use Rattle.tplan.specs.declared.event.Act.{Act}
+use Rattle.tplan.specs.declared.event.Act.TheVariants.{Run, Send, Data, Take, Ack}
+use Rattle.tplan.specs.declared.plan.End.{End}
+use Rattle.tnet.specs.declared.inbox.Inbox.{Inbox}
+use Rattle.tnet.specs.declared.station.Done.{Done}
+use Rattle.tnet.specs.Stations.{box_at, with_carried, asked, input_of, done_of}
+use Rattle.tnet.specs.FarEnds.{far_in_row}
+use Rattle.tnet.specs.Answers.{KeepsInput}
+use Rattle.tnet.proofs.AnswerKinds.{run_emits_none, run_ends, inputs_stand}
+use Rattle.trounds.specs.Parts.{Part, letter_to, letters, part_does}
+use Rattle.trounds.specs.Cells.{link_of, letters_of}
+use Rattle.trounds.proofs.PartCells.{room_else}
+
+one_letter : (p : Packet) (o : Option End) → length (letter_to p o) ≤ 1
+one_letter p None = omega arith
+one_letter p (Some e) = omega arith
+
+some_letters : (row : List (Option End)) (o : Option (ℕ × Packet)) → length (letters row o) ≤ 1
+some_letters row None = omega arith
+some_letters row (Some (l, p)) = one_letter p (far_in_row row l)
+
+-- how many letters an act sends
+pub few_letters : (a : Act) (boxes : List Inbox) (e : NodeEvent) (n : ℕ) (far : ℕ → Option End) (row : List (Option End)) (node : NodeState) (d : Done)
+    → asked a boxes ≡ Some e → done_of n far e node ≡ Some d → length (letters row d.packet) ≤ letters_of a
+few_letters Run boxes e n far row node d is did =
+    let q : at_node.Run ≡ e = same_Some _ _ is in
+    let h : d.packet ≡ None = rw did at (subst (λ (x : NodeEvent). IfSome (done_of n far x node) (λ (d : Done). d.packet ≡ None)) q (run_emits_none n far node)) in
+    rw h (omega arith)
+few_letters (Send l) boxes e n far row node d is did = some_letters row d.packet
+few_letters (Data l) boxes e n far row node d is did = some_letters row d.packet
+few_letters (Take l) boxes e n far row node d is did = some_letters row d.packet
+few_letters (Ack l) boxes e n far row node d is did = some_letters row d.packet
+
+-- after a run that told something there is none
+pub run_rests : (p : Part) (a : Act) (boxes : List Inbox) (e : NodeEvent) (n : ℕ) (far : ℕ → Option End) (node : NodeState) (d : Done)
+    → a ≡ Run → asked a boxes ≡ Some e → done_of n far e node ≡ Some d → is_none d.note ≡ false → p.seat.node ≡ node_left_by node (happens e node) → part_does Run p ≡ p
+run_rests p a boxes e n far node d run is did told left = by (run_ends n far node)
+  where
+    e_is : at_node.Run ≡ e
+    e_is = same_Some _ _ (rw run at is)
+
+    by : IfSome (done_of n far at_node.Run node) (λ (d : Done). d.note ≡ None) ⊎ (happens at_node.Run (node_left_by node (happens at_node.Run node)) ≡ Err NotEnabled) → part_does Run p ≡ p
+    by (inl q) =
+        let h : d.note ≡ None = rw did at (subst (λ (x : NodeEvent). IfSome (done_of n far x node) (λ (d : Done). d.note ≡ None)) e_is q) in
+        let z : true ≡ false = rw h at told in
+        cc
+    by (inr q) =
+        let h : happens at_node.Run p.seat.node ≡ Err NotEnabled = ap (happens at_node.Run) (left ∙ ap (λ (x : NodeEvent). node_left_by node (happens x node)) (sym e_is)) ∙ q in
+        rw h refl
+
+-- an act at this link that keeps its input takes no byte for one
+no_input : (a : Act) (boxes : List Inbox) (e : NodeEvent) (node : NodeState) (l : ℕ) → asked a boxes ≡ Some e → KeepsInput a l → l ≡ link_of a → input_of e node ≡ None
+no_input Run boxes e node l is k same = absurd k
+no_input (Send m) boxes e node l is k same = absurd k
+no_input (Take m) boxes e node l is k same = absurd (k same)
+no_input (Data m) boxes e node l is k same = by (box_at boxes m).carried is
+  where
+    by : (o : Option Arrival) → with_carried m o ≡ Some e → input_of e node ≡ None
+    by None q = cc
+    by (Some x) q = let f : at_node.Data m x.byte x.last ≡ e = same_Some _ _ q in rw (← f) refl
+no_input (Ack m) boxes e node l is k same = by (box_at boxes m).acknowledged is
+  where
+    by : (t : Bool) → (if t then Some (at_node.Ack m) else None) ≡ Some e → input_of e node ≡ None
+    by false q = cc
+    by true q = let f : at_node.Ack m ≡ e = same_Some _ _ q in rw (← f) refl
+
+-- the room for a message whose input stands
+pub room_stands : {A : Type 0} (f : A → ℕ) (a : Act) (boxes : List Inbox) (e : NodeEvent) (node node' : NodeState) (vs : List A) (k l : ℕ) (v d : A)
+    → asked a boxes ≡ Some e → node' ≡ node_left_by node (happens e node) → k ≡ link_of a → (input_of e node ≡ None → v ≡ get_or vs k d) → KeepsInput a l
+    → IfSome (input_at node l) (λ (o : Offer). o.length ≤ get_or (map f vs) l 0) → IfSome (input_at node' l) (λ (o : Offer). o.length ≤ get_or (map f (set vs k v)) l 0)
+room_stands {A} f a boxes e node node' vs k l v d is left link kept keeps fits = rw (input, by (cases_eq l k)) fits
+  where
+    input : input_at node' l ≡ input_at node l
+    input = ap (λ (x : NodeState). input_at x l) left ∙ inputs_stand a boxes e node l is keeps
+
+    by : (l ≡ k) ⊎ (l ≢ k) → get_or (map f (set vs k v)) l 0 ≡ get_or (map f vs) l 0
+    by (inr ne) = room_else f vs k l v ne
+    by (inl q) =
+        let h : v ≡ get_or vs k d = kept (no_input a boxes e node l is keeps (q ∙ link)) in
+        let s : set vs k v ≡ vs = ap (set vs k) h ∙ set-get_or vs k d in
+        ap (λ (xs : List A). get_or (map f xs) l 0) s
