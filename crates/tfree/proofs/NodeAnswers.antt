@@ -1,5 +1,5 @@
 -- What the answer of a node to an event emits and tells.
-use Rattle.std.proofs.Common.{◌≡◌, ℕ, refl, List, [], Bool, true, false, Ok, Err, Option, Some, None, ◌⊎◌, inl, inr}
+use Rattle.std.proofs.Common.{◌≡◌, ℕ, refl, List, [], Bool, true, false, Ok, Err, Option, Some, None, ◌⊎◌, inl, inr, ap}
 use Rattle.std.specs.Prelude.{⊤, if◌then◌else◌, ◌+◌, ◌&&◌, ◌==◌, nat_lt}
 use Rattle.tword.specs.declared.breaks.Break.{Break}
 use Rattle.tproc.specs.declared.offer.Offer.{Offer}
