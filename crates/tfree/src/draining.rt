@@ -1,6 +1,5 @@
 //! What is left in a ring, once both of its ends are at hand.
 ghost use Rattle.std.specs.Prelude.{◌≡◌, ◌≢◌, ◌+◌, ◌*◌, ◌<◌, ◌≤◌, ℕ, length, vec_len, vec_capacity, Some, option_map, slice_index_or};
-ghost use Rattle.tnet.specs.Stations.{put_in};
 ghost use Rattle.tnet.specs.Wires.{end_at};
 ghost use Rattle.tnet.specs.Net.{empty_inbox};
 ghost use Rattle.tfree.specs.Ends.{in_view, out_view, ins_view, outs_view};
@@ -8,25 +7,8 @@ ghost use Rattle.tfree.specs.Rings.{in_at};
 ghost use Rattle.tfree.specs.Drained.{WasDrained, ArePaired, IsJoined, IsLeftAt, AreLeftAt, AreSameFrom};
 
 use crate::ends::{InEnd, OutEnd};
-use tlink::{Arrival, Packet};
 use tnet::{Inbox, Wires};
 use tplan::End;
-
-/// A packet is put among what lies at an end.
-fn put_in(packet: Packet, lies: Inbox) -> Inbox
-    ensures { result ≡ put_in packet lies }
-{
-    match packet {
-        Packet::Data { byte, last } => Inbox {
-            carried: Some(Arrival { byte, last }),
-            ..lies
-        },
-        Packet::Ack => Inbox {
-            acknowledged: true,
-            ..lies
-        },
-    }
-}
 
 /// Takes out of a ring all that is left in it, as an inbox.
 fn drain(end: &mut InEnd, out: &mut OutEnd) -> Inbox
@@ -37,10 +19,10 @@ fn drain(end: &mut InEnd, out: &mut OutEnd) -> Inbox
     let count = end.consumer.slots_beside(&mut out.producer);
     let mut lies = Inbox::EMPTY;
     if count > 0 {
-        lies = put_in(end.consumer.pop_known().packet, lies);
+        lies = lies.with(end.consumer.pop_known().packet);
     }
     if count > 1 {
-        lies = put_in(end.consumer.pop_known().packet, lies);
+        lies = lies.with(end.consumer.pop_known().packet);
     }
     lies
 }

@@ -75,31 +75,20 @@ fn set_inbox(inboxes: &mut [Inbox; 4], link: usize, inbox: Inbox)
 pub fn empty(inboxes: &mut [Inbox; 4], act: Act)
     ensures { inboxes.new ≡ emptied act inboxes.old }
 {
-    match act {
+    let (link, inbox) = match act {
         Act::Data(link) => {
             let lies = inbox_at(inboxes, link);
-            set_inbox(
-                inboxes,
-                usize::from(link),
-                Inbox {
-                    carried: None,
-                    ..lies
-                },
-            );
+            let carried = None;
+            (link, Inbox { carried, ..lies })
         }
         Act::Ack(link) => {
             let lies = inbox_at(inboxes, link);
-            set_inbox(
-                inboxes,
-                usize::from(link),
-                Inbox {
-                    acknowledged: false,
-                    ..lies
-                },
-            );
+            let acknowledged = false;
+            (link, Inbox { acknowledged, ..lies })
         }
-        _ => {}
-    }
+        _ => return,
+    };
+    set_inbox(inboxes, usize::from(link), inbox);
 }
 
 /// A packet lies at a link.
@@ -109,17 +98,7 @@ pub fn put(inboxes: &mut [Inbox; 4], link: u32, packet: Packet)
 {
     let link = link as usize;
     let lies = inboxes.get(link).copied().unwrap_or(Inbox::EMPTY);
-    let lies = match packet {
-        Packet::Data { byte, last } => Inbox {
-            carried: Some(Arrival { byte, last }),
-            ..lies
-        },
-        Packet::Ack => Inbox {
-            acknowledged: true,
-            ..lies
-        },
-    };
-    set_inbox(inboxes, link, lies);
+    set_inbox(inboxes, link, lies.with(packet));
 }
 
 /// The input that an event takes a byte for.
