@@ -20,7 +20,7 @@ use Rattle.tnet.specs.FarEnds.{far_in_row, IsRow}
 use Rattle.tnet.specs.Stations.{mark_note, answer_note, note_of, listed}
 use Rattle.tnet.proofs.AnswerKinds.{Brings, Runs, data_brings, ack_brings, run_runs, note_by_far}
 use Rattle.tfree.specs.Lists.{event_taking}
-use Rattle.tfree.specs.Told.{told_at}
+use Rattle.tfree.specs.WorkerNotes.{told_at}
 use Rattle.tfree.specs.Logs.{IsActOf}
 
 -- an answer emits on this link, if it emits at all

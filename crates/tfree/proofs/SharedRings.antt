@@ -14,7 +14,7 @@ use Rattle.tfree.specs.Kept.{link_place, IsMine}
 use Rattle.tfree.specs.Shares.{share, first_nodes}
 use Rattle.tfree.specs.Rings.{AreRings}
 use Rattle.tfree.specs.Opened.{first_of, owned_of, IsShareOf, AreShares, AreApart, AreOf}
-use Rattle.tfree.specs.Seats.{share_at}
+use Rattle.tfree.specs.Allotments.{share_at}
 use Rattle.tfree.proofs.FreshWorkers.{in_id_at, out_id_at, far_of}
 use Rattle.tfree.proofs.BroughtLogs.{number_here}
 use Rattle.tfree.proofs.NodeOwners.{first-length, first-below}

@@ -1,4 +1,4 @@
--- One worker more gets its seat and its nodes.
+-- One worker more gets its allotment and its nodes.
 use Rattle.std.proofs.Common.{◌≡◌, ℕ, suc, ◌+◌, ◌-◌, ◌<◌, ◌≤◌, refl, sym, ap, ◌∙◌, subst, arith, List, [], ◌∷◌, ◌++◌, length, length-drop, map, get_or, take, drop, Option}
 use Rattle.std.specs.Prelude.{min, vec_capacity}
 use Rattle.std.proofs.lemmas.List.{length-map, map-append, drop-drop}
@@ -7,60 +7,60 @@ use Rattle.tlink.specs.Node.{NodeState}
 use Rattle.tnet.specs.Net.{NetState}
 use Rattle.tnet.specs.NetParts.{net_of_parts}
 use Rattle.tnet.specs.Sound.{IsSound}
-use Rattle.tfree.specs.declared.seats.Seat.{Seat}
+use Rattle.tfree.specs.declared.allotments.Allotment.{Allotment}
 use Rattle.tfree.specs.Ends.{ins_view, outs_view}
 use Rattle.tfree.specs.Views.{InView, OutView, Share, View}
 use Rattle.tfree.specs.Kept.{IsShare, Kept, share_with}
 use Rattle.tfree.specs.Shares.{share, first_nodes}
 use Rattle.tfree.specs.Rings.{part_of}
 use Rattle.tfree.specs.Opened.{first_of, owned_of, share_of, HasDoneNothing, IsOpened}
-use Rattle.tfree.specs.Seats.{share_at, IsSeat, AreSeats, AreSeated, AreSharedOut}
+use Rattle.tfree.specs.Allotments.{share_at, IsSeat, AreSeats, AreAllotted, AreSharedOut}
 use Rattle.tfree.proofs.FreshWorkers.{part_length, fresh_share, fresh_kept}
 use Rattle.tfree.proofs.NodeOwners.{first-length}
 use Rattle.tfree.proofs.Portions.{owned_is}
 use Rattle.tfree.proofs.SharedRings.{within, ends_at, one_opening}
 
--- the seat in front, and those behind it
-front_seat : (opened : NetState) (count : ℕ) (ins : List (Option InView)) (outs : List (Option OutView)) (k : ℕ) (seats : List Seat) (s : Seat) → AreSeats opened count ins outs k seats → 0 < length seats → s ≡ get_or seats 0 s
-    → IsSeat opened count ins outs k s × AreSeats opened count ins outs (k + 1) (drop 1 seats)
-front_seat opened count ins outs k [] s h b e = absurd (omega (arith, b))
-front_seat opened count ins outs k (x ∷ xs) s h b e = (rw e h.0, let n : suc k ≡ k + 1 = omega arith in subst (λ (j : ℕ). AreSeats opened count ins outs j xs) n h.1)
+-- the allotment in front, and those behind it
+front_allotment : (opened : NetState) (count : ℕ) (ins : List (Option InView)) (outs : List (Option OutView)) (k : ℕ) (allotments : List Allotment) (s : Allotment) → AreSeats opened count ins outs k allotments → 0 < length allotments → s ≡ get_or allotments 0 s
+    → IsSeat opened count ins outs k s × AreSeats opened count ins outs (k + 1) (drop 1 allotments)
+front_allotment opened count ins outs k [] s h b e = absurd (omega (arith, b))
+front_allotment opened count ins outs k (x ∷ xs) s h b e = (rw e h.0, let n : suc k ≡ k + 1 = omega arith in subst (λ (j : ℕ). AreSeats opened count ins outs j xs) n h.1)
 
--- one seat more
-pub seats_more : (opened : NetState) (count : ℕ) (ins : List (Option InView)) (outs : List (Option OutView)) (k j : ℕ) (seats : List Seat) (s : Seat) → AreSeats opened count ins outs k seats → j ≡ k + length seats
-    → IsSeat opened count ins outs j s → AreSeats opened count ins outs k (seats ++ s ∷ [])
-seats_more opened count ins outs k j [] s h e is = let n : j ≡ k = omega (arith, e) in (subst (λ (m : ℕ). IsSeat opened count ins outs m s) n is, tt)
-seats_more opened count ins outs k j (x ∷ xs) s h e is = (h.0, seats_more opened count ins outs (suc k) j xs s h.1 (omega (arith, e)) is)
+-- one allotment more
+pub allotments_more : (opened : NetState) (count : ℕ) (ins : List (Option InView)) (outs : List (Option OutView)) (k j : ℕ) (allotments : List Allotment) (s : Allotment) → AreSeats opened count ins outs k allotments → j ≡ k + length allotments
+    → IsSeat opened count ins outs j s → AreSeats opened count ins outs k (allotments ++ s ∷ [])
+allotments_more opened count ins outs k j [] s h e is = let n : j ≡ k = omega (arith, e) in (subst (λ (m : ℕ). IsSeat opened count ins outs m s) n is, tt)
+allotments_more opened count ins outs k j (x ∷ xs) s h e is = (h.0, allotments_more opened count ins outs (suc k) j xs s h.1 (omega (arith, e)) is)
 
 -- before the first worker
-pub none_shared : (opened : NetState) (count : ℕ) (seats : List Seat) → AreSeated opened count seats → AreSharedOut opened count 0 opened.nodes seats []
-none_shared opened count seats h =
+pub none_shared : (opened : NetState) (count : ℕ) (allotments : List Allotment) → AreAllotted opened count allotments → AreSharedOut opened count 0 opened.nodes allotments []
+none_shared opened count allotments h =
     record {
       ins = h.ins;
       outs = h.outs;
       rings = h.rings;
       nodes_left = let z : first_of (length opened.nodes) count 0 ≡ 0 = omega arith in rw z refl;
-      seats_left = h.seats_are;
+      allotments_left = h.allotments_are;
       shares = refl;
       fresh = λ i d b. absurd (omega (arith, b));
     }
 
 -- behind the last one
-pub all_shared : (opened : NetState) (count : ℕ) (nodes : List NodeState) (seats : List Seat) (ws : List View) → IsSound opened → length opened.nodes ≤ 64 → 0 < count → count ≤ 64 → AreSharedOut opened count count nodes seats ws → IsOpened opened count ws
-all_shared opened count nodes seats ws sound few some many h =
+pub all_shared : (opened : NetState) (count : ℕ) (nodes : List NodeState) (allotments : List Allotment) (ws : List View) → IsSound opened → length opened.nodes ≤ 64 → 0 < count → count ≤ 64 → AreSharedOut opened count count nodes allotments ws → IsOpened opened count ws
+all_shared opened count nodes allotments ws sound few some many h =
     record {
       all = sym (length-map ws share_of) ∙ ap length h.shares ∙ length-map (first_nodes count) (share_at opened count h.ins h.outs) ∙ first-length count;
       one = rw h.shares (one_opening opened count h.ins h.outs sound few some h.rings many);
       fresh = h.fresh;
     }
 
-module _ (opened : NetState) (count k : ℕ) (nodes : List NodeState) (seats : List Seat) (ws : List View) (sound : IsSound opened) (few : length opened.nodes ≤ 64) (some : 0 < count)
-    (sh : AreSharedOut opened count k nodes seats ws) (s : Seat) (there : 0 < length seats) (is : s ≡ get_or seats 0 s) where
+module _ (opened : NetState) (count k : ℕ) (nodes : List NodeState) (allotments : List Allotment) (ws : List View) (sound : IsSound opened) (few : length opened.nodes ≤ 64) (some : 0 < count)
+    (sh : AreSharedOut opened count k nodes allotments ws) (s : Allotment) (there : 0 < length allotments) (is : s ≡ get_or allotments 0 s) where
   abbrev n : ℕ
   n = length opened.nodes
 
-  seat : IsSeat opened count sh.ins sh.outs k s
-  seat = (front_seat opened count sh.ins sh.outs k seats s sh.seats_left there is).0
+  allotment : IsSeat opened count sh.ins sh.outs k s
+  allotment = (front_allotment opened count sh.ins sh.outs k allotments s sh.allotments_left there is).0
 
   pub nodes_length : length nodes ≡ n - first_of n count k
   nodes_length = ap length sh.nodes_left ∙ length-drop (first_of n count k) opened.nodes
@@ -70,10 +70,10 @@ module _ (opened : NetState) (count k : ℕ) (nodes : List NodeState) (seats : L
   owned_here = ap (min (share n count)) nodes_length ∙ owned_is n count k
 
   pub has_room : s.nodes.items ≡ []
-  has_room = seat.empty
+  has_room = allotment.empty
 
   pub room_is : owned_of n count k ≤ vec_capacity s.nodes
-  room_is = seat.room
+  room_is = allotment.room
 
   module _ (first owned : ℕ) (first_is : first ≡ first_of n count k) (owned_is_it : owned ≡ owned_of n count k) (mine : List NodeState) (mine_is : mine ≡ [] ++ take owned nodes) where
     mine_part : mine ≡ part_of (first_of n count k) (owned_of n count k) opened.nodes
@@ -86,10 +86,10 @@ module _ (opened : NetState) (count k : ℕ) (nodes : List NodeState) (seats : L
     given = share_with k count first (length mine) (net_of_parts s.opened.value) (ins_view s.ins.items) (outs_view s.outs.items)
 
     share_is : given ≡ share_at opened count sh.ins sh.outs k
-    share_is = rw (first_is, mine_length, seat.opened_is, seat.ins_are, seat.outs_are) refl
+    share_is = rw (first_is, mine_length, allotment.opened_is, allotment.ins_are, allotment.outs_are) refl
 
     pub wires_are : s.wires ≡ (net_of_parts s.opened.value).wires
-    wires_are = seat.wires ∙ ap (λ (m : NetState). m.wires) (sym seat.opened_is)
+    wires_are = allotment.wires ∙ ap (λ (m : NetState). m.wires) (sym allotment.opened_is)
 
     pub is_share : IsShare given
     is_share =
@@ -99,11 +99,11 @@ module _ (opened : NetState) (count k : ℕ) (nodes : List NodeState) (seats : L
     pub is_kept : Kept given mine 0 (ins_view s.ins.items) (outs_view s.outs.items) [] []
     is_kept =
         subst (λ (t : Share). Kept t mine 0 (ins_view s.ins.items) (outs_view s.outs.items) [] []) (sym share_is)
-        (rw (seat.ins_are, seat.outs_are)
+        (rw (allotment.ins_are, allotment.outs_are)
         (fresh_kept k count (first_of n count k) (owned_of n count k) opened sh.ins sh.outs sound few (within opened count sh.ins sh.outs sound few some sh.rings k) sh.rings mine mine_part))
 
     -- the worker stands behind those before it
-    pub one_more : (w : View) → w.share ≡ given → w.nodes ≡ mine → w.events ≡ [] → w.told ≡ [] → AreSharedOut opened count (k + 1) (drop owned nodes) (drop 1 seats) (ws ++ w ∷ [])
+    pub one_more : (w : View) → w.share ≡ given → w.nodes ≡ mine → w.events ≡ [] → w.told ≡ [] → AreSharedOut opened count (k + 1) (drop owned nodes) (drop 1 allotments) (ws ++ w ∷ [])
     one_more w a b c d =
         let here : w.share ≡ share_at opened count sh.ins sh.outs k = a ∙ share_is in
         record {
@@ -112,7 +112,7 @@ module _ (opened : NetState) (count k : ℕ) (nodes : List NodeState) (seats : L
           rings = sh.rings;
           nodes_left = ap (λ (m : ℕ). drop m nodes) owned_is_it ∙ ap (drop (owned_of n count k)) sh.nodes_left ∙ drop-drop (owned_of n count k) (first_of n count k) opened.nodes
               ∙ ap (λ (m : ℕ). drop m opened.nodes) (ends_at opened count sh.ins sh.outs sound few some sh.rings k);
-          seats_left = (front_seat opened count sh.ins sh.outs k seats s sh.seats_left there is).1;
+          allotments_left = (front_allotment opened count sh.ins sh.outs k allotments s sh.allotments_left there is).1;
           shares = map-append share_of ws (w ∷ []) ∙ rw (sh.shares, here) (more k);
           fresh = All-push HasDoneNothing ws w sh.fresh (record { nodes = rw (here, b) mine_part; events = c; told = d });
         }

@@ -13,10 +13,10 @@ use Rattle.tnet.specs.Net.{NetState, inbox_at}
 use Rattle.tnet.specs.Sound.{IsSound}
 use Rattle.tfree.specs.declared.stamp.Sent.{Sent}
 use Rattle.tfree.specs.declared.stamp.OwnEvent.{OwnEvent}
-use Rattle.tfree.specs.declared.stamp.Told.{Told}
+use Rattle.tfree.specs.declared.stamp.StampedNote.{StampedNote}
 use Rattle.tfree.specs.Ids.{RingId}
 use Rattle.tfree.specs.Lists.{AreDone, AreStamped, lying, puts, takes, takes_packet}
-use Rattle.tfree.specs.Told.{told_at}
+use Rattle.tfree.specs.WorkerNotes.{told_at}
 use Rattle.tfree.specs.Views.{InView, OutView, got_of, put_of, Share}
 use Rattle.tfree.specs.Logs.{notes_at}
 
@@ -46,12 +46,12 @@ last_stamp last [] = last
 last_stamp last (d ∷ ds) = last_stamp d.stamp ds
 
 -- what one event told, and then the rest
-abbrev pub kept_rest : List Wire → OwnEvent → Option NodeState → (NodeState → List Told) → List Told
+abbrev pub kept_rest : List Wire → OwnEvent → Option NodeState → (NodeState → List StampedNote) → List StampedNote
 kept_rest wires d None rest = []
 kept_rest wires d (Some node) rest = notes_at d.stamp (told_at wires d.node d.event node) ++ rest node
 
 -- what events told, each note with the stamp of its event
-abbrev pub kept_notes : List Wire → List NodeState → List OwnEvent → List Told
+abbrev pub kept_notes : List Wire → List NodeState → List OwnEvent → List StampedNote
 kept_notes wires nodes [] = []
 kept_notes wires nodes (d ∷ ds) =
     kept_rest wires d (slice_get nodes d.node) (λ node. kept_notes wires (slice_set nodes d.node (node_left_by node (happens d.event node))) ds)
@@ -89,7 +89,7 @@ link_of (Take l) = l
 link_of (Ack l) = l
 
 -- what a worker keeps
-pub record Kept (s : Share) (nodes : List NodeState) (clock : ℕ) (ins : List (Option InView)) (outs : List (Option OutView)) (events : List OwnEvent) (told : List Told) : Type 0 where
+pub record Kept (s : Share) (nodes : List NodeState) (clock : ℕ) (ins : List (Option InView)) (outs : List (Option OutView)) (events : List OwnEvent) (told : List StampedNote) : Type 0 where
   pub counted : length nodes ≡ s.owned
   -- its events were enabled one after another, and left its nodes as they are
   pub done : AreDone s.opened.nodes events (nodes_after s.opened.nodes events)

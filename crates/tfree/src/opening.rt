@@ -3,10 +3,10 @@ ghost use Rattle.std.specs.Prelude.{◌≡◌, ◌+◌, ◌<◌, ◌≤◌, ◌+
 ghost use Rattle.tnet.specs.NetParts.{net_of_parts};
 ghost use Rattle.tnet.specs.Sound.{IsSound};
 ghost use Rattle.tfree.specs.Opened.{IsOpened, IsBadCount, ComeFromOneOpen};
-ghost use Rattle.tfree.specs.Seats.{AreSeated};
+ghost use Rattle.tfree.specs.Allotments.{AreAllotted};
 ghost use Rattle.tfree.specs.declared.opening.OpenFault.TheVariants as fault;
 
-use crate::seats::{Seat, seats, share};
+use crate::allotments::{Allotment, allotments, share};
 use crate::worker::Worker;
 use std::alloc::{AllocError, Global};
 use tlink::Node;
@@ -33,37 +33,37 @@ fn move_front(from: &mut Vec<Node>, to: &mut Vec<Node>, count: usize)
     }
 }
 
-/// Each worker gets its seat and its nodes.
+/// Each worker gets its allotment and its nodes.
 fn share_out(
     alloc: Global,
     parts: NetParts,
-    mut seats: Vec<Seat>,
+    mut allotments: Vec<Allotment>,
     mut workers: Vec<Worker>,
 ) -> Vec<Worker>
     requires sound { IsSound (net_of_parts parts) }
     requires few { length parts.nodes.items ≤ 64 }
-    requires some { (0 < length seats.items) × (length seats.items ≤ 64) }
-    requires seated { AreSeated (net_of_parts parts) (length seats.items) seats.items }
+    requires some { (0 < length allotments.items) × (length allotments.items ≤ 64) }
+    requires seated { AreAllotted (net_of_parts parts) (length allotments.items) allotments.items }
     requires empty { workers.items ≡ [] }
-    requires room { length seats.items ≤ vec_capacity workers }
-    ensures { IsOpened (net_of_parts parts) (length seats.items) result.items }
+    requires room { length allotments.items ≤ vec_capacity workers }
+    ensures { IsOpened (net_of_parts parts) (length allotments.items) result.items }
 {
     let NetParts {
         mut nodes,
         wires: _,
         inboxes: _,
     } = parts;
-    let count = seats.len();
+    let count = allotments.len();
     let size = share(nodes.len(), count);
     let mut first = 0;
     for number in 0..count {
-        let Seat {
+        let Allotment {
             opened,
             wires,
             nodes: mut mine,
             ins,
             outs,
-        } = seats.remove(0);
+        } = allotments.remove(0);
         let owned = size.min(nodes.len());
         move_front(&mut nodes, &mut mine, owned);
         workers.push_reserved(Worker::new(
@@ -74,22 +74,22 @@ fn share_out(
     workers
 }
 
-/// All that an opening takes memory for: the seats, and room for the workers.
+/// All that an opening takes memory for: the allotments, and room for the workers.
 fn room(
     alloc: Global,
     parts: &NetParts,
     workers: usize,
-) -> Result<(Vec<Seat>, Vec<Worker>), AllocError>
+) -> Result<(Vec<Allotment>, Vec<Worker>), AllocError>
     requires sound { IsSound (net_of_parts parts.now) }
     requires few { length parts.now.nodes.items ≤ 64 }
     requires workers { (0 < workers) × (workers ≤ 64) }
-    ensures seated { IfOk result (λ r. AreSeated (net_of_parts parts.now) workers r.0.items) }
+    ensures seated { IfOk result (λ r. AreAllotted (net_of_parts parts.now) workers r.0.items) }
     ensures empty { IfOk result (λ r. r.1.items ≡ []) }
     ensures room { IfOk result (λ r. workers ≤ vec_capacity r.1) }
 {
-    let seats = seats(alloc, parts, workers)?;
+    let allotments = allotments(alloc, parts, workers)?;
     let list = Vec::with_capacity(alloc, workers)?;
-    Ok((seats, list))
+    Ok((allotments, list))
 }
 
 /// Opens a net for so many workers, from 1 to 64. The nodes are shared out in their order, each worker gets as many as
@@ -109,7 +109,7 @@ pub fn open(alloc: Global, net: Net, workers: usize) -> Result<Vec<Worker>, (Ope
     }
     let parts = net.into_parts();
     match room(alloc, &parts, workers) {
-        Ok((seats, list)) => Ok(share_out(alloc, parts, seats, list)),
+        Ok((allotments, list)) => Ok(share_out(alloc, parts, allotments, list)),
         Err(_refused) => Err((OpenFault::OutOfMemory, Net::from_parts(parts))),
     }
 }

@@ -2,11 +2,11 @@
 ghost use Rattle.std.specs.Prelude.{◌≡◌, ◌≢◌, ◌<◌, ◌≤◌, ◌+◌, ◌++◌, ℕ, vec_len, vec_capacity, IfOk, IfSome};
 ghost use Rattle.std.specs.Option.{IsSome};
 ghost use Rattle.tfree.specs.Opened.{worker_of, AreOfOpening};
-ghost use Rattle.tfree.specs.Taken.{IsAdded, HasRoomFor, KeepsRoom, AreTaken, IsRoom};
+ghost use Rattle.tfree.specs.TakenApart.{IsAdded, HasRoomFor, KeepsRoom, AreTaken, IsRoom};
 
 use crate::ends::{InEnd, OutEnd};
 use crate::gathering::place_of;
-use crate::stamp::Told;
+use crate::stamp::StampedNote;
 use crate::worker::{Worker, WorkerParts};
 use std::alloc::{AllocError, Global};
 use std::collections::VecDeque;
@@ -25,7 +25,7 @@ pub(crate) struct Brought {
     /// The ends that put, four for each node.
     pub(crate) outs: Vec<Option<OutEnd>>,
     /// The notes of each worker, the earliest in front.
-    pub(crate) told: Vec<VecDeque<Told>>,
+    pub(crate) told: Vec<VecDeque<StampedNote>>,
 }
 
 impl Brought {

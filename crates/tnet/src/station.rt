@@ -84,7 +84,13 @@ pub fn empty(inboxes: &mut [Inbox; 4], act: Act)
         Act::Ack(link) => {
             let lies = inbox_at(inboxes, link);
             let acknowledged = false;
-            (link, Inbox { acknowledged, ..lies })
+            (
+                link,
+                Inbox {
+                    acknowledged,
+                    ..lies
+                },
+            )
         }
         _ => return,
     };

@@ -66,9 +66,6 @@ impl Wires {
     pub fn far_ends(&self, node: u32) -> [Option<End>; 4]
         ensures { IsRow self.now node result }
     {
-        self.far
-            .get(node as usize)
-            .copied()
-            .unwrap_or([None; 4])
+        self.far.get(node as usize).copied().unwrap_or([None; 4])
     }
 }

@@ -8,10 +8,10 @@ pub mod PartBoxes
 pub mod PartNets
 pub mod PartRounds
 pub mod PartSteps
-pub mod PartCells
+pub mod PartRooms
 pub mod PartActs
 pub mod PartRuns
 pub mod PartLists
 pub mod PartLoops
 pub mod PartTurns
-pub mod PartSeating
+pub mod PartLending

@@ -1,8 +1,8 @@
--- What an act does to a cell: how much it writes down, after which run there is none, and which room for messages stands.
-use Rattle.std.proofs.Common.{◌≡◌, ◌≢◌, ℕ, ◌<◌, ◌≤◌, refl, sym, ap, ◌∙◌, subst, List, length, get_or, set, map, Bool, true, false, Option, Some, None, Err, IfSome, ◌⊎◌, inl, inr, arith}
-use Rattle.std.specs.Prelude.{⊤, is_none, if◌then◌else◌}
+-- What an act does to a node of a round: how much it writes down, after which run there is none, and which room for messages stands.
+use Rattle.std.proofs.Common.{◌≡◌, ◌≢◌, ℕ, ◌≤◌, refl, sym, ap, ◌∙◌, subst, List, length, get_or, set, map, Bool, true, false, Option, Some, None, Err, IfSome, ◌⊎◌, inl, inr, arith}
+use Rattle.std.specs.Prelude.{is_none, if◌then◌else◌}
 use Rattle.std.proofs.lemmas.Bool.{cases_eq}
-use Rattle.std.proofs.lemmas.List.{map-set, set-get_or}
+use Rattle.std.proofs.lemmas.List.{set-get_or}
 use Rattle.std.proofs.lemmas.Option.{same_Some}
 use Rattle.tproc.specs.declared.offer.Offer.{Offer}
 use Rattle.tlink.specs.declared.counts.Arrival.{Arrival}
@@ -21,33 +21,33 @@ use Rattle.tnet.specs.Stations.{box_at, with_carried, asked, input_of, done_of}
 use Rattle.tnet.specs.FarEnds.{far_in_row}
 use Rattle.tnet.specs.Answers.{KeepsInput}
 use Rattle.tnet.proofs.AnswerKinds.{run_emits_none, run_ends, inputs_stand}
-use Rattle.trounds.specs.Parts.{Part, letter_to, letters, part_does}
-use Rattle.trounds.specs.Cells.{link_of, letters_of}
-use Rattle.trounds.proofs.PartCells.{room_else}
+use Rattle.trounds.specs.Parts.{Part, sending_to, sendings, part_does}
+use Rattle.trounds.specs.RoundNodes.{link_of, sendings_of}
+use Rattle.trounds.proofs.PartRooms.{room_else}
 
-one_letter : (p : Packet) (o : Option End) → length (letter_to p o) ≤ 1
-one_letter p None = omega arith
-one_letter p (Some e) = omega arith
+one_sending : (p : Packet) (o : Option End) → length (sending_to p o) ≤ 1
+one_sending p None = omega arith
+one_sending p (Some e) = omega arith
 
-some_letters : (row : List (Option End)) (o : Option (ℕ × Packet)) → length (letters row o) ≤ 1
-some_letters row None = omega arith
-some_letters row (Some (l, p)) = one_letter p (far_in_row row l)
+some_sendings : (row : List (Option End)) (o : Option (ℕ × Packet)) → length (sendings row o) ≤ 1
+some_sendings row None = omega arith
+some_sendings row (Some (l, p)) = one_sending p (far_in_row row l)
 
--- how many letters an act sends
-pub few_letters : (a : Act) (boxes : List Inbox) (e : NodeEvent) (n : ℕ) (far : ℕ → Option End) (row : List (Option End)) (node : NodeState) (d : Done)
-    → asked a boxes ≡ Some e → done_of n far e node ≡ Some d → length (letters row d.packet) ≤ letters_of a
-few_letters Run boxes e n far row node d is did =
+-- how many sendings an act sends
+pub few_sendings : (a : Act) (boxes : List Inbox) (e : NodeEvent) (n : ℕ) (far : ℕ → Option End) (row : List (Option End)) (node : NodeState) (d : Done)
+    → asked a boxes ≡ Some e → done_of n far e node ≡ Some d → length (sendings row d.packet) ≤ sendings_of a
+few_sendings Run boxes e n far row node d is did =
     let q : at_node.Run ≡ e = same_Some _ _ is in
     let h : d.packet ≡ None = rw did at (subst (λ (x : NodeEvent). IfSome (done_of n far x node) (λ (d : Done). d.packet ≡ None)) q (run_emits_none n far node)) in
     rw h (omega arith)
-few_letters (Send l) boxes e n far row node d is did = some_letters row d.packet
-few_letters (Data l) boxes e n far row node d is did = some_letters row d.packet
-few_letters (Take l) boxes e n far row node d is did = some_letters row d.packet
-few_letters (Ack l) boxes e n far row node d is did = some_letters row d.packet
+few_sendings (Send l) boxes e n far row node d is did = some_sendings row d.packet
+few_sendings (Data l) boxes e n far row node d is did = some_sendings row d.packet
+few_sendings (Take l) boxes e n far row node d is did = some_sendings row d.packet
+few_sendings (Ack l) boxes e n far row node d is did = some_sendings row d.packet
 
 -- after a run that told something there is none
 pub run_rests : (p : Part) (a : Act) (boxes : List Inbox) (e : NodeEvent) (n : ℕ) (far : ℕ → Option End) (node : NodeState) (d : Done)
-    → a ≡ Run → asked a boxes ≡ Some e → done_of n far e node ≡ Some d → is_none d.note ≡ false → p.seat.node ≡ node_left_by node (happens e node) → part_does Run p ≡ p
+    → a ≡ Run → asked a boxes ≡ Some e → done_of n far e node ≡ Some d → is_none d.note ≡ false → p.station.node ≡ node_left_by node (happens e node) → part_does Run p ≡ p
 run_rests p a boxes e n far node d run is did told left = by (run_ends n far node)
   where
     e_is : at_node.Run ≡ e
@@ -59,7 +59,7 @@ run_rests p a boxes e n far node d run is did told left = by (run_ends n far nod
         let z : true ≡ false = rw h at told in
         cc
     by (inr q) =
-        let h : happens at_node.Run p.seat.node ≡ Err NotEnabled = ap (happens at_node.Run) (left ∙ ap (λ (x : NodeEvent). node_left_by node (happens x node)) (sym e_is)) ∙ q in
+        let h : happens at_node.Run p.station.node ≡ Err NotEnabled = ap (happens at_node.Run) (left ∙ ap (λ (x : NodeEvent). node_left_by node (happens x node)) (sym e_is)) ∙ q in
         rw h refl
 
 -- an act at this link that keeps its input takes no byte for one

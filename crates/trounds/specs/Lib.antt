@@ -5,4 +5,4 @@ pub mod RoundExamples
 pub mod Reports
 pub mod Replays
 pub mod Parts
-pub mod Cells
+pub mod RoundNodes

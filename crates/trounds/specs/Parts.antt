@@ -1,6 +1,6 @@
--- A node's part of a round, done by itself: it sees only what lay at its own links, and what it sends goes into its mail.
+-- A node's part of a round, done by itself: it sees only what lay at its own links, and what it sends goes into its outbox.
 -- Source: own choice, how rounds are shared out.
-use Rattle.std.specs.Prelude.{◌≡◌, ℕ, zero, suc, Bool, false, not, ◌&&◌, List, [], ◌∷◌, ◌++◌, map, fold, Option, Some, None, Ok, Err, is_some, slice_get, slice_set, slice_index_or, if◌then◌else◌}
+use Rattle.std.specs.Prelude.{◌≡◌, ℕ, zero, suc, Bool, false, not, ◌&&◌, List, [], ◌∷◌, ◌++◌, map, fold, Option, Some, None, is_some, slice_get, slice_set, slice_index_or, if◌then◌else◌}
 use Rattle.std.specs.List.{flat_map}
 use Rattle.tlink.specs.declared.event.Packet.{Packet}
 use Rattle.tlink.specs.declared.event.NodeEvent.{NodeEvent}
@@ -16,7 +16,7 @@ use Rattle.tplan.specs.declared.event.Note.{Note}
 use Rattle.tplan.specs.declared.plan.End.{End}
 use Rattle.tplan.specs.declared.plan.Wire.{Wire}
 use Rattle.tnet.specs.declared.inbox.Inbox.{Inbox}
-use Rattle.trounds.specs.declared.cell.Letter.{Letter}
+use Rattle.trounds.specs.declared.round_node.Sending.{Sending}
 use Rattle.tnet.specs.Wires.{end_at, far_end}
 use Rattle.tnet.specs.Net.{NetState, empty_inbox}
 use Rattle.tnet.specs.declared.station.Done.{Done}
@@ -26,68 +26,68 @@ use Rattle.trounds.specs.Rounds.{is_held, taking}
 use Rattle.tnet.specs.Net.{four_links}
 
 -- a node with its number, what lies at its links, and the far ends of these
-pub record Seat : Type 0 where
+pub record Station : Type 0 where
   pub number : ℕ
   pub node : NodeState
   pub inboxes : List Inbox
   pub far : List (Option End)
 
--- a seat in a round: what it has sent, done and told so far
+-- a station in a round: what it has sent, done and told so far
 pub record Part : Type 0 where
-  pub seat : Seat
-  pub mail : List Letter
+  pub station : Station
+  pub outbox : List Sending
   pub events : List Event
   pub notes : List Note
 
 -- a part before its first event
-abbrev pub fresh : Seat → Part
-fresh s = record { seat = s; mail = []; events = []; notes = [] }
+abbrev pub fresh : Station → Part
+fresh s = record { station = s; outbox = []; events = []; notes = [] }
 
--- a packet lies at a link of a seat
-abbrev pub with_packet : ℕ → Packet → Seat → Seat
+-- a packet lies at a link of a station
+abbrev pub with_packet : ℕ → Packet → Station → Station
 with_packet l p s = record s { inboxes = slice_set s.inboxes l (put_in p (box_at s.inboxes l)) }
 
 -- the far end of a link
-abbrev pub far_at : Seat → ℕ → Option End
+abbrev pub far_at : Station → ℕ → Option End
 far_at s l = far_in_row s.far l
 
--- a packet as a letter, if there is a far end
-abbrev pub letter_to : Packet → Option End → List Letter
-letter_to p None = []
-letter_to p (Some e) = record { to = e; packet = p } ∷ []
+-- a packet as a sending, if there is a far end
+abbrev pub sending_to : Packet → Option End → List Sending
+sending_to p None = []
+sending_to p (Some e) = record { to = e; packet = p } ∷ []
 
--- the letters of what an act emits
-abbrev pub letters : List (Option End) → Option (ℕ × Packet) → List Letter
-letters far None = []
-letters far (Some (l, p)) = letter_to p (far_in_row far l)
+-- the sendings of what an act emits
+abbrev pub sendings : List (Option End) → Option (ℕ × Packet) → List Sending
+sendings far None = []
+sendings far (Some (l, p)) = sending_to p (far_in_row far l)
 
 -- what an event did is written down
 abbrev pub written : Act → Done → Part → Part
 written act d p =
     record {
-      seat = p.seat;
-      mail = p.mail ++ letters p.seat.far d.packet;
-      events = p.events ++ record { node = p.seat.number; act = act } ∷ [];
+      station = p.station;
+      outbox = p.outbox ++ sendings p.station.far d.packet;
+      events = p.events ++ record { node = p.station.number; act = act } ∷ [];
       notes = p.notes ++ listed d.note;
     }
 
--- the seat after an event that left this node
-abbrev pub seat_after : Act → NodeState → Seat → Seat
-seat_after act node s = record { number = s.number; node = node; inboxes = emptied act s.inboxes; far = s.far }
+-- the station after an event that left this node
+abbrev pub station_after : Act → NodeState → Station → Station
+station_after act node s = record { number = s.number; node = node; inboxes = emptied act s.inboxes; far = s.far }
 
 -- the part after an event that did this, and left this node
 abbrev pub part_done : Act → Part → NodeState → Option Done → Part
 part_done act p node None = p
-part_done act p node (Some d) = written act d (record p { seat = seat_after act node p.seat })
+part_done act p node (Some d) = written act d (record p { station = station_after act node p.station })
 
 -- the part after an event of its node, if there is one
 abbrev pub part_asked : Act → Part → Option NodeEvent → Part
 part_asked act p None = p
-part_asked act p (Some e) = part_done act p (node_left_by p.seat.node (happens e p.seat.node)) (done_of p.seat.number (far_at p.seat) e p.seat.node)
+part_asked act p (Some e) = part_done act p (node_left_by p.station.node (happens e p.station.node)) (done_of p.station.number (far_at p.station) e p.station.node)
 
 -- an act is done if it is enabled
 abbrev pub part_does : Act → Part → Part
-part_does act p = part_asked act p (asked act p.seat.inboxes)
+part_does act p = part_asked act p (asked act p.station.inboxes)
 
 -- a packet of this kind lies in an inbox
 abbrev pub lies : Inbox → PacketKind → Bool
@@ -97,7 +97,7 @@ lies i kind.Ack = i.acknowledged
 -- a packet that lay there before the round and is not held is taken
 abbrev pub part_packet : Inbox → List Hold → ℕ → PacketKind → ℕ → Part → Part
 part_packet lay holds r k l p =
-    if lies lay k && not (is_held holds r (end_at p.seat.number l) k) then part_does (taking k l) p else p
+    if lies lay k && not (is_held holds r (end_at p.station.number l) k) then part_does (taking k l) p else p
 
 -- the acknowledge and the byte that lay at a link
 abbrev pub part_arrived : Inbox → List Hold → ℕ → Part → ℕ → Part
@@ -112,7 +112,7 @@ part_runs zero p = p
 part_runs (suc k) p = part_runs k (part_does Run p)
 
 -- the four phases of a round
-abbrev pub after_arrivals : List Hold → ℕ → Seat → Part
+abbrev pub after_arrivals : List Hold → ℕ → Station → Part
 after_arrivals holds r s = fold (part_arrivals s.inboxes holds r) (fresh s) four_links
 
 abbrev pub after_takes : Part → Part
@@ -121,47 +121,47 @@ after_takes p = fold (λ p l. part_does (Take l) p) p four_links
 abbrev pub after_sends : Part → Part
 after_sends p = fold (λ p l. part_does (Send l) p) p four_links
 
-abbrev pub part_of_round : List Hold → ℕ → ℕ → Seat → Part
+abbrev pub part_of_round : List Hold → ℕ → ℕ → Station → Part
 part_of_round holds slice r s = after_sends (part_runs slice (after_takes (after_arrivals holds r s)))
 
--- a letter lies in the inbox of the end that it goes to
-abbrev pub delivered_to : Letter → Option Seat → List Seat → List Seat
-delivered_to x None seats = seats
-delivered_to x (Some s) seats = slice_set seats x.to.node (with_packet x.to.link x.packet s)
+-- a sending lies in the inbox of the end that it goes to
+abbrev pub delivered_to : Sending → Option Station → List Station → List Station
+delivered_to x None stations = stations
+delivered_to x (Some s) stations = slice_set stations x.to.node (with_packet x.to.link x.packet s)
 
-abbrev pub deliver : List Seat → Letter → List Seat
-deliver seats x = delivered_to x (slice_get seats x.to.node) seats
+abbrev pub deliver : List Station → Sending → List Station
+deliver stations x = delivered_to x (slice_get stations x.to.node) stations
 
 -- the parts of a round, each by itself
-abbrev pub parts : List Hold → ℕ → ℕ → List Seat → List Part
-parts holds slice r seats = map (part_of_round holds slice r) seats
+abbrev pub parts : List Hold → ℕ → ℕ → List Station → List Part
+parts holds slice r stations = map (part_of_round holds slice r) stations
 
--- the seats after the parts, with all letters delivered
-abbrev pub seats_after : List Part → List Seat
-seats_after ps = fold deliver (map (λ (p : Part). p.seat) ps) (flat_map (λ (p : Part). p.mail) ps)
+-- the stations after the parts, with all sendings delivered
+abbrev pub stations_after : List Part → List Station
+stations_after ps = fold deliver (map (λ (p : Part). p.station) ps) (flat_map (λ (p : Part). p.outbox) ps)
 
 -- the event that a node is asked for is enabled
 abbrev pub is_asked_enabled : NodeState → Option NodeEvent → Bool
 is_asked_enabled node None = false
 is_asked_enabled node (Some e) = is_node_done (happens e node)
 
--- an act of a seat is enabled
-abbrev pub is_seat_enabled : Seat → Act → Bool
-is_seat_enabled s act = is_asked_enabled s.node (asked act s.inboxes)
+-- an act of a station is enabled
+abbrev pub is_station_enabled : Station → Act → Bool
+is_station_enabled s act = is_asked_enabled s.node (asked act s.inboxes)
 
--- no event of a link of a seat is enabled
-abbrev pub is_link_quiet : Seat → ℕ → Bool
-is_link_quiet s l = not (is_seat_enabled s (Send l)) && not (is_seat_enabled s (Data l)) && not (is_seat_enabled s (Take l)) && not (is_seat_enabled s (Ack l))
+-- no event of a link of a station is enabled
+abbrev pub is_link_quiet : Station → ℕ → Bool
+is_link_quiet s l = not (is_station_enabled s (Send l)) && not (is_station_enabled s (Data l)) && not (is_station_enabled s (Take l)) && not (is_station_enabled s (Ack l))
 
--- no event of a seat is enabled
-abbrev pub is_seat_quiet : Seat → Bool
-is_seat_quiet s = not (is_seat_enabled s Run) && is_link_quiet s 0 && is_link_quiet s 1 && is_link_quiet s 2 && is_link_quiet s 3
+-- no event of a station is enabled
+abbrev pub is_station_quiet : Station → Bool
+is_station_quiet s = not (is_station_enabled s Run) && is_link_quiet s 0 && is_link_quiet s 1 && is_link_quiet s 2 && is_link_quiet s 3
 
--- the net of seats
-abbrev pub net_of : List Wire → List Seat → NetState
-net_of wires seats = record { nodes = map (λ (s : Seat). s.node) seats; wires = wires; inboxes = map (λ (s : Seat). s.inboxes) seats }
+-- the net of stations
+abbrev pub net_of : List Wire → List Station → NetState
+net_of wires stations = record { nodes = map (λ (s : Station). s.node) stations; wires = wires; inboxes = map (λ (s : Station). s.inboxes) stations }
 
--- each seat is at its number, and its far ends are those of the wires
-pub record AreSeated (wires : List Wire) (seats : List Seat) : Type 0 where
-  pub numbered : (n : ℕ) (s : Seat) → slice_get seats n ≡ Some s → s.number ≡ n
-  pub far : (n : ℕ) (s : Seat) → slice_get seats n ≡ Some s → (l : ℕ) → far_at s l ≡ far_end wires (end_at n l)
+-- each station is at its number, and its far ends are those of the wires
+pub record ArePlaced (wires : List Wire) (stations : List Station) : Type 0 where
+  pub numbered : (n : ℕ) (s : Station) → slice_get stations n ≡ Some s → s.number ≡ n
+  pub far : (n : ℕ) (s : Station) → slice_get stations n ≡ Some s → (l : ℕ) → far_at s l ≡ far_end wires (end_at n l)

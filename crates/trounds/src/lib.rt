@@ -4,13 +4,13 @@
 //! every list of holds; `replay` does a list of events, and tells their notes. The headline is in the contracts of both.
 #![tactic(auto)]
 
-mod cell;
 mod holds;
 pub mod laws;
+mod lending;
 pub mod replays;
 pub mod report;
+mod round_node;
 pub mod rounds;
-mod seating;
 mod split;
 
 pub use replays::{ReplayFault, Replayed, replay};

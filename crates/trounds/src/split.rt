@@ -2,10 +2,10 @@
 ghost use Rattle.std.specs.Prelude.{◌≡◌, ◌+◌, ◌*◌, ◌^◌, ◌<◌, All, length};
 ghost use Rattle.std.specs.Thread.{IsSync};
 ghost use Rattle.trounds.specs.Parts.{parts};
-ghost use Rattle.trounds.specs.Cells.{seats_of, parts_of, IsReady};
+ghost use Rattle.trounds.specs.RoundNodes.{stations_of, parts_of, IsReady};
 
-use crate::cell::Cell;
 use crate::report::Gate;
+use crate::round_node::RoundNode;
 use std::thread::{Threads, join_mut};
 use tplan::Hold;
 
@@ -16,11 +16,11 @@ fn do_part<G: Gate>(
     holds: &[Hold],
     slice: u32,
     round: u32,
-    part: &mut [Cell],
+    part: &mut [RoundNode],
 )
     requires entered { G.has_entered _gate.now _worker round }
     requires ready { All (IsReady slice) part.old }
-    ensures { parts_of part.new ≡ parts holds.now slice round (seats_of part.old) }
+    ensures { parts_of part.new ≡ parts holds.now slice round (stations_of part.old) }
 {
     for place in 0..part.len() {
         part[place].part_of_round(holds, slice, round);
@@ -48,12 +48,12 @@ pub fn do_parts<R: Threads + Sync, G: Gate + Sync>(
     round: u32,
     size: usize,
     worker: usize,
-    part: &mut [Cell],
+    part: &mut [RoundNode],
 )
     requires size { 0 < size }
     requires worker { worker + length part.old < 2 ^ 64 }
     requires ready { All (IsReady slice) part.old }
-    ensures { parts_of part.new ≡ parts holds.now slice round (seats_of part.old) }
+    ensures { parts_of part.new ≡ parts holds.now slice round (stations_of part.old) }
 {
     if part.len() <= size {
         gate.enter(worker, round);
@@ -86,9 +86,9 @@ fn do_both<R: Threads + Sync, G: Gate + Sync>(
     round: u32,
     size: usize,
     worker: usize,
-    front: &mut [Cell],
+    front: &mut [RoundNode],
     next: usize,
-    back: &mut [Cell],
+    back: &mut [RoundNode],
 )
     requires size { 0 < size }
     requires worker { worker + length front.old < 2 ^ 64 }
@@ -97,16 +97,16 @@ fn do_both<R: Threads + Sync, G: Gate + Sync>(
     requires more { 0 < length back.old }
     requires front { All (IsReady slice) front.old }
     requires back { All (IsReady slice) back.old }
-    ensures front { parts_of front.new ≡ parts holds.now slice round (seats_of front.old) }
-    ensures back { parts_of back.new ≡ parts holds.now slice round (seats_of back.old) }
+    ensures front { parts_of front.new ≡ parts holds.now slice round (stations_of front.old) }
+    ensures back { parts_of back.new ≡ parts holds.now slice round (stations_of back.old) }
 {
     let mut first = ||
         requires { IsSync R.row × IsSync G.row × (0 < size) × (worker + length front.now < 2 ^ 64) × All (IsReady slice) front.now }
-        ensures { parts_of front.exit.now ≡ parts holds.entry.now slice round (seats_of front.entry.now) }
+        ensures { parts_of front.exit.now ≡ parts holds.entry.now slice round (stations_of front.entry.now) }
     { do_parts(rt, gate, holds, slice, round, size, worker, front) };
     let mut second = ||
         requires { IsSync R.row × IsSync G.row × (0 < size) × (next + length back.now < 2 ^ 64) × All (IsReady slice) back.now }
-        ensures { parts_of back.exit.now ≡ parts holds.entry.now slice round (seats_of back.entry.now) }
+        ensures { parts_of back.exit.now ≡ parts holds.entry.now slice round (stations_of back.entry.now) }
     { do_parts(rt, gate, holds, slice, round, size, next, back) };
     join_mut(rt, &mut first, &mut second);
 }

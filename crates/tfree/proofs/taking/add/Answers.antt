@@ -2,8 +2,8 @@ use Rattle.std.proofs.Common.{List, [], ◌∷◌, ◌++◌, ap, ◌∙◌, refl
 use Rattle.std.proofs.lemmas.List.{map_push}
 use Rattle.std.specs.declared.alloc.Global.{Global}
 use Rattle.std.specs.declared.collections.VecDeque.{VecDeque}
-use Rattle.tfree.specs.declared.stamp.Told.{Told}
-use Rattle.tfree.specs.Taken.{told_lists}
+use Rattle.tfree.specs.declared.stamp.StampedNote.{StampedNote}
+use Rattle.tfree.specs.TakenApart.{told_lists}
 use Rattle.tfree.proofs.taking.add.Goals as goal
 
 pub returns-clause-added : goal.returns-clause-added
@@ -15,6 +15,6 @@ returns-clause-added c =
       nodes = c.move_all.ensures.items;
       ins = c.move_all-2.ensures.items;
       outs = c.move_all-3.ensures.items;
-      told = ap told_lists c.push_reserved.ensures.items ∙ map_push (λ (q : VecDeque Told Global). q.items) old c.from.result ∙ ap (λ (l : List Told). told_lists old ++ l ∷ []) c.from.ensures.0;
+      told = ap told_lists c.push_reserved.ensures.items ∙ map_push (λ (q : VecDeque StampedNote Global). q.items) old c.from.result ∙ ap (λ (l : List StampedNote). told_lists old ++ l ∷ []) c.from.ensures.0;
       left = refl;
     }

@@ -2,7 +2,7 @@ use Rattle.std.proofs.Common.{◌∙◌, sym, arith, subst}
 use Rattle.std.specs.Prelude.{Option, IfSome}
 use Rattle.tfree.specs.Views.{View}
 use Rattle.tfree.specs.Opened.{worker_of}
-use Rattle.tfree.specs.Taken.{HasRoomFor, IsAdded}
+use Rattle.tfree.specs.TakenApart.{HasRoomFor, IsAdded}
 use Rattle.tfree.proofs.TakenParts.{some_of, if_some, from_some, taken_none, taken_more, room_for}
 use Rattle.tfree.proofs.taking.take_all.Goals as goal
 

@@ -1,7 +1,7 @@
 use Rattle.std.proofs.Common.{◌≡◌, ℕ, ◌≤◌}
 use Rattle.std.specs.Prelude.{vec_capacity}
 use Rattle.tfree.specs.Opened.{worker_of}
-use Rattle.tfree.specs.Taken.{AreTaken}
+use Rattle.tfree.specs.TakenApart.{AreTaken}
 use Rattle.tfree.proofs.taking.take_all.Given as goal
 
 abbrev pub invariant-loop-number : goal.invariant-loop-number

@@ -1,6 +1,6 @@
 use Rattle.std.proofs.Common.{◌<◌, arith, length, subst, sym}
 use Rattle.trounds.specs.Parts.{part_of_round}
-use Rattle.trounds.specs.Cells.{part_of, seat_of, IsReady}
+use Rattle.trounds.specs.RoundNodes.{part_of, station_of, IsReady}
 use Rattle.trounds.proofs.PartLists.{same_at, same_after, one_more}
 use Rattle.trounds.proofs.split.do_part.Goals as goal
 
@@ -12,6 +12,6 @@ pub loop-place-preserved : goal.loop-place-preserved
 loop-place-preserved g c =
     let h : c.loop-place.place < length c.loop-place.part = omega arith in
     record {
-      done = one_more part_of seat_of (part_of_round c.args.holds.now c.args.slice c.args.round) c.loop-place.part c.args.part.now c.loop-place.place c.index-part-place.result c.part_of_round.new.self h c.loop-place.auto.part c.loop-place.invariant.done c.loop-place.invariant.left c.part_of_round.ensures;
+      done = one_more part_of station_of (part_of_round c.args.holds.now c.args.slice c.args.round) c.loop-place.part c.args.part.now c.loop-place.place c.index-part-place.result c.part_of_round.new.self h c.loop-place.auto.part c.loop-place.invariant.done c.loop-place.invariant.left c.part_of_round.ensures;
       left = same_after c.loop-place.part c.args.part.now c.loop-place.place c.part_of_round.new.self h c.loop-place.invariant.left;
     }

@@ -1,0 +1,62 @@
+-- What each worker gets when a net is opened.
+-- Source: own choice.
+use Rattle.std.specs.Prelude.{ℕ, suc, ◌≡◌, ◌*◌, ◌≤◌, All, List, [], ◌∷◌, length, map, drop, vec_capacity, Option}
+use Rattle.tnet.specs.Net.{NetState}
+use Rattle.tnet.specs.NetParts.{net_of_parts}
+use Rattle.tlink.specs.Node.{NodeState}
+use Rattle.tfree.specs.declared.allotments.Allotment.{Allotment}
+use Rattle.tfree.specs.Ends.{ins_view, outs_view}
+use Rattle.tfree.specs.Shares.{first_nodes}
+use Rattle.tfree.specs.Views.{InView, OutView, Share, View}
+use Rattle.tfree.specs.Kept.{share_with}
+use Rattle.tfree.specs.Rings.{AreRings, part_of}
+use Rattle.tfree.specs.Opened.{first_of, owned_of, share_of, HasDoneNothing}
+
+module _ (opened : NetState) (count : ℕ) (ins : List (Option InView)) (outs : List (Option OutView)) where
+  -- the first node of worker k, how many it has, and the ends of its rings
+  abbrev pub first : ℕ → ℕ
+  first k = first_of (length opened.nodes) count k
+
+  abbrev pub owned : ℕ → ℕ
+  owned k = owned_of (length opened.nodes) count k
+
+  abbrev pub ins_of : ℕ → List (Option InView)
+  ins_of k = part_of (4 * first k) (4 * owned k) ins
+
+  abbrev pub outs_of : ℕ → List (Option OutView)
+  outs_of k = part_of (4 * first k) (4 * owned k) outs
+
+  abbrev pub share_at : ℕ → Share
+  share_at k = share_with k count (first k) (owned k) opened (ins_of k) (outs_of k)
+
+  -- worker k gets the wires, the ends of its rings, and room for its nodes
+  pub record IsSeat (k : ℕ) (s : Allotment) : Type 0 where
+    pub opened_is : net_of_parts s.opened.value ≡ opened
+    pub wires : s.wires ≡ opened.wires
+    pub empty : s.nodes.items ≡ []
+    pub room : owned k ≤ vec_capacity s.nodes
+    pub ins_are : ins_view s.ins.items ≡ ins_of k
+    pub outs_are : outs_view s.outs.items ≡ outs_of k
+
+  -- workers from k on
+  abbrev pub AreSeats : ℕ → List Allotment → Type 0
+  AreSeats k [] = Unit {0}
+  AreSeats k (s ∷ ss) = IsSeat k s × AreSeats (suc k) ss
+
+-- there is a allotment for each worker, with the rings of the net
+pub record AreAllotted (opened : NetState) (count : ℕ) (allotments : List Allotment) : Type 0 where
+  pub ins : List (Option InView)
+  pub outs : List (Option OutView)
+  pub rings : AreRings opened ins outs
+  pub allotments_are : AreSeats opened count ins outs 0 allotments
+  pub all : length allotments ≡ count
+
+-- the first k workers have theirs, with their nodes; the other nodes and allotments are left
+pub record AreSharedOut (opened : NetState) (count k : ℕ) (nodes : List NodeState) (allotments : List Allotment) (ws : List View) : Type 0 where
+  pub ins : List (Option InView)
+  pub outs : List (Option OutView)
+  pub rings : AreRings opened ins outs
+  pub nodes_left : nodes ≡ drop (first opened count ins outs k) opened.nodes
+  pub allotments_left : AreSeats opened count ins outs k allotments
+  pub shares : map share_of ws ≡ map (share_at opened count ins outs) (first_nodes k)
+  pub fresh : All HasDoneNothing ws
