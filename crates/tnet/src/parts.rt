@@ -62,6 +62,7 @@ const ALL_ACTS: [Act; 17] = [
 ];
 
 /// What lies at the links of a node; nothing where there is no such node.
+#[inline(always)]
 fn inboxes_at(all: &[[Inbox; 4]], node: u8) -> [Inbox; 4]
     ensures { (act : Act) → asked act result ≡ asked act (slice_index_or all.now node []) }
 {
@@ -161,6 +162,9 @@ impl Parts {
     fn receive(&mut self, event: Event)
         ensures { self.new ≡ received event.node event.act self.old }
     {
+        let (Act::Data(_) | Act::Ack(_)) = event.act else {
+            return;
+        };
         let place = usize::from(event.node);
         if place < self.inboxes.len() {
             empty(&mut self.inboxes[place], event.act);

@@ -27,7 +27,7 @@ pub struct Done {
 }
 
 /// What lies at a link.
-#[inline]
+#[inline(always)]
 fn inbox_at(inboxes: &[Inbox; 4], link: u8) -> Inbox
     ensures { result ≡ box_at inboxes.now link }
 {
@@ -38,7 +38,7 @@ fn inbox_at(inboxes: &[Inbox; 4], link: u8) -> Inbox
 }
 
 /// The event that an act asks a node for, if its packet lies there.
-#[inline]
+#[inline(always)]
 pub fn asked(inboxes: &[Inbox; 4], act: Act) -> Option<NodeEvent>
     ensures { result ≡ plain.asked act inboxes.now }
 {
@@ -61,7 +61,7 @@ pub fn asked(inboxes: &[Inbox; 4], act: Act) -> Option<NodeEvent>
 }
 
 /// What lies at a link is set.
-#[inline]
+#[inline(always)]
 fn set_inbox(inboxes: &mut [Inbox; 4], link: usize, inbox: Inbox)
     ensures { inboxes.new ≡ slice_set inboxes.old link inbox }
 {
@@ -71,7 +71,7 @@ fn set_inbox(inboxes: &mut [Inbox; 4], link: usize, inbox: Inbox)
 }
 
 /// The packet that an act takes is gone.
-#[inline]
+#[inline(always)]
 pub fn empty(inboxes: &mut [Inbox; 4], act: Act)
     ensures { inboxes.new ≡ emptied act inboxes.old }
 {
@@ -98,7 +98,7 @@ pub fn empty(inboxes: &mut [Inbox; 4], act: Act)
 }
 
 /// A packet lies at a link.
-#[inline]
+#[inline(always)]
 pub fn put(inboxes: &mut [Inbox; 4], link: u32, packet: Packet)
     ensures { inboxes.new ≡ slice_set inboxes.old link (put_in packet (box_at inboxes.old link)) }
 {
@@ -108,7 +108,7 @@ pub fn put(inboxes: &mut [Inbox; 4], link: u32, packet: Packet)
 }
 
 /// The input that an event takes a byte for.
-#[inline]
+#[inline(always)]
 pub fn input_of(node: &Node, event: NodeEvent) -> Option<Offer>
     ensures { result ≡ plain.input_of event node.now }
 {
@@ -120,7 +120,7 @@ pub fn input_of(node: &Node, event: NodeEvent) -> Option<Offer>
 
 /// What an event told, by the answer to its caller and the node that it left. The bytes of a message go into `room`, which is
 /// used up.
-#[inline]
+#[inline(always)]
 pub fn note_of(
     alloc: Global,
     number: u8,
@@ -173,7 +173,7 @@ fn message_note(
 
 /// Does an event of a node: what it emitted and told, or nothing where it is not enabled. The bytes of a message go into
 /// `room`, which is used up.
-#[inline]
+#[inline(always)]
 pub fn act(
     alloc: Global,
     number: u8,
