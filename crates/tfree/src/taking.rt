@@ -6,7 +6,7 @@ ghost use Rattle.tfree.specs.TakenApart.{IsAdded, HasRoomFor, KeepsRoom, AreTake
 
 use crate::ends::{InEnd, OutEnd};
 use crate::gathering::place_of;
-use crate::stamp::StampedNote;
+use crate::history::Unmerged;
 use crate::worker::{Worker, WorkerParts};
 use std::alloc::{AllocError, Global};
 use std::collections::VecDeque;
@@ -24,8 +24,8 @@ pub(crate) struct Brought {
     pub(crate) ins: Vec<Option<InEnd>>,
     /// The ends that put, four for each node.
     pub(crate) outs: Vec<Option<OutEnd>>,
-    /// The notes of each worker, the earliest in front.
-    pub(crate) told: Vec<VecDeque<StampedNote>>,
+    /// What each worker did and told.
+    pub(crate) unmerged: Vec<Unmerged>,
 }
 
 impl Brought {
@@ -37,7 +37,7 @@ impl Brought {
             nodes: Vec::with_capacity(alloc, MOST_NODES)?,
             ins: Vec::with_capacity(alloc, 4 * MOST_NODES)?,
             outs: Vec::with_capacity(alloc, 4 * MOST_NODES)?,
-            told: Vec::with_capacity(alloc, count)?,
+            unmerged: Vec::with_capacity(alloc, count)?,
         })
     }
 }
@@ -68,7 +68,10 @@ fn add(worker: Worker, all: &mut Brought) -> Wires
     move_all(nodes, &mut all.nodes);
     move_all(ins, &mut all.ins);
     move_all(outs, &mut all.outs);
-    all.told.push_reserved(VecDeque::from(log.told));
+    all.unmerged.push_reserved(Unmerged {
+        events: log.events.into_queue(),
+        told: VecDeque::from(log.told),
+    });
     wires
 }
 

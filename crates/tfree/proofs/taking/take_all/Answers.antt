@@ -11,7 +11,7 @@ take_one-wires-requires-clause-room c =
     let ws = c.args.workers.items in
     let r = c.requires.room in
     if_some (λ (v : View). HasRoomFor v.share.owned c.args.all.now) (worker_of 0 ws)
-    (λ v e. room_for c.args.count ws c.requires.opening c.requires.there 0 c.args.all.now (taken_none ws c.args.count c.args.all.now r) (omega arith) v c.requires.some e r.nodes r.ins r.outs r.told)
+    (λ v e. room_for c.args.count ws c.requires.opening c.requires.there 0 c.args.all.now (taken_none ws c.args.count c.args.all.now r) (omega arith) v c.requires.some e r.nodes r.ins r.outs r.unmerged)
 
 pub loop-number-init : goal.loop-number-init
 loop-number-init c =
@@ -26,7 +26,7 @@ loop-number-init c =
       nodes = omega (arith, r.nodes, k.nodes);
       ins = omega (arith, r.ins, k.ins);
       outs = omega (arith, r.outs, k.outs);
-      told = omega (arith, r.told, k.told);
+      unmerged = omega (arith, r.unmerged, k.unmerged);
     }
 
 pub take_one-requires-clause-room : goal.take_one-requires-clause-room
@@ -36,7 +36,7 @@ take_one-requires-clause-room c =
     let i = c.loop-number.invariant in
     subst (λ (o : Option View). IfSome o (λ (v : View). HasRoomFor v.share.owned c.loop-number.all)) (sym (i.rest n (omega arith)))
     (if_some (λ (v : View). HasRoomFor v.share.owned c.loop-number.all) (worker_of n ws)
-    (λ v e. room_for c.args.count ws c.requires.opening c.requires.there n c.loop-number.all i.taken (omega (arith, c.loop-number-test.true)) v c.loop-number-test.true e i.nodes i.ins i.outs i.told))
+    (λ v e. room_for c.args.count ws c.requires.opening c.requires.there n c.loop-number.all i.taken (omega (arith, c.loop-number-test.true)) v c.loop-number-test.true e i.nodes i.ins i.outs i.unmerged))
 
 pub loop-number-preserved : goal.loop-number-preserved
 loop-number-preserved c =
@@ -52,5 +52,5 @@ loop-number-preserved c =
       nodes = omega (arith, i.nodes, k.nodes);
       ins = omega (arith, i.ins, k.ins);
       outs = omega (arith, i.outs, k.outs);
-      told = omega (arith, i.told, k.told);
+      unmerged = omega (arith, i.unmerged, k.unmerged);
     }

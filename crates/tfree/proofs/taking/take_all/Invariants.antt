@@ -11,5 +11,5 @@ invariant-loop-number l = record {
   nodes : 64 ≤ vec_capacity l.all.nodes;
   ins : 256 ≤ vec_capacity l.all.ins;
   outs : 256 ≤ vec_capacity l.all.outs;
-  told : l.count ≤ vec_capacity l.all.told;
+  unmerged : l.count ≤ vec_capacity l.all.unmerged;
 }
