@@ -24,11 +24,15 @@ returns-in_err-done-clause-phase c =
     let l = c.loop-left in
     let s = c.args.self.now.share in
     let e = c.in_err-done.ensures in (
-      e.same ∙ l.invariant.same, (
-      c.args.slice - l.left,
-      omega arith,
-      subst (Times (c.args.slice - l.left) (Does s (s.first + c.args.i) Run) c.args.self.now.events) (sym e.did) l.invariant.done,
-      inr (λ t d. let no : is_ok c.from_residual.result ≡ false = not_ok c.from_residual.result c.from_residual.ensures.0 in cc)),
+      e.same ∙ l.invariant.same,
+      (
+        c.args.slice - l.left,
+        omega arith,
+        subst (Times (c.args.slice - l.left) (Does s (s.first + c.args.i) Run) c.args.self.now.events) (sym e.did)
+            l.invariant.done,
+        inr (λ t d. let no : is_ok c.from_residual.result ≡ false =
+            not_ok c.from_residual.result c.from_residual.ensures.0 in cc),
+      ),
     )
 
 pub returns-then-done-eq0-clause-phase : goal.returns-then-done-eq0-clause-phase
@@ -38,14 +42,20 @@ returns-then-done-eq0-clause-phase c =
     let e = c.in_ok-done.ensures in
     let none : c.run.result ≡ Ok 0 = c.in_ok-done.was ∙ ap (λ (k : ℕ). Ok k) c.if-done-eq0.true in
     let same : c.run.new.self.events ≡ l.self.events =
-    subst (λ (k : ℕ). Times k (Does l.self.share (l.self.share.first + c.args.i) Run) l.self.events c.run.new.self.events) c.if-done-eq0.true e.did.1 in
-    let rests : IsEnabled l.self.share (l.self.share.first + c.args.i) Run l.self.events → ⊥ = c.run.ensures.rests none in (
-      e.same ∙ l.invariant.same, (
-      c.args.slice - l.left,
-      omega arith,
-      subst (Times (c.args.slice - l.left) (Does s (s.first + c.args.i) Run) c.args.self.now.events) (sym same) l.invariant.done,
-      inr (λ t d. rests (subst (λ (x : Share). IsEnabled x (x.first + c.args.i) Run l.self.events) (sym l.invariant.same)
-      (subst (IsEnabled s (s.first + c.args.i) Run) same d)))),
+    subst (λ (k : ℕ). Times k (Does l.self.share (l.self.share.first + c.args.i) Run) l.self.events
+    c.run.new.self.events) c.if-done-eq0.true e.did.1 in
+    let rests : IsEnabled l.self.share (l.self.share.first + c.args.i) Run l.self.events → ⊥ =
+    c.run.ensures.rests none in (
+      e.same ∙ l.invariant.same,
+      (
+        c.args.slice - l.left,
+        omega arith,
+        subst (Times (c.args.slice - l.left) (Does s (s.first + c.args.i) Run) c.args.self.now.events) (sym same)
+            l.invariant.done,
+        inr (λ t d. rests
+            (subst (λ (x : Share). IsEnabled x (x.first + c.args.i) Run l.self.events) (sym l.invariant.same)
+            (subst (IsEnabled s (s.first + c.args.i) Run) same d))),
+      ),
     )
 
 pub loop-left-preserved : goal.loop-left-preserved
@@ -54,16 +64,27 @@ loop-left-preserved c =
     let s = c.args.self.now.share in
     let e = c.in_ok-done.ensures in
     let more : Times c.in_ok-done.done (Does s (s.first + c.args.i) Run) l.self.events c.run.new.self.events =
-    subst (λ (x : Share). Times c.in_ok-done.done (Does x (x.first + c.args.i) Run) l.self.events c.run.new.self.events) l.invariant.same e.did.1 in
-    let sum : c.args.slice - l.left + c.in_ok-done.done ≡ c.args.slice - (l.left - c.in_ok-done.done) = omega (arith, e.did.0, l.invariant.within) in
+    subst (λ (x : Share). Times c.in_ok-done.done (Does x (x.first + c.args.i) Run) l.self.events c.run.new.self.events)
+    l.invariant.same e.did.1 in
+    let sum : c.args.slice - l.left + c.in_ok-done.done ≡ c.args.slice - (l.left - c.in_ok-done.done) =
+    omega (arith, e.did.0, l.invariant.within) in
     record {
       same = e.same ∙ l.invariant.same;
-      done = subst (λ (k : ℕ). Times k (Does s (s.first + c.args.i) Run) c.args.self.now.events c.run.new.self.events) sum
-          (times_add (Does s (s.first + c.args.i) Run) (c.args.slice - l.left) c.in_ok-done.done c.args.self.now.events l.self.events c.run.new.self.events l.invariant.done more);
+      done = subst (λ (k : ℕ). Times k (Does s (s.first + c.args.i) Run) c.args.self.now.events c.run.new.self.events)
+          sum
+          (times_add (Does s (s.first + c.args.i) Run) (c.args.slice - l.left) c.in_ok-done.done c.args.self.now.events
+          l.self.events c.run.new.self.events l.invariant.done more);
       within = omega (arith, l.invariant.within);
     }
 
 pub returns-clause-phase : goal.returns-clause-phase
 returns-clause-phase c =
-    let l = c.loop-left in
-    (l.invariant.same, (c.args.slice - l.left, omega arith, l.invariant.done, inl (omega (arith, c.loop-left-test.false, l.invariant.within))))
+    let l = c.loop-left in (
+      l.invariant.same,
+      (
+        c.args.slice - l.left,
+        omega arith,
+        l.invariant.done,
+        inl (omega (arith, c.loop-left-test.false, l.invariant.within)),
+      ),
+    )
