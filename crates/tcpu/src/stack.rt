@@ -9,7 +9,7 @@ ghost use Rattle.tcpu.specs.Functions.{function_effect};
 ghost use Rattle.tcpu.specs.Operations.{operation_effect};
 
 use crate::registers::{Next, Registers};
-use crate::words::word_address;
+use crate::word_arithmetic::word_address;
 use tword::Word;
 
 /// `ldc`: pushes the operand

@@ -1,4 +1,5 @@
-//! The program `temu`: it runs nets of T414 transputers from wiring files, replays logs of events, and shows the instructions of
+//! The program `temu`: it runs nets of T414 transputers from wiring files, replays logs of events, and shows the
+//! instructions of
 //! images.
 #![tactic(auto)]
 

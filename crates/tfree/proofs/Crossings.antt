@@ -9,4 +9,13 @@ use Rattle.tfree.proofs.log.Log.TheSendSync as log
 use Rattle.tfree.specs.contracts.worker.Worker as Worker
 
 pub worker_send : IsSend Worker.the_row
-worker_send = search (sendable, crosses, node.the_send, wires.the_send, in_end.the_field_send, out_end.the_field_send, log.the_field_send) depth 40
+worker_send =
+    search (
+      sendable,
+      crosses,
+      node.the_send,
+      wires.the_send,
+      in_end.the_field_send,
+      out_end.the_field_send,
+      log.the_field_send,
+    ) depth 40

@@ -12,7 +12,8 @@ use Rattle.tlink.specs.declared.event.NodeEvent.TheVariants.{Run, Send, Data, Ta
 use Rattle.tlink.specs.declared.event.Mark.TheVariants.{Nothing, Halted}
 use Rattle.tlink.specs.declared.event.StepFault.TheVariants.{NotEnabled, Frozen}
 use Rattle.tlink.specs.Node.{NodeState, counts_at, output_at, input_at, is_wired}
-use Rattle.tlink.specs.Events.{Answer, happens, unless_frozen, emitting, after_send, after_take, take_marked, node_left_by, node_answered}
+use Rattle.tlink.specs.Events.{Answer, happens, unless_frozen, emitting, after_send, after_take, take_marked}
+use Rattle.tlink.specs.Events.{node_left_by, node_answered}
 use Rattle.tplan.specs.declared.plan.End.{End}
 use Rattle.tplan.specs.declared.plan.Wire.{Wire}
 use Rattle.tnet.specs.Wires.{far_ends}
@@ -45,13 +46,15 @@ send_on l (Some o) c n = by (is_wired n l && (c.acked == c.sent) && nat_lt c.sen
     by true p m = inr (p, refl)
     by false p m = tt
 
-marked_on : (l byte : ℕ) (m f : Bool) (o : Offer) (c : Counts) (n : NodeState) → EmitsOn l (take_marked l m f byte o c n)
+marked_on : (l byte : ℕ) (m f : Bool) (o : Offer) (c : Counts) (n : NodeState)
+    → EmitsOn l (take_marked l m f byte o c n)
 marked_on l byte true true o c n = inr (packet.Ack, refl)
 marked_on l byte false false o c n = inr (packet.Ack, refl)
 marked_on l byte true false o c n = tt
 marked_on l byte false true o c n = tt
 
-take_on : (l : ℕ) (a : Option Arrival) (o : Option Offer) (c : Counts) (n : NodeState) → EmitsOn l (after_take l a o c n)
+take_on : (l : ℕ) (a : Option Arrival) (o : Option Offer) (c : Counts) (n : NodeState)
+    → EmitsOn l (after_take l a o c n)
 take_on l None o c n = tt
 take_on l (Some a) None c n = tt
 take_on l (Some a) (Some o) c n = marked_on l a.byte a.last (c.got + 1 == o.length) o c n
@@ -94,28 +97,36 @@ act_emits l (Data k byte last) n h = absurd h
 act_emits l (Ack k) n h = absurd h
 
 -- an event that takes a packet tells nothing
-brings_told : (k : ℕ) (far : ℕ → Option End) (input : Option Offer) (n : NodeState) (a : Answer) → Brings n a → answer_note k far input (node_answered a) (node_left_by n a) ≡ None
+brings_told : (k : ℕ) (far : ℕ → Option End) (input : Option Offer) (n : NodeState) (a : Answer) → Brings n a
+    → answer_note k far input (node_answered a) (node_left_by n a) ≡ None
 brings_told k far input n (Ok (m, e)) h = rw h.1 refl
 brings_told k far input n (Err NotEnabled) h = refl
 brings_told k far input n (Err (Frozen b)) h = absurd h
 
 pub taking_told : (wires : List Wire) (k l : ℕ) (p : Packet) (n : NodeState) → told_at wires k (event_taking l p) n ≡ []
-taking_told wires k l (packet.Data byte last) n = ap listed (brings_told k (far_ends wires k) None n (happens (Data l byte last) n) (data_brings l byte last n))
-taking_told wires k l packet.Ack n = ap listed (brings_told k (far_ends wires k) None n (happens (Ack l) n) (ack_brings l n))
+taking_told wires k l (packet.Data byte last) n =
+    ap listed (brings_told k (far_ends wires k) None n (happens (Data l byte last) n) (data_brings l byte last n))
+taking_told wires k l packet.Ack n =
+    ap listed (brings_told k (far_ends wires k) None n (happens (Ack l) n) (ack_brings l n))
 
 -- what an event was told to tell, by a row of far ends
-pub act_tells : (wires : List Wire) (k : ℕ) (far : List (Option End)) (e : NodeEvent) (n : NodeState) → IsRow wires k far → listed (note_of k (far_in_row far) e n) ≡ told_at wires k e n
+pub act_tells : (wires : List Wire) (k : ℕ) (far : List (Option End)) (e : NodeEvent) (n : NodeState)
+    → IsRow wires k far → listed (note_of k (far_in_row far) e n) ≡ told_at wires k e n
 act_tells wires k far e n h = ap listed (note_by_far k (far_in_row far) (far_ends wires k) e n h)
 
 -- a run tells the same whatever its far ends
-run_alike : (k : ℕ) (f g : ℕ → Option End) (n : NodeState) (a : Answer) → Runs a → answer_note k f None (node_answered a) (node_left_by n a) ≡ answer_note k g None (node_answered a) (node_left_by n a)
+run_alike : (k : ℕ) (f g : ℕ → Option End) (n : NodeState) (a : Answer) → Runs a
+    → answer_note k f None (node_answered a) (node_left_by n a)
+    ≡ answer_note k g None (node_answered a) (node_left_by n a)
 run_alike k f g n (Err NotEnabled) h = refl
 run_alike k f g n (Err (Frozen b)) h = refl
 run_alike k f g n (Ok (m, e)) h = by h.1
   where
-    by : ((e.mark ≡ Nothing) ⊎ ((e.mark ≡ Halted) × (happens Run m ≡ Err NotEnabled))) → mark_note k f None e.mark m ≡ mark_note k g None e.mark m
+    by : ((e.mark ≡ Nothing) ⊎ ((e.mark ≡ Halted) × (happens Run m ≡ Err NotEnabled)))
+        → mark_note k f None e.mark m ≡ mark_note k g None e.mark m
     by (inl q) = rw q refl
     by (inr q) = rw q.0 refl
 
-pub run_told : (wires : List Wire) (k : ℕ) (far : List (Option End)) (n : NodeState) → listed (note_of k (far_in_row far) Run n) ≡ told_at wires k Run n
+pub run_told : (wires : List Wire) (k : ℕ) (far : List (Option End)) (n : NodeState)
+    → listed (note_of k (far_in_row far) Run n) ≡ told_at wires k Run n
 run_told wires k far n = ap listed (run_alike k (far_in_row far) (far_ends wires k) n (happens Run n) (run_runs n))

@@ -26,10 +26,12 @@ pub first_within : (n w k : ℕ) → first_of n w k ≤ n
 first_within n w k = omega arith
 
 -- the portion of a list of which so many were given away
-pub portion : {A B : Type 0} (f : A → B) (xs : List A) (whole : List B) (a b : ℕ) → map f xs ≡ drop a whole → map f (take b xs) ≡ part_of a b whole
+pub portion : {A B : Type 0} (f : A → B) (xs : List A) (whole : List B) (a b : ℕ) → map f xs ≡ drop a whole
+    → map f (take b xs) ≡ part_of a b whole
 portion f xs whole a b h = sym (take-map f b xs) ∙ ap (take b) h
 
-pub rest : {A B : Type 0} (f : A → B) (xs : List A) (whole : List B) (a b : ℕ) → map f xs ≡ drop a whole → map f (drop b xs) ≡ drop (a + b) whole
+pub rest : {A B : Type 0} (f : A → B) (xs : List A) (whole : List B) (a b : ℕ) → map f xs ≡ drop a whole
+    → map f (drop b xs) ≡ drop (a + b) whole
 rest f xs whole a b h = sym (drop-map f b xs) ∙ ap (drop b) h ∙ drop-drop b a whole
 
 -- one element more was moved

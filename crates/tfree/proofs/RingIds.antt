@@ -16,12 +16,18 @@ use Rattle.rtrb.specs.declared.AnyItems.{AnyItems}
 use Rattle.tfree.specs.declared.stamp.Sent.{Sent}
 use Rattle.tfree.specs.Ids.{producer_id, consumer_id}
 
-pub pair_ids : (p : Producer Sent Global AnyItems) (c : Consumer Sent Global AnyItems) → IsPair p c → producer_id p ≡ consumer_id c
+pub pair_ids : (p : Producer Sent Global AnyItems) (c : Consumer Sent Global AnyItems) → IsPair p c
+    → producer_id p ≡ consumer_id c
 pair_ids p c h = let a = h.0 in let b = h.1 in let d = h.2 in let e = h.3 in cc
 
 -- the ends that were set, by what is seen of them
-pub joined_views : (opened : NetState) (upto q p : ℕ) (ins : List (Option InEnd)) (outs : List (Option OutEnd)) (x : InEnd) (y : OutEnd) (v : InView) (o : OutView) → in_view x ≡ v → out_view y ≡ o
-    → AreJoined opened upto (slice_set (ins_view ins) q (Some v)) (slice_set (outs_view outs) p (Some o)) → AreJoined opened upto (ins_view (slice_set ins q (Some x))) (outs_view (slice_set outs p (Some y)))
+pub joined_views : (opened : NetState) (upto q p : ℕ) (ins : List (Option InEnd)) (outs : List (Option OutEnd))
+    (x : InEnd) (y : OutEnd) (v : InView) (o : OutView) → in_view x ≡ v → out_view y ≡ o
+    → AreJoined opened upto (slice_set (ins_view ins) q (Some v)) (slice_set (outs_view outs) p (Some o))
+    → AreJoined opened upto (ins_view (slice_set ins q (Some x))) (outs_view (slice_set outs p (Some y)))
 joined_views opened upto q p ins outs x y v o a b h =
-    subst (λ (xs : List (Option InView)). AreJoined opened upto xs (outs_view (slice_set outs p (Some y)))) (sym (map-set (option_map in_view) ins q (Some x) ∙ ap (λ (w : InView). slice_set (ins_view ins) q (Some w)) a))
-    (subst (λ (ys : List (Option OutView)). AreJoined opened upto (slice_set (ins_view ins) q (Some v)) ys) (sym (map-set (option_map out_view) outs p (Some y) ∙ ap (λ (w : OutView). slice_set (outs_view outs) p (Some w)) b)) h)
+    subst (λ (xs : List (Option InView)). AreJoined opened upto xs (outs_view (slice_set outs p (Some y))))
+    (sym (map-set (option_map in_view) ins q (Some x) ∙ ap (λ (w : InView). slice_set (ins_view ins) q (Some w)) a))
+    (subst (λ (ys : List (Option OutView)). AreJoined opened upto (slice_set (ins_view ins) q (Some v)) ys)
+    (sym (map-set (option_map out_view) outs p (Some y)
+    ∙ ap (λ (w : OutView). slice_set (outs_view outs) p (Some w)) b)) h)

@@ -1,5 +1,6 @@
 -- The shares of all workers of an opening.
-use Rattle.std.proofs.Common.{◌≡◌, ◌≢◌, ℕ, zero, suc, ◌+◌, ◌*◌, ◌-◌, ◌<◌, ◌≤◌, refl, sym, ap, ◌∙◌, arith, List, [], ◌∷◌, ◌++◌, length, map, Option, Some, None}
+use Rattle.std.proofs.Common.{◌≡◌, ◌≢◌, ℕ, zero, suc, ◌+◌, ◌*◌, ◌-◌, ◌<◌, ◌≤◌, refl, sym, ap, ◌∙◌, arith, List, [], ◌∷◌}
+use Rattle.std.proofs.Common.{◌++◌, length, map, Option, Some, None}
 use Rattle.std.specs.Prelude.{All, min, slice_get, slice_index_or, option_map}
 use Rattle.std.proofs.lemmas.List.{length-map, map-append}
 use Rattle.std.proofs.lemmas.List.Elements.{All-nil, All-head, All-tail, All-append, All-cons, All-map, All-weaker}
@@ -20,7 +21,8 @@ use Rattle.tfree.proofs.BroughtLogs.{number_here}
 use Rattle.tfree.proofs.NodeOwners.{first-length, first-below}
 use Rattle.tfree.proofs.Portions.{next_first}
 
-module _ (opened : NetState) (count : ℕ) (ins : List (Option InView)) (outs : List (Option OutView)) (sound : IsSound opened) (few : length opened.nodes ≤ 64) (some : 0 < count) (r : AreRings opened ins outs) where
+module _ (opened : NetState) (count : ℕ) (ins : List (Option InView)) (outs : List (Option OutView))
+    (sound : IsSound opened) (few : length opened.nodes ≤ 64) (some : 0 < count) (r : AreRings opened ins outs) where
   abbrev n : ℕ
   n = length opened.nodes
 
@@ -31,7 +33,8 @@ module _ (opened : NetState) (count : ℕ) (ins : List (Option InView)) (outs : 
   shares = map at (first_nodes count)
 
   pub ends_at : (k : ℕ) → first_of n count k + owned_of n count k ≡ first_of n count (k + 1)
-  ends_at k = let e : first_of n count (k + 1) ≡ first_of n count k + min (share n count) (n - first_of n count k) = next_first n count k in omega (arith, e)
+  ends_at k = let e : first_of n count (k + 1) ≡ first_of n count k + min (share n count) (n - first_of n count k) =
+      next_first n count k in omega (arith, e)
 
   pub within : (k : ℕ) → first_of n count k + owned_of n count k ≤ n
   within k = omega (arith, ends_at k)
@@ -55,7 +58,8 @@ module _ (opened : NetState) (count : ℕ) (ins : List (Option InView)) (outs : 
 
   -- the ends of a ring that two workers share
   one_ring : (e f : End) (k m : ℕ) → far_end opened.wires e ≡ Some f → IsMine (at k) e.node → IsMine (at m) f.node
-      → slice_index_or (at k).ins (link_place (e.node - (at k).first) e.link) None ≡ slice_index_or (at m).outs (link_place (f.node - (at m).first) f.link) None
+      → slice_index_or (at k).ins (link_place (e.node - (at k).first) e.link) None
+      ≡ slice_index_or (at m).outs (link_place (f.node - (at m).first) f.link) None
   one_ring e f k m wire mine yours =
       let ends : IsEnd n e × IsEnd n f = wired_ends n opened.wires e f sound.wires.ends wire in
       let back : far_end opened.wires f ≡ Some e = sound.wires.back e f wire in
@@ -63,11 +67,14 @@ module _ (opened : NetState) (count : ℕ) (ins : List (Option InView)) (outs : 
       let j : ℕ = f.node - first_of n count m in
       let there : first_of n count k + i ≡ e.node = omega (arith, mine.0) in
       let here : first_of n count m + j ≡ f.node = omega (arith, yours.0) in
-      in_id_at k count (first_of n count k) (owned_of n count k) opened ins outs sound few (within k) r i e.link (omega (arith, mine.0, mine.1)) ends.0.1
+      in_id_at k count (first_of n count k) (owned_of n count k) opened ins outs sound few (within k) r i e.link
+      (omega (arith, mine.0, mine.1)) ends.0.1
       ∙ rw there
       (r.pairs (4 * f.node + f.link) (4 * e.node + e.link) (omega (arith, ends.1.0, ends.1.1, r.outs_are))
-      (far_of m count (first_of n count m) (owned_of n count m) opened ins outs sound few (within m) r f.node f.link e ends.1.1 back)
-      ∙ sym (out_id_at m count (first_of n count m) (owned_of n count m) opened ins outs sound few (within m) r j f.link (omega (arith, yours.0, yours.1)) ends.1.1 ∙ rw here refl))
+      (far_of m count (first_of n count m) (owned_of n count m) opened ins outs sound few (within m) r f.node f.link e
+      ends.1.1 back)
+      ∙ sym (out_id_at m count (first_of n count m) (owned_of n count m) opened ins outs sound few (within m) r j f.link
+      (omega (arith, yours.0, yours.1)) ends.1.1 ∙ rw here refl))
 
   pub are_shares : count ≤ 64 → AreShares opened shares
   are_shares many =
@@ -87,14 +94,22 @@ module _ (opened : NetState) (count : ℕ) (ins : List (Option InView)) (outs : 
 
   apart_more : (xs : List ℕ) (x : ℕ) → All (λ y. y < x) xs → AreApart xs → AreApart (xs ++ x ∷ [])
   apart_more [] x b h = (All-nil (λ y. y ≢ x), tt)
-  apart_more (z ∷ zs) x b h =
-      (All-append (λ y. y ≢ z) zs (x ∷ []) h.0 (All-cons (λ y. y ≢ z) x [] (λ e. let c : z < x = All-head (λ y. y < x) z zs b in omega (arith, e, c)) (All-nil (λ y. y ≢ z))), apart_more zs x (All-tail (λ y. y < x) z zs b) h.1)
+  apart_more (z ∷ zs) x b h = (
+    All-append (λ y. y ≢ z) zs (x ∷ []) h.0
+        (All-cons (λ y. y ≢ z) x [] (λ e. let c : z < x = All-head (λ y. y < x) z zs b in omega (arith, e, c))
+        (All-nil (λ y. y ≢ z))),
+    apart_more zs x (All-tail (λ y. y < x) z zs b) h.1,
+  )
 
   apart : (m : ℕ) → AreApart (map number_of (map at (first_nodes m)))
   apart zero = tt
   apart (suc m) =
-      let e : map number_of (map at (first_nodes m ++ m ∷ [])) ≡ map number_of (map at (first_nodes m)) ++ m ∷ [] = ap (map number_of) (map-append at (first_nodes m) (m ∷ [])) ∙ map-append number_of (map at (first_nodes m)) (at m ∷ []) in
-      rw e (apart_more (map number_of (map at (first_nodes m))) m (All-map (λ y. y < m) number_of (map at (first_nodes m)) (All-map (λ s. s.number < m) at (first_nodes m) (first-below m))) (apart m))
+      let e : map number_of (map at (first_nodes m ++ m ∷ [])) ≡ map number_of (map at (first_nodes m)) ++ m ∷ [] =
+      ap (map number_of) (map-append at (first_nodes m) (m ∷ []))
+      ∙ map-append number_of (map at (first_nodes m)) (at m ∷ []) in
+      rw e (apart_more (map number_of (map at (first_nodes m))) m
+      (All-map (λ y. y < m) number_of (map at (first_nodes m))
+      (All-map (λ s. s.number < m) at (first_nodes m) (first-below m))) (apart m))
 
   -- so they are those of one opening
   pub one_opening : count ≤ 64 → AreOf opened shares shares
@@ -102,6 +117,8 @@ module _ (opened : NetState) (count : ℕ) (ins : List (Option InView)) (outs : 
       record {
         opening = are_shares many;
         each = All-map (λ s. slice_get shares s.number ≡ Some s) at (first_nodes count)
-            (All-weaker (λ k. k < count) (λ k. slice_get shares k ≡ Some (at k)) (λ k b. slice_get-map at (first_nodes count) k ∙ ap (option_map at) (number_here count k b)) (first_nodes count) (first-below count));
+            (All-weaker (λ k. k < count) (λ k. slice_get shares k ≡ Some (at k))
+            (λ k b. slice_get-map at (first_nodes count) k ∙ ap (option_map at) (number_here count k b))
+            (first_nodes count) (first-below count));
         apart = apart count;
       }

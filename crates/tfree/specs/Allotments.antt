@@ -52,7 +52,8 @@ pub record AreAllotted (opened : NetState) (count : ℕ) (allotments : List Allo
   pub all : length allotments ≡ count
 
 -- the first k workers have theirs, with their nodes; the other nodes and allotments are left
-pub record AreSharedOut (opened : NetState) (count k : ℕ) (nodes : List NodeState) (allotments : List Allotment) (ws : List View) : Type 0 where
+pub record AreSharedOut (opened : NetState) (count k : ℕ) (nodes : List NodeState) (allotments : List Allotment)
+    (ws : List View) : Type 0 where
   pub ins : List (Option InView)
   pub outs : List (Option OutView)
   pub rings : AreRings opened ins outs

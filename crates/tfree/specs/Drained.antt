@@ -1,6 +1,7 @@
 -- What is left in a ring, as an inbox.
 -- Source: own choice.
-use Rattle.std.specs.Prelude.{ℕ, ◌≡◌, ◌<◌, ◌≤◌, List, [], ◌++◌, All, Option, Some, None, length, option_map, slice_index_or}
+use Rattle.std.specs.Prelude.{ℕ, ◌≡◌, ◌<◌, ◌≤◌, List, [], ◌++◌, All, Option, Some, None, length, option_map}
+use Rattle.std.specs.Prelude.{slice_index_or}
 use Rattle.tplan.specs.declared.plan.End.{End}
 use Rattle.tplan.specs.declared.plan.Wire.{Wire}
 use Rattle.tnet.specs.Wires.{end_at, far_end}
@@ -24,7 +25,8 @@ ArePaired v o = option_map (λ (x : InView). x.id) v ≡ option_map (λ (x : Out
 module _ (wires : List Wire) where
   -- where the end has a wire, the ring that leads there from its far end has its two ends there
   abbrev pub IsJoined : List (Option InView) → List (Option OutView) → End → Type 0
-  IsJoined ins outs e = (f : End) → far_end wires e ≡ Some f → (place_of f < length outs) × ArePaired (in_at ins (place_of e)) (out_at outs (place_of f))
+  IsJoined ins outs e = (f : End) → far_end wires e ≡ Some f → (place_of f < length outs)
+      × ArePaired (in_at ins (place_of e)) (out_at outs (place_of f))
 
   -- what is left at an end
   pub record IsLeftAt (ins : List (Option InView)) (outs : List (Option OutView)) (e : End) (i : Inbox) : Type 0 where
@@ -32,10 +34,12 @@ module _ (wires : List Wire) where
     pub wired : (f : End) → far_end wires e ≡ Some f → WasDrained (in_at ins (place_of e)) (out_at outs (place_of f)) i
 
   -- what is left at the links of the first nodes
-  pub record AreLeftAt (ins : List (Option InView)) (outs : List (Option OutView)) (nodes : ℕ) (inboxes : List (List Inbox)) : Type 0 where
+  pub record AreLeftAt (ins : List (Option InView)) (outs : List (Option OutView)) (nodes : ℕ)
+      (inboxes : List (List Inbox)) : Type 0 where
     pub count : length inboxes ≡ nodes
     pub four : All (λ is. length is ≡ 4) inboxes
-    pub each : (n l : ℕ) → n < nodes → l < 4 → IsLeftAt ins outs (end_at n l) (slice_index_or (slice_index_or inboxes n []) l empty_inbox)
+    pub each : (n l : ℕ) → n < nodes → l < 4
+        → IsLeftAt ins outs (end_at n l) (slice_index_or (slice_index_or inboxes n []) l empty_inbox)
 
 -- from a place on, the ends are as they were
 abbrev pub AreSameFrom : ℕ → List (Option InView) → List (Option InView) → Type 0

@@ -1,6 +1,8 @@
--- What holds of a worker between events: its nodes are where its events leave them, and each ring gave and got what they took and put.
+-- What holds of a worker between events: its nodes are where its events leave them, and each ring gave and got what
+-- they took and put.
 -- Source: own choice.
-use Rattle.std.specs.Prelude.{ℕ, ◌≡◌, ◌+◌, ◌*◌, ◌<◌, ◌≤◌, ◌⊎◌, IsTrue, List, [], ◌∷◌, ◌++◌, All, fold, length, Option, Some, None, is_some, slice_get, slice_set, slice_index_or, map, option_map}
+use Rattle.std.specs.Prelude.{ℕ, ◌≡◌, ◌+◌, ◌*◌, ◌<◌, ◌≤◌, ◌⊎◌, IsTrue, List, [], ◌∷◌, ◌++◌, All, fold, length, Option}
+use Rattle.std.specs.Prelude.{Some, None, is_some, slice_get, slice_set, slice_index_or, map, option_map}
 use Rattle.std.specs.declared.alloc.Global.{Global}
 use Rattle.tlink.specs.declared.event.NodeEvent.{NodeEvent}
 use Rattle.tlink.specs.declared.event.NodeEvent.TheVariants.{Run, Send, Data, Take, Ack}
@@ -54,7 +56,8 @@ kept_rest wires d (Some node) rest = notes_at d.stamp (told_at wires d.node d.ev
 abbrev pub kept_notes : List Wire → List NodeState → List OwnEvent → List StampedNote
 kept_notes wires nodes [] = []
 kept_notes wires nodes (d ∷ ds) =
-    kept_rest wires d (slice_get nodes d.node) (λ node. kept_notes wires (slice_set nodes d.node (node_left_by node (happens d.event node))) ds)
+    kept_rest wires d (slice_get nodes d.node)
+    (λ node. kept_notes wires (slice_set nodes d.node (node_left_by node (happens d.event node))) ds)
 
 -- a node is one of the worker's
 abbrev pub IsMine : Share → ℕ → Type 0
@@ -68,16 +71,20 @@ link_place i l = 4 * i + l
 abbrev pub own_end : Share → ℕ → ℕ → End
 own_end s i l = end_at (s.first + i) l
 
--- each link with a wire has a ring to take from and one to put into, and where both ends of a wire are the worker's, they are ends of one ring
+-- each link with a wire has a ring to take from and one to put into, and where both ends of a wire are the worker's,
+-- they are ends of one ring
 pub record IsShare (s : Share) : Type 0 where
   pub sound : IsSound s.opened
   pub few : length s.opened.nodes ≤ 64
   pub within : s.first + s.owned ≤ length s.opened.nodes
   pub ins_are : length s.ins ≡ 4 * s.owned
   pub outs_are : length s.outs ≡ 4 * s.owned
-  pub wired_in : (i l : ℕ) → i < s.owned → l < 4 → is_some (slice_index_or s.ins (link_place i l) None) ≡ is_some (far_end s.opened.wires (own_end s i l))
-  pub wired_out : (i l : ℕ) → i < s.owned → l < 4 → is_some (slice_index_or s.outs (link_place i l) None) ≡ is_some (far_end s.opened.wires (own_end s i l))
-  pub own : (i l j k : ℕ) → i < s.owned → l < 4 → j < s.owned → k < 4 → far_end s.opened.wires (own_end s i l) ≡ Some (own_end s j k)
+  pub wired_in : (i l : ℕ) → i < s.owned → l < 4
+      → is_some (slice_index_or s.ins (link_place i l) None) ≡ is_some (far_end s.opened.wires (own_end s i l))
+  pub wired_out : (i l : ℕ) → i < s.owned → l < 4
+      → is_some (slice_index_or s.outs (link_place i l) None) ≡ is_some (far_end s.opened.wires (own_end s i l))
+  pub own : (i l j k : ℕ) → i < s.owned → l < 4 → j < s.owned → k < 4
+      → far_end s.opened.wires (own_end s i l) ≡ Some (own_end s j k)
       → slice_index_or s.ins (link_place i l) None ≡ slice_index_or s.outs (link_place j k) None
 
 -- the link of an event, and 0 for a run
@@ -89,7 +96,8 @@ link_of (Take l) = l
 link_of (Ack l) = l
 
 -- what a worker keeps
-pub record Kept (s : Share) (nodes : List NodeState) (clock : ℕ) (ins : List (Option InView)) (outs : List (Option OutView)) (events : List OwnEvent) (told : List StampedNote) : Type 0 where
+pub record Kept (s : Share) (nodes : List NodeState) (clock : ℕ) (ins : List (Option InView))
+    (outs : List (Option OutView)) (events : List OwnEvent) (told : List StampedNote) : Type 0 where
   pub counted : length nodes ≡ s.owned
   -- its events were enabled one after another, and left its nodes as they are
   pub done : AreDone s.opened.nodes events (nodes_after s.opened.nodes events)
@@ -97,8 +105,10 @@ pub record Kept (s : Share) (nodes : List NodeState) (clock : ℕ) (ins : List (
   pub mine : All (λ d. IsMine s d.node) events
   pub small : All (λ d. link_of d.event < 4) events
   -- what was taken from each ring, and what was put into it, is what the events took and put
-  pub got : (i l : ℕ) → i < s.owned → l < 4 → got_of (slice_index_or ins (link_place i l) None) ≡ takes (own_end s i l) events
-  pub put : (i l : ℕ) → i < s.owned → l < 4 → put_of (slice_index_or outs (link_place i l) None) ≡ put_to s.opened (own_end s i l) events
+  pub got : (i l : ℕ) → i < s.owned → l < 4
+      → got_of (slice_index_or ins (link_place i l) None) ≡ takes (own_end s i l) events
+  pub put : (i l : ℕ) → i < s.owned → l < 4
+      → put_of (slice_index_or outs (link_place i l) None) ≡ put_to s.opened (own_end s i l) events
   pub clock_is : clock ≡ last_stamp 0 events
   pub stamped : AreStamped 0 events
   pub unstamped : All (λ d. IsTrue (takes_packet d.event) ⊎ (d.taken ≡ 0)) events
@@ -113,9 +123,20 @@ out_ids xs = map (option_map (λ (v : OutView). v.id)) xs
 
 -- a share by its parts
 abbrev pub share_with : (number count first owned : ℕ) → NetState → List (Option InView) → List (Option OutView) → Share
-share_with number count first owned opened ins outs = record { number = number; count = count; first = first; owned = owned; opened = opened; ins = in_ids ins; outs = out_ids outs }
+share_with number count first owned opened ins outs =
+    record {
+      number = number;
+      count = count;
+      first = first;
+      owned = owned;
+      opened = opened;
+      ins = in_ids ins;
+      outs =
+          out_ids outs;
+    }
 
 -- the place of an end among the worker's links, if it is one of them
 pub record IsPlaceOf (s : Share) (far : Option End) (own : Option ℕ) : Type 0 where
-  pub there : (q : ℕ) → own ≡ Some q → (j : ℕ) × (k : ℕ) × (far ≡ Some (own_end s j k)) × (j < s.owned) × (k < 4) × (q ≡ link_place j k)
+  pub there : (q : ℕ) → own ≡ Some q → (j : ℕ) × (k : ℕ) × (far ≡ Some (own_end s j k)) × (j < s.owned) × (k < 4)
+      × (q ≡ link_place j k)
   pub none : own ≡ None → (f : End) → far ≡ Some f → IsMine s f.node → ⊥

@@ -1,6 +1,7 @@
 -- Workers that come from one opening, and their lists by their numbers.
 -- Source: own choice.
-use Rattle.std.specs.Prelude.{ℕ, ◌≡◌, ◌≢◌, ◌+◌, ◌*◌, ◌-◌, ◌<◌, ◌≤◌, ◌⊎◌, ◌==◌, min, All, List, [], ◌∷◌, length, map, take, drop, Option, Some, None, slice_get, slice_index_or, if◌then◌else◌}
+use Rattle.std.specs.Prelude.{ℕ, ◌≡◌, ◌≢◌, ◌+◌, ◌*◌, ◌-◌, ◌<◌, ◌≤◌, ◌⊎◌, ◌==◌, min, All, List, [], ◌∷◌, length, map}
+use Rattle.std.specs.Prelude.{take, drop, Option, Some, None, slice_get, slice_index_or, if◌then◌else◌}
 use Rattle.tplan.specs.declared.plan.End.{End}
 use Rattle.tnet.specs.Wires.{far_end}
 use Rattle.tnet.specs.Net.{NetState}
@@ -35,8 +36,10 @@ pub record AreShares (opened : NetState) (o : List Share) : Type 0 where
   pub some : 0 < length o
   pub few : length o ≤ 64
   pub few_nodes : length opened.nodes ≤ 64
-  pub rings : (e f : End) (k m : ℕ) (s t : Share) → far_end opened.wires e ≡ Some f → slice_get o k ≡ Some s → IsMine s e.node → slice_get o m ≡ Some t → IsMine t f.node
-      → slice_index_or s.ins (link_place (e.node - s.first) e.link) None ≡ slice_index_or t.outs (link_place (f.node - t.first) f.link) None
+  pub rings : (e f : End) (k m : ℕ) (s t : Share) → far_end opened.wires e ≡ Some f → slice_get o k ≡ Some s
+      → IsMine s e.node → slice_get o m ≡ Some t → IsMine t f.node
+      → slice_index_or s.ins (link_place (e.node - s.first) e.link) None
+      ≡ slice_index_or t.outs (link_place (f.node - t.first) f.link) None
 
 -- no two are equal
 abbrev pub AreApart : List ℕ → Type 0
@@ -89,13 +92,16 @@ events_of (Some v) = v.events
 
 -- its log
 abbrev pub log_at : NetState → ℕ → List OwnEvent → WorkerLog
-log_at opened k events = record { number = k; opened = opened.nodes; left = nodes_after opened.nodes events; events = events }
+log_at opened k events =
+    record { number = k; opened = opened.nodes; left = nodes_after opened.nodes events; events = events }
 
 -- the logs of so many workers, by their numbers
 abbrev pub logs_by : NetState → ℕ → (ℕ → List OwnEvent) → List WorkerLog
 logs_by opened count events = map (λ k. log_at opened k (events k)) (first_nodes count)
 
--- what a gathering of workers gives: the merge of all their lists is a run of the packet machine from the opened net to the net given back, with its notes
+-- what a gathering of workers gives: the merge of all their lists is a run of the packet machine from the opened net to
+-- the net given back, with its notes
 abbrev pub Gathers : List View → List Event → List Note → NetState → Type 0
 Gathers ws events notes net =
-    (opened : NetState) × (o : List Share) × AreOf opened o (map share_of ws) × IsGathered opened (lists_of (logs_by opened (length o) (λ k. events_of (worker_of k ws)))) events notes net
+    (opened : NetState) × (o : List Share) × AreOf opened o (map share_of ws)
+    × IsGathered opened (lists_of (logs_by opened (length o) (λ k. events_of (worker_of k ws)))) events notes net

@@ -1,6 +1,7 @@
 -- What one event of a node does at its rings.
 -- Source: own choice.
-use Rattle.std.specs.Prelude.{ℕ, ◌≡◌, ◌+◌, ◌<◌, Bool, true, false, IsTrue, nat_lt, List, [], ◌∷◌, ◌++◌, length, Option, Some, None, IsSome, option_map, slice_get}
+use Rattle.std.specs.Prelude.{ℕ, ◌≡◌, ◌+◌, ◌<◌, Bool, true, false, IsTrue, nat_lt, List, [], ◌∷◌, ◌++◌, length, Option}
+use Rattle.std.specs.Prelude.{Some, None, IsSome, option_map, slice_get}
 use Rattle.tlink.specs.declared.event.NodeEvent.{NodeEvent}
 use Rattle.tlink.specs.declared.event.NodeEvent.TheVariants.{Run}
 use Rattle.tlink.specs.Node.{NodeState}
@@ -22,18 +23,22 @@ SameRing own v outs = (q : ℕ) → own ≡ Some q → (o : OutView) × (slice_g
 abbrev pub SameRingBack : Option ℕ → OutView → List (Option InView) → Type 0
 SameRingBack own o ins = (q : ℕ) → own ≡ Some q → (v : InView) × (slice_get ins q ≡ Some (Some v)) × (o.id ≡ v.id)
 
--- the packet in front of the ring of a link was taken; with the other end at hand, it is the first of what was put and not yet taken
-pub record Received (n l : ℕ) (own : Option ℕ) (node node' : NodeState) (v v' : LogView) (x x' : Option InView) (outs : List (Option OutView)) : Type 0 where
+-- the packet in front of the ring of a link was taken; with the other end at hand, it is the first of what was put and
+-- not yet taken
+pub record Received (n l : ℕ) (own : Option ℕ) (node node' : NodeState) (v v' : LogView) (x x' : Option InView)
+    (outs : List (Option OutView)) : Type 0 where
   pub packet : Sent
   pub acted : Acted [] n (event_taking l packet.packet) packet.stamp node node' v v'
   pub some : IsSome x
   pub taken : x' ≡ option_map (with_got (packet ∷ [])) x
-  pub front : (q : ℕ) (o : OutView) → own ≡ Some q → slice_get outs q ≡ Some (Some o) → (rest : List Sent) × (got_of x ++ packet ∷ rest ≡ o.put)
+  pub front : (q : ℕ) (o : OutView) → own ≡ Some q → slice_get outs q ≡ Some (Some o) → (rest : List Sent)
+      × (got_of x ++ packet ∷ rest ≡ o.put)
 
 -- no packet is due: with the other end at hand, there is none, or the event of the first is not enabled
 abbrev pub NoneDue : ℕ → Option ℕ → NodeState → Option InView → List (Option OutView) → Type 0
 NoneDue l own node x outs =
-    (q : ℕ) (o : OutView) (p : Sent) (rest : List Sent) → IsSome x → own ≡ Some q → slice_get outs q ≡ Some (Some o) → got_of x ++ p ∷ rest ≡ o.put
+    (q : ℕ) (o : OutView) (p : Sent) (rest : List Sent) → IsSome x → own ≡ Some q → slice_get outs q ≡ Some (Some o)
+    → got_of x ++ p ∷ rest ≡ o.put
     → is_node_enabled (event_taking l p.packet) node ≡ false
 
 -- the event of the packet that is seen in front is enabled, and its stamp would pass 2^64 - 1
@@ -43,22 +48,17 @@ pub record FullAtFront (l : ℕ) (node : NodeState) (clock : ℕ) (seen : List S
   pub enabled : is_node_enabled (event_taking l packet.packet) node ≡ true
   pub full : IsFull clock packet.stamp
 
--- whether a ring has room: with the other end at hand, whether fewer than two lie there; else it has where fewer than two were ever put there; where there is no ring, there is room
+-- whether a ring has room: with the other end at hand, whether fewer than two lie there; else it has where fewer than
+-- two were ever put there; where there is no ring, there is room
 pub record HasRoom (own : Option ℕ) (x : Option OutView) (ins : List (Option InView)) (room : Bool) : Type 0 where
   pub bare : x ≡ None → IsTrue room
   pub certain : length (put_of x) < 2 → IsTrue room
-  pub exact : (q : ℕ) (o : OutView) (w : InView) → x ≡ Some o → own ≡ Some q → slice_get ins q ≡ Some (Some w) → room ≡ nat_lt (length o.put) (length w.got + 2)
+  pub exact : (q : ℕ) (o : OutView) (w : InView) → x ≡ Some o → own ≡ Some q → slice_get ins q ≡ Some (Some w)
+      → room ≡ nat_lt (length o.put) (length w.got + 2)
 
 -- an event that emits was done, where there was room
-pub record Emitted (n : ℕ) (far : List (Option End)) (e : NodeEvent) (own : Option ℕ) (node node' : NodeState) (v v' : LogView) (x x' : Option OutView) (ins : List (Option InView)) : Type 0 where
+pub record Emitted (n : ℕ) (far : List (Option End)) (e : NodeEvent) (own : Option ℕ) (node node' : NodeState)
+    (v v' : LogView) (x x' : Option OutView) (ins : List (Option InView)) : Type 0 where
   pub acted : Acted (listed (note_of n (far_in_row far) e node)) n e 0 node node' v v'
   pub put : x' ≡ option_map (with_put (sent_as (packet_of (happens e node)) v'.clock)) x
   pub room : HasRoom own x ins true
-
--- the far ends of no wires
-abbrev pub unwired : List (Option End)
-unwired = None ∷ None ∷ None ∷ None ∷ []
-
--- a run was done
-abbrev pub Ran : ℕ → NodeState → NodeState → LogView → LogView → Type 0
-Ran n node node' v v' = Acted (listed (note_of n (far_in_row unwired) Run node)) n Run 0 node node' v v'

@@ -15,7 +15,8 @@ WholeTurn s slice es es' = IsTurn s slice es true es'
 -- so many turns; or fewer, and then the beginning of one more
 abbrev pub AreTurns : Share → (turns slice : ℕ) → Phase
 AreTurns s turns slice es true es' = Times turns (WholeTurn s slice) es es'
-AreTurns s turns slice es false es' = (k : ℕ) × (k < turns) × ((mid : List OwnEvent) × Times k (WholeTurn s slice) es mid × IsTurn s slice mid false es')
+AreTurns s turns slice es false es' = (k : ℕ) × (k < turns)
+    × ((mid : List OwnEvent) × Times k (WholeTurn s slice) es mid × IsTurn s slice mid false es')
 
 -- how the turns of a worker ended: all were made, or one stopped for a fault
 abbrev pub Ended : Type 0

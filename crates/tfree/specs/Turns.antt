@@ -1,6 +1,9 @@
--- One turn of a worker, as what it adds to its list of events. What it takes from a ring that another worker fills is free; whether it emits into a ring that another worker empties is free once two packets were put there, those at the opening included. Nothing else is.
+-- One turn of a worker, as what it adds to its list of events. What it takes from a ring that another worker fills is
+-- free; whether it emits into a ring that another worker empties is free once two packets were put there, those at the
+-- opening included. Nothing else is.
 -- Source: own choice.
-use Rattle.std.specs.Prelude.{ℕ, zero, suc, ◌≡◌, ◌+◌, ◌^◌, ◌<◌, ◌≤◌, ◌⊎◌, max, Bool, true, false, IsTrue, List, [], ◌∷◌, ◌++◌, length, Some, slice_get, slice_index_or, take, drop}
+use Rattle.std.specs.Prelude.{ℕ, zero, suc, ◌≡◌, ◌+◌, ◌^◌, ◌<◌, ◌≤◌, ◌⊎◌, max, Bool, true, false, IsTrue, List, [], ◌∷◌}
+use Rattle.std.specs.Prelude.{◌++◌, length, Some, slice_get, slice_index_or, take, drop}
 use Rattle.tlink.specs.declared.event.NodeEvent.{NodeEvent}
 use Rattle.tlink.specs.declared.event.Packet.TheVariants as packet
 use Rattle.tlink.specs.declared.event.NodeEvent.TheVariants.{Run, Send, Data, Take, Ack}
@@ -27,7 +30,8 @@ Step = List OwnEvent → List OwnEvent → Type 0
 module _ (s : Share) where
   -- an event is enabled at a node after these events
   abbrev pub IsEnabled : ℕ → NodeEvent → List OwnEvent → Type 0
-  IsEnabled n e es = (node : NodeState) × (slice_get (nodes_after s.opened.nodes es) n ≡ Some node) × (is_node_enabled e node ≡ true)
+  IsEnabled n e es = (node : NodeState) × (slice_get (nodes_after s.opened.nodes es) n ≡ Some node)
+      × (is_node_enabled e node ≡ true)
 
   -- this event of a node is done
   pub record Does (n : ℕ) (e : NodeEvent) (es es' : List OwnEvent) : Type 0 where
@@ -56,7 +60,8 @@ module _ (s : Share) where
 
   -- a packet of an inner ring is due: it lies in front, and its event is enabled
   abbrev pub IsPacketDue : (n l : ℕ) → List OwnEvent → Type 0
-  IsPacketDue n l es = (f : End) × (p : Sent) × IsInner (end_at n l) f × LiesInFront (end_at n l) f p es × IsEnabled n (event_taking l p.packet) es
+  IsPacketDue n l es = (f : End) × (p : Sent) × IsInner (end_at n l) f × LiesInFront (end_at n l) f p es
+      × IsEnabled n (event_taking l p.packet) es
 
   -- an event of a link that emits is done; into an inner ring only where it has room
   pub record Emits (n l : ℕ) (e : NodeEvent) (es es' : List OwnEvent) : Type 0 where
@@ -65,7 +70,8 @@ module _ (s : Share) where
 
   -- room is certain: fewer than two were ever put there, or the ring is an inner one and fewer than two lie there
   abbrev pub IsRoomCertain : (n l : ℕ) → List OwnEvent → Type 0
-  IsRoomCertain n l es = (length (put_to s.opened (end_at n l) es) < 2) ⊎ ((f : End) × IsInner (end_at n l) f × HasPlace (end_at n l) f es)
+  IsRoomCertain n l es = (length (put_to s.opened (end_at n l) es) < 2)
+      ⊎ ((f : End) × IsInner (end_at n l) f × HasPlace (end_at n l) f es)
 
   -- an event that emits is due
   abbrev pub IsEmissionDue : (n l : ℕ) → NodeEvent → List OwnEvent → Type 0
@@ -78,11 +84,13 @@ Times (suc k) step es es' = (mid : List OwnEvent) × Times k step es mid × step
 
 -- as many steps as are due, up to a number; not more than that number, and more only where a step is free
 abbrev pub UpTo : ℕ → Step → (List OwnEvent → Type 0) → Phase
-UpTo most step IsDue es whole es' = (k : ℕ) × (k ≤ most) × Times k step es es' × ((k ≡ most) ⊎ (IsTrue whole → IsDue es' → ⊥))
+UpTo most step IsDue es whole es' = (k : ℕ) × (k ≤ most) × Times k step es es'
+    × ((k ≡ most) ⊎ (IsTrue whole → IsDue es' → ⊥))
 
 -- a phase, and then another
 abbrev pub Then : Phase → Phase → Phase
-Then first second es whole es' = ((whole ≡ false) × first es false es') ⊎ ((mid : List OwnEvent) × first es true mid × second mid whole es')
+Then first second es whole es' = ((whole ≡ false) × first es false es')
+    ⊎ ((mid : List OwnEvent) × first es true mid × second mid whole es')
 
 -- the four links, one after another
 abbrev pub OverLinks : (ℕ → Phase) → Phase
@@ -118,12 +126,14 @@ module _ (s : Share) where
   -- the first nodes of the worker, each to its end
   abbrev pub FirstNodes : ℕ → ℕ → Step
   FirstNodes slice zero es es' = es' ≡ es
-  FirstNodes slice (suc k) es es' = (mid : List OwnEvent) × FirstNodes slice k es mid × NodeTurn slice (s.first + k) mid true es'
+  FirstNodes slice (suc k) es es' = (mid : List OwnEvent) × FirstNodes slice k es mid
+      × NodeTurn slice (s.first + k) mid true es'
 
   -- a turn: all nodes of the worker; or its beginning, which stops within a node
   abbrev pub IsTurn : ℕ → Phase
   IsTurn slice es true es' = FirstNodes slice s.owned es es'
-  IsTurn slice es false es' = (k : ℕ) × (k < s.owned) × ((mid : List OwnEvent) × FirstNodes slice k es mid × NodeTurn slice (s.first + k) mid false es')
+  IsTurn slice es false es' = (k : ℕ) × (k < s.owned)
+      × ((mid : List OwnEvent) × FirstNodes slice k es mid × NodeTurn slice (s.first + k) mid false es')
 
 -- a worker keeps its share, and a phase leads from its list before to its list after
 abbrev pub Phased : (Share → Phase) → View → Bool → View → Type 0
@@ -143,8 +153,10 @@ IsFull last taken = max last taken + 1 ≡ 2 ^ 64
 
 -- the stamp that an event of the worker's i-th node takes: that of the packet that is seen in front of its ring, or 0
 abbrev pub MayTake : View → ℕ → NodeEvent → ℕ → Type 0
-MayTake v i (Data l byte last) stamp = IsFront (record { packet = packet.Data byte last; stamp = stamp }) (slice_index_or v.seen (link_place i l) [])
-MayTake v i (Ack l) stamp = IsFront (record { packet = packet.Ack; stamp = stamp }) (slice_index_or v.seen (link_place i l) [])
+MayTake v i (Data l byte last) stamp =
+    IsFront (record { packet = packet.Data byte last; stamp = stamp }) (slice_index_or v.seen (link_place i l) [])
+MayTake v i (Ack l) stamp =
+    IsFront (record { packet = packet.Ack; stamp = stamp }) (slice_index_or v.seen (link_place i l) [])
 MayTake v i _ stamp = stamp ≡ 0
 
 -- the clock of a worker is full: an event of one of its nodes is enabled, and has no stamp

@@ -1,5 +1,6 @@
 //! What is left in a ring, once both of its ends are at hand.
-ghost use Rattle.std.specs.Prelude.{◌≡◌, ◌≢◌, ◌+◌, ◌*◌, ◌<◌, ◌≤◌, ℕ, length, vec_len, vec_capacity, Some, option_map, slice_index_or};
+ghost use Rattle.std.specs.Prelude.{◌≡◌, ◌≢◌, ◌+◌, ◌*◌, ◌<◌, ◌≤◌, ℕ, length, vec_len, vec_capacity, Some};
+ghost use Rattle.std.specs.Prelude.{option_map, slice_index_or};
 ghost use Rattle.tnet.specs.Wires.{end_at};
 ghost use Rattle.tnet.specs.Net.{empty_inbox};
 ghost use Rattle.tfree.specs.Ends.{in_view, out_view, ins_view, outs_view};
@@ -78,7 +79,9 @@ fn drain_node(
     requires node { node < 64 }
     requires place { 4 * node + 4 ≤ length ins.old }
     requires joined { (l : ℕ) → l < 4 → IsJoined wires.now (ins_view ins.old) (outs_view outs.old) (end_at node l) }
-    ensures left { (l : ℕ) → l < 4 → IsLeftAt wires.now (ins_view ins.old) (outs_view outs.old) (end_at node l) (slice_index_or result l empty_inbox) }
+    ensures left { (l : ℕ) → l < 4
+        → IsLeftAt wires.now (ins_view ins.old) (outs_view outs.old) (end_at node l)
+        (slice_index_or result l empty_inbox) }
     ensures ins { AreSameFrom (4 * node + 4) (ins_view ins.old) (ins_view ins.new) }
     ensures outs { outs_view outs.new ≡ outs_view outs.old }
 {
@@ -99,7 +102,8 @@ pub(crate) fn drain_all(
 )
     requires few { nodes ≤ 64 }
     requires places { 4 * nodes ≤ length ins.old }
-    requires joined { (n l : ℕ) → n < nodes → l < 4 → IsJoined wires.now (ins_view ins.old) (outs_view outs.old) (end_at n l) }
+    requires joined { (n l : ℕ) → n < nodes → l < 4
+        → IsJoined wires.now (ins_view ins.old) (outs_view outs.old) (end_at n l) }
     requires empty { vec_len inboxes.old ≡ 0 }
     requires room { nodes ≤ vec_capacity inboxes.old }
     ensures { AreLeftAt wires.now (ins_view ins.old) (outs_view outs.old) nodes inboxes.new.items }

@@ -1,12 +1,15 @@
-//! What workers tell each other of how much they did, so that all can stop where none of them finds anything more to do.
+//! What workers tell each other of how much they did, so that all can stop where none of them finds anything more
+//! to do.
 //!
-//! No contract speaks of it: turns that find nothing to do may be left out at any time, and the others come to the same.
+//! No contract speaks of it: turns that find nothing to do may be left out at any time, and the others come to the
+//! same.
 
 use std::alloc::{AllocError, Global};
 use std::sync::atomic::{AtomicU64, Ordering};
 use std::thread::yield_now;
 
-/// How often a worker that rests looks whether another one did something, before it makes its next turn: a second or so.
+/// How often a worker that rests looks whether another one did something, before it makes its next turn: a second
+/// or so.
 pub const PATIENCE: u32 = 4_000_000;
 
 /// No number of turns: the worker does not rest.
@@ -67,7 +70,8 @@ impl Lull {
         }
     }
 
-    /// Whether no worker finds anything to do: each makes no more turns, or found nothing in a turn that began after the
+    /// Whether no worker finds anything to do: each makes no more turns, or found nothing in a turn that began
+    /// after the
     /// last one in which something was done.
     fn is_over(&self, busy: u64) -> bool {
         for slot in self.slots.as_slice() {
@@ -79,7 +83,8 @@ impl Lull {
         true
     }
 
-    /// A worker found nothing to do in a turn that began when all had made so many: it rests until another one has done
+    /// A worker found nothing to do in a turn that began when all had made so many: it rests until another one has
+    /// done
     /// something, or its patience ends. Whether no worker finds anything to do.
     pub fn rest(&self, worker: usize, busy: u64, patience: &mut u32) -> bool {
         let Some(slot) = self.slots.get(worker) else {

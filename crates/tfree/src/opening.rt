@@ -1,5 +1,6 @@
 //! Opening a net for free workers.
-ghost use Rattle.std.specs.Prelude.{◌≡◌, ◌+◌, ◌<◌, ◌≤◌, ◌++◌, [], length, take, drop, vec_len, vec_capacity, IfOk, IfErr, Err};
+ghost use Rattle.std.specs.Prelude.{◌≡◌, ◌+◌, ◌<◌, ◌≤◌, ◌++◌, [], length, take, drop, vec_len, vec_capacity, IfOk};
+ghost use Rattle.std.specs.Prelude.{IfErr, Err};
 ghost use Rattle.tnet.specs.NetParts.{net_of_parts};
 ghost use Rattle.tnet.specs.Sound.{IsSound};
 ghost use Rattle.tfree.specs.Opened.{IsOpened, IsBadCount, ComeFromOneOpen};
@@ -92,7 +93,8 @@ fn room(
     Ok((allotments, list))
 }
 
-/// Opens a net for so many workers, from 1 to 64. The nodes are shared out in their order, each worker gets as many as
+/// Opens a net for so many workers, from 1 to 64. The nodes are shared out in their order, each worker gets as many
+/// as
 /// the others, rounded up, and the last may get fewer. What lay at the ends of wires lies in the rings.
 ///
 /// # Errors

@@ -84,8 +84,10 @@ fn join(
     requires few { length outs.old.items ≤ 256 }
     requires place { place < length outs.old.items }
     requires joined { AreJoined (net_of_parts parts.now) place (ins_view ins.old.items) (outs_view outs.old.items) }
-    ensures joined { OnOk result (AreJoined (net_of_parts parts.now) (place + 1) (ins_view ins.new.items) (outs_view outs.new.items)) }
-    ensures lengths { (length ins.new.items ≡ length ins.old.items) × (length outs.new.items ≡ length outs.old.items) }
+    ensures joined { OnOk result
+        (AreJoined (net_of_parts parts.now) (place + 1) (ins_view ins.new.items) (outs_view outs.new.items)) }
+    ensures lengths { (length ins.new.items ≡ length ins.old.items)
+        × (length outs.new.items ≡ length outs.old.items) }
 {
     let end = End {
         node: (place / 4) as u32,

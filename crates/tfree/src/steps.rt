@@ -1,8 +1,9 @@
 //! One event of a node at its rings: it takes from a ring where a packet is seen, and puts into one where room is
 //! seen.
-ghost use Rattle.std.specs.Prelude.{◌≡◌, ◌+◌, ◌<◌, [], ◌∷◌, ◌++◌, ℕ, length, map, option_map, nat_lt, slice_get, IsTrue, IfSome, IsSome, Ok, Err, true, false, Option, Some, None, MatchResult, List};
+ghost use Rattle.std.specs.Prelude.{◌≡◌, ◌+◌, ◌<◌, [], ◌∷◌, ◌++◌, ℕ, length, map, option_map, nat_lt, slice_get};
+ghost use Rattle.std.specs.Prelude.{IsTrue, IfSome, IsSome, Ok, Err, true, false, Option, Some, None, MatchResult};
+ghost use Rattle.std.specs.Prelude.{List};
 ghost use Rattle.rtrb.specs.Ring.{known_items, known_free};
-ghost use Rattle.tlink.specs.declared.event.NodeEvent.TheVariants.{Run};
 ghost use Rattle.tlink.specs.Events.{happens, is_node_enabled};
 ghost use Rattle.tfree.specs.Lists.{Sent as Packets};
 ghost use Rattle.tfree.specs.declared.log.TurnFault.TheVariants.{ClockFull};
@@ -10,7 +11,8 @@ ghost use Rattle.tfree.specs.Turns.{IsFull};
 ghost use Rattle.tfree.specs.Ends.{in_view, out_view, ins_view, outs_view, seen_of, IsFront, HasFree};
 ghost use Rattle.tfree.specs.Views.{InView, OutView, got_of, put_of, with_put};
 ghost use Rattle.tfree.specs.Logs.{log_view, Whether, sent_as};
-ghost use Rattle.tfree.specs.Steps.{SameRing, SameRingBack, Received, NoneDue, Emitted as Put, Ran, HasRoom, FullAtFront};
+ghost use Rattle.tfree.specs.Steps.{SameRing, SameRingBack, Received, NoneDue, Emitted as Put, HasRoom};
+ghost use Rattle.tfree.specs.Steps.{FullAtFront};
 
 use crate::ends::{InEnd, OutEnd};
 use crate::log::{Log, TurnFault, act, receive};
@@ -26,7 +28,8 @@ fn look(end: &mut InEnd, outs: &mut Vec<Option<OutEnd>>, own: Option<usize>) -> 
     ensures outs { outs_view outs.new.items ≡ outs_view outs.old.items }
     ensures front { IfSome result (λ p. IsFront p (known_items end.new.consumer)) }
     ensures all { (q : ℕ) (o : OutView) → own ≡ Some q → slice_get (outs_view outs.old.items) q ≡ Some (Some o)
-        → ((in_view end.old).got ++ known_items end.new.consumer ≡ o.put) × (result ≡ None → known_items end.new.consumer ≡ []) }
+        → ((in_view end.old).got ++ known_items end.new.consumer ≡ o.put)
+        × (result ≡ None → known_items end.new.consumer ≡ []) }
 {
     let Some(place) = own else {
         return end.look();
@@ -50,9 +53,12 @@ pub fn receive_at(
     requires { (v : InView) → option_map in_view slot.old ≡ Some v → SameRing own v (outs_view outs.old.items) }
     ensures outs { outs_view outs.new.items ≡ outs_view outs.old.items }
     ensures did { Whether result
-        (Received number link own node.old node.new (log_view log.old) (log_view log.new) (option_map in_view slot.old) (option_map in_view slot.new) (outs_view outs.old.items))
-        ((node.new ≡ node.old) × (log_view log.new ≡ log_view log.old) × (option_map in_view slot.new ≡ option_map in_view slot.old)) }
-    ensures rests { result ≡ Ok false → NoneDue link own node.old (option_map in_view slot.old) (outs_view outs.old.items) }
+        (Received number link own node.old node.new (log_view log.old) (log_view log.new)
+        (option_map in_view slot.old) (option_map in_view slot.new) (outs_view outs.old.items))
+        ((node.new ≡ node.old) × (log_view log.new ≡ log_view log.old)
+        × (option_map in_view slot.new ≡ option_map in_view slot.old)) }
+    ensures rests { result ≡ Ok false
+        → NoneDue link own node.old (option_map in_view slot.old) (outs_view outs.old.items) }
     ensures full { result ≡ Err ClockFull → FullAtFront link node.old log.old.clock (seen_of slot.new) }
 {
     match slot {
@@ -99,7 +105,8 @@ fn room_of(out: &mut OutEnd, ins: &mut Vec<Option<InEnd>>, own: Option<usize>) -
 /// A packet goes into a ring, if there is one.
 fn put(slot: &mut Option<OutEnd>, stamp: u64, packet: Option<Packet>)
     requires { HasFree slot.old }
-    ensures { option_map out_view slot.new ≡ option_map (with_put (sent_as packet stamp)) (option_map out_view slot.old) }
+    ensures { option_map out_view slot.new ≡ option_map (with_put (sent_as packet stamp))
+        (option_map out_view slot.old) }
 {
     match slot {
         None => {}
@@ -124,9 +131,12 @@ pub fn emit_at(
     requires { (o : OutView) → option_map out_view slot.old ≡ Some o → SameRingBack own o (ins_view ins.old.items) }
     ensures ins { ins_view ins.new.items ≡ ins_view ins.old.items }
     ensures did { Whether result
-        (Put number far.now event own node.old node.new (log_view log.old) (log_view log.new) (option_map out_view slot.old) (option_map out_view slot.new) (ins_view ins.old.items))
-        ((node.new ≡ node.old) × (log_view log.new ≡ log_view log.old) × (option_map out_view slot.new ≡ option_map out_view slot.old)) }
-    ensures rests { result ≡ Ok false → is_node_enabled event node.old ≡ true → HasRoom own (option_map out_view slot.old) (ins_view ins.old.items) false }
+        (Put number far.now event own node.old node.new (log_view log.old) (log_view log.new)
+        (option_map out_view slot.old) (option_map out_view slot.new) (ins_view ins.old.items))
+        ((node.new ≡ node.old) × (log_view log.new ≡ log_view log.old)
+        × (option_map out_view slot.new ≡ option_map out_view slot.old)) }
+    ensures rests { result ≡ Ok false → is_node_enabled event node.old ≡ true
+        → HasRoom own (option_map out_view slot.old) (ins_view ins.old.items) false }
     ensures full { result ≡ Err ClockFull → (is_node_enabled event node.old ≡ true) × IsFull log.old.clock 0 }
 {
     if !node.enabled(event) {
@@ -137,21 +147,5 @@ pub fn emit_at(
     }
     let (stamp, packet) = act(node, log, number, far, event)?;
     put(slot, stamp, packet);
-    Ok(true)
-}
-
-/// A run is done, if it is enabled.
-#[inline(always)]
-pub fn run_at(node: &mut Node, log: &mut Log, number: u8) -> Result<bool, TurnFault>
-    ensures did { Whether result
-        (Ran number node.old node.new (log_view log.old) (log_view log.new))
-        ((node.new ≡ node.old) × (log_view log.new ≡ log_view log.old)) }
-    ensures rests { result ≡ Ok false → is_node_enabled Run node.old ≡ false }
-    ensures full { result ≡ Err ClockFull → (is_node_enabled Run node.old ≡ true) × IsFull log.old.clock 0 }
-{
-    if !node.enabled(NodeEvent::Run) {
-        return Ok(false);
-    }
-    act(node, log, number, &[None; 4], NodeEvent::Run)?;
     Ok(true)
 }

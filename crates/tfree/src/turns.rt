@@ -1,7 +1,8 @@
 //! A turn of a worker, phase by phase.
 ghost use Rattle.std.specs.Prelude.{◌≡◌, ◌+◌, ◌<◌, ℕ, length, is_ok, IfOk, Err};
 ghost use Rattle.tfree.specs.Logs.{IsActOf};
-ghost use Rattle.tfree.specs.Turns.{Phased, packets_of, emission_of, runs_of, all_packets, all_takes, all_sends, NodeTurn, IsTurn, Extends, AreLeft, IsClockFull};
+ghost use Rattle.tfree.specs.Turns.{Phased, packets_of, emission_of, runs_of, all_packets, all_takes, all_sends};
+ghost use Rattle.tfree.specs.Turns.{NodeTurn, IsTurn, Extends, AreLeft, IsClockFull};
 ghost use Rattle.tfree.specs.declared.log.TurnFault.TheVariants.{ClockFull};
 
 use crate::log::TurnFault;
@@ -89,10 +90,13 @@ impl Worker {
         ensures phase { Phased (λ s. runs_of s slice (s.first + i)) self.old (is_ok result) self.new }
         ensures full { result ≡ Err ClockFull → IsClockFull self.new }
     {
-        for _done in 0..slice {
-            if !self.run(i)? {
+        let mut left = slice;
+        while left > 0 {
+            let done = self.run(i, left)?;
+            if done == 0 {
                 return Ok(());
             }
+            left -= done;
         }
         Ok(())
     }
@@ -120,11 +124,13 @@ impl Worker {
         Ok(())
     }
 
-    /// A turn over all its nodes: of each, at most two packets of each link, then the bytes that wait, then runs, at most
+    /// A turn over all its nodes: of each, at most two packets of each link, then the bytes that wait, then runs,
+    /// at most
     /// `slice`, then the next bytes of its outputs. It waits for nobody.
     ///
     /// # Errors
-    /// `OutOfMemory`, or `ClockFull` where the stamp of the next event would not fit. The events that were done stand.
+    /// `OutOfMemory`, or `ClockFull` where the stamp of the next event would not fit. The events that were done
+    /// stand.
     pub fn turn(&mut self, slice: u32) -> Result<Turned, TurnFault>
         ensures same { self.new.share ≡ self.old.share }
         ensures turn { IsTurn self.old.share slice self.old.events (is_ok result) self.new.events }

@@ -2,7 +2,9 @@
 ghost use Rattle.std.specs.Prelude.{◌≡◌, ◌||◌, [], length, position, MatchOption};
 ghost use Rattle.std.specs.List.{list_any};
 ghost use Rattle.tnet.specs.Wires.{same_end, joins};
-ghost use Rattle.tnet.specs.Building.{is_too_large, too_many, is_bad_size, is_bad_timeslice, is_bad_end, has_bad_end, end_twice_from, is_bad_segment, bad_segment, first_fault_from, fault_of, IsWellFormed};
+ghost use Rattle.tnet.specs.Building.{is_too_large, too_many, is_bad_size, is_bad_timeslice, is_bad_end};
+ghost use Rattle.tnet.specs.Building.{has_bad_end, end_twice_from, is_bad_segment, bad_segment, first_fault_from};
+ghost use Rattle.tnet.specs.Building.{fault_of, IsWellFormed};
 
 use tplan::{BuildFault, End, Image, NodePlan, Plan, Segment, Wire};
 

@@ -11,7 +11,8 @@ use Rattle.ttext.specs.Replays.{as_replayed, replayed_with, replay_of}
 use Rattle.trounds.specs.Replays.{replayed}
 
 -- what is due to one is due to the other
-pub handed_on : {A B : Type 0} (a : Result A Fault) (b : Result B Fault) → ((f : Fault) → a ≡ Err f → b ≡ Err f) → (f : Fault) → IsFaultOf a f → IsDue b f
+pub handed_on : {A B : Type 0} (a : Result A Fault) (b : Result B Fault) → ((f : Fault) → a ≡ Err f → b ≡ Err f)
+    → (f : Fault) → IsFaultOf a f → IsDue b f
 handed_on a b to fault.Memory h = tt
 handed_on a b to (fault.Output w) h = absurd h
 handed_on a b to (fault.File n) h = to (fault.File n) h
@@ -31,16 +32,21 @@ module _ (w : Wiring) (files : List (List ℕ)) where
   pub run_opened : (o : Options) (n : NetState) → opened_of w files ≡ Ok n → run_of w files o ≡ rounds_of w.holds o n
   run_opened o n e = ap (rounds_with w o) e
 
-  pub run_refused : (o : Options) (n : NetState) → opened_of w files ≡ Ok n → (f : Fault) → IsFaultOf (rounds_of w.holds o n) f → IsDue (run_of w files o) f
+  pub run_refused : (o : Options) (n : NetState) → opened_of w files ≡ Ok n → (f : Fault)
+      → IsFaultOf (rounds_of w.holds o n) f → IsDue (run_of w files o) f
   run_refused o n e = handed_on (rounds_of w.holds o n) (run_of w files o) (λ f h. run_opened o n e ∙ h)
 
   -- on a net that cannot be opened no event is done
-  pub replay_unopened : (events : List Event) (f : Fault) → IsFaultOf (opened_of w files) f → IsDue (replay_of w files events) f
+  pub replay_unopened : (events : List Event) (f : Fault) → IsFaultOf (opened_of w files) f
+      → IsDue (replay_of w files events) f
   replay_unopened events = handed_on (opened_of w files) (replay_of w files events) (λ f e. ap (replayed_with events) e)
 
   -- the replay on a net that is opened
-  pub replay_opened : (events : List Event) (n : NetState) → opened_of w files ≡ Ok n → replay_of w files events ≡ as_replayed (replayed events n)
+  pub replay_opened : (events : List Event) (n : NetState) → opened_of w files ≡ Ok n
+      → replay_of w files events ≡ as_replayed (replayed events n)
   replay_opened events n e = ap (replayed_with events) e
 
-  pub replay_refused : (events : List Event) (n : NetState) → opened_of w files ≡ Ok n → (f : Fault) → IsFaultOf (as_replayed (replayed events n)) f → IsDue (replay_of w files events) f
-  replay_refused events n e = handed_on (as_replayed (replayed events n)) (replay_of w files events) (λ f h. replay_opened events n e ∙ h)
+  pub replay_refused : (events : List Event) (n : NetState) → opened_of w files ≡ Ok n → (f : Fault)
+      → IsFaultOf (as_replayed (replayed events n)) f → IsDue (replay_of w files events) f
+  replay_refused events n e =
+      handed_on (as_replayed (replayed events n)) (replay_of w files events) (λ f h. replay_opened events n e ∙ h)

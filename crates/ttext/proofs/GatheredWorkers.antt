@@ -1,4 +1,5 @@
--- All workers of an opening are gathered: none is missing, and what holds of the net of each holds of the net that was opened.
+-- All workers of an opening are gathered: none is missing, and what holds of the net of each holds of the net that was
+-- opened.
 use Rattle.std.proofs.Common.{◌≡◌, ℕ, ◌<◌, refl, sym, subst, arith, List, [], ◌∷◌, map, Bool, true, false, IsTrue}
 use Rattle.std.specs.Prelude.{All, None, Option, ◌↔◌}
 use Rattle.std.specs.Option.{IsSome}
@@ -18,14 +19,19 @@ is_there {X} o e h = let none : IsSome {T = X} None = subst IsSome e h in let wr
 none_is_missing : (net : NetState) (ws : List View) (k : ℕ) → AreAllWorkers net ws → IsMissing ws k → ⊥
 none_is_missing net [] k all m = absurd (omega (arith, all.complete.some))
 none_is_missing net (w ∷ ws) k all m =
-    let there : (j : ℕ) → j < w.share.count → IsSome (worker_of j (w ∷ ws)) = All-head (λ (v : View). (j : ℕ) → j < v.share.count → IsSome (worker_of j (w ∷ ws))) w ws all.complete.there in
+    let there : (j : ℕ) → j < w.share.count → IsSome (worker_of j (w ∷ ws)) =
+    All-head (λ (v : View). (j : ℕ) → j < v.share.count → IsSome (worker_of j (w ∷ ws))) w ws all.complete.there in
     is_there (worker_of k (w ∷ ws)) m.not_there (there k (All-head (λ (v : View). k < v.share.count) w ws m.of_opening))
 
-of_the_net : (net : NetState) (ws : List View) (P : NetState → Type 0) → AreAllWorkers net ws → All (λ (w : View). P w.share.opened) ws → P net
+of_the_net : (net : NetState) (ws : List View) (P : NetState → Type 0) → AreAllWorkers net ws
+    → All (λ (w : View). P w.share.opened) ws → P net
 of_the_net net [] P all h = absurd (omega (arith, all.complete.some))
-of_the_net net (w ∷ ws) P all h = subst P (All-head (λ (v : View). v.share.opened ≡ net) w ws all.from) (All-head (λ (v : View). P v.share.opened) w ws h)
+of_the_net net (w ∷ ws) P all h =
+    subst P (All-head (λ (v : View). v.share.opened ≡ net) w ws all.from)
+    (All-head (λ (v : View). P v.share.opened) w ws h)
 
-module _ (stay : OpenedWorkersStay) (net : NetState) (count : ℕ) (fresh turned : List View) (opened : IsOpened net count fresh) (same : map share_of turned ≡ map share_of fresh) where
+module _ (stay : OpenedWorkersStay) (net : NetState) (count : ℕ) (fresh turned : List View)
+    (opened : IsOpened net count fresh) (same : map share_of turned ≡ map share_of fresh) where
   abbrev all : AreAllWorkers net turned
   all = stay net count fresh turned opened same
 

@@ -1,5 +1,6 @@
 -- Files that are read as images one after another, and the plan of them.
-use Rattle.std.proofs.Common.{◌≡◌, ◌<◌, ℕ, suc, refl, sym, ap, ◌∙◌, List, [], ◌∷◌, ◌++◌, length, length-append, drop, get_or, Result, Ok, Err, append_assoc, append-nil, add-one, zip, map, arith, ◌+◌, ◌≤◌}
+use Rattle.std.proofs.Common.{◌≡◌, ◌<◌, ℕ, suc, refl, sym, ap, ◌∙◌, List, [], ◌∷◌, ◌++◌, length, length-append, drop}
+use Rattle.std.proofs.Common.{get_or, Result, Ok, Err, append_assoc, append-nil, add-one, zip, map, arith, ◌+◌, ◌≤◌}
 use Rattle.std.proofs.lemmas.List.{at_drop_more, at_drop_all, map-append}
 use Rattle.tplan.specs.declared.plan.Image.{Image}
 use Rattle.tplan.specs.declared.plan.NodePlan.{NodePlan}
@@ -22,37 +23,48 @@ ahead-none (Ok more) = refl
 ahead-none (Err f) = refl
 
 -- one more is read
-pub ahead-more : (images : List Image) (image : Image) (rest : Result (List Image) Fault) → ahead images (onto_images (Ok image) rest) ≡ ahead (images ++ image ∷ []) rest
+pub ahead-more : (images : List Image) (image : Image) (rest : Result (List Image) Fault)
+    → ahead images (onto_images (Ok image) rest) ≡ ahead (images ++ image ∷ []) rest
 ahead-more images image (Ok more) = ap (λ (xs : List Image). Ok xs) (sym (append_assoc images (image ∷ []) more))
 ahead-more images image (Err f) = refl
 
 -- what the files from a place on stand for
 step : (files : List (List ℕ)) (place : ℕ) (images : List Image) (d : List ℕ) → place < length files
-    → ahead images (images_from place (drop place files)) ≡ ahead images (onto_images (as_image place (image_of (get_or files place d))) (images_from (suc place) (drop (place + 1) files)))
+    → ahead images (images_from place (drop place files))
+    ≡ ahead images
+    (onto_images (as_image place (image_of (get_or files place d)))
+    (images_from (suc place) (drop (place + 1) files)))
 step files place images d l = at_drop_more (λ (fs : List (List ℕ)). ahead images (images_from place fs)) files place d l
 
 -- the next file is an image
-pub next_image : (files : List (List ℕ)) (place : ℕ) (images : List Image) (image : Image) (d : List ℕ) → place < length files
+pub next_image : (files : List (List ℕ)) (place : ℕ) (images : List Image) (image : Image) (d : List ℕ)
+    → place < length files
     → images_of files ≡ ahead images (images_from place (drop place files)) → image_of (get_or files place d) ≡ Ok image
     → images_of files ≡ ahead (images ++ image ∷ []) (images_from (place + 1) (drop (place + 1) files))
 next_image files place images image d l so_far read =
     so_far ∙ step files place images d l
-    ∙ ap (λ (r : Result Image ImageFault). ahead images (onto_images (as_image place r) (images_from (suc place) (drop (place + 1) files)))) read
+    ∙ ap (λ (r : Result Image ImageFault). ahead images
+    (onto_images (as_image place r) (images_from (suc place) (drop (place + 1) files)))) read
     ∙ ahead-more images image (images_from (suc place) (drop (place + 1) files))
     ∙ ap (λ (n : ℕ). ahead (images ++ image ∷ []) (images_from n (drop (place + 1) files))) (sym (add-one place))
 
 -- the next file is none
-pub next_fault : (files : List (List ℕ)) (place : ℕ) (images : List Image) (f : Fault) (d : List ℕ) → place < length files
-    → images_of files ≡ ahead images (images_from place (drop place files)) → IsFaultOf (as_image place (image_of (get_or files place d))) f
+pub next_fault : (files : List (List ℕ)) (place : ℕ) (images : List Image) (f : Fault) (d : List ℕ)
+    → place < length files
+    → images_of files ≡ ahead images (images_from place (drop place files))
+    → IsFaultOf (as_image place (image_of (get_or files place d))) f
     → IsFaultOf (images_of files) f
 next_fault files place images f d l so_far due = due_here f (image_of (get_or files place d)) refl due
   where
-    behind : (f : Fault) (r : Result Image ImageFault) → image_of (get_or files place d) ≡ r → as_image place r ≡ Err f → images_of files ≡ Err f
+    behind : (f : Fault) (r : Result Image ImageFault) → image_of (get_or files place d) ≡ r → as_image place r ≡ Err f
+        → images_of files ≡ Err f
     behind f r e h =
         so_far ∙ step files place images d l
-        ∙ ap (λ (x : Result Image Fault). ahead images (onto_images x (images_from (suc place) (drop (place + 1) files)))) (ap (as_image place) e ∙ h)
+        ∙ ap (λ (x : Result Image Fault). ahead images
+        (onto_images x (images_from (suc place) (drop (place + 1) files)))) (ap (as_image place) e ∙ h)
 
-    due_here : (f : Fault) (r : Result Image ImageFault) → image_of (get_or files place d) ≡ r → IsFaultOf (as_image place (image_of (get_or files place d))) f → IsFaultOf (images_of files) f
+    due_here : (f : Fault) (r : Result Image ImageFault) → image_of (get_or files place d) ≡ r
+        → IsFaultOf (as_image place (image_of (get_or files place d))) f → IsFaultOf (images_of files) f
     due_here fault.Memory r e h = tt
     due_here (fault.File n) r e h = behind (fault.File n) r e (ap (as_image place) (sym e) ∙ h)
     due_here (fault.Wiring w) r e h = behind (fault.Wiring w) r e (ap (as_image place) (sym e) ∙ h)
@@ -64,9 +76,11 @@ next_fault files place images f d l so_far due = due_here f (image_of (get_or fi
     due_here (fault.Output w) r e h = h
 
 -- no file is left
-pub all_images : (files : List (List ℕ)) (place : ℕ) (images : List Image) → length files ≤ place → images_of files ≡ ahead images (images_from place (drop place files)) → images_of files ≡ Ok images
+pub all_images : (files : List (List ℕ)) (place : ℕ) (images : List Image) → length files ≤ place
+    → images_of files ≡ ahead images (images_from place (drop place files)) → images_of files ≡ Ok images
 all_images files place images l so_far =
-    so_far ∙ at_drop_all (λ (fs : List (List ℕ)). ahead images (images_from place fs)) files place l ∙ ap (λ (xs : List Image). Ok xs) (append-nil images)
+    so_far ∙ at_drop_all (λ (fs : List (List ℕ)). ahead images (images_from place fs)) files place l
+    ∙ ap (λ (xs : List Image). Ok xs) (append-nil images)
 
 -- no image has a node
 pub zip-none : {A B : Type 0} (ns : List A) → zip {X = B} ns [] ≡ []
@@ -74,31 +88,46 @@ zip-none [] = refl
 zip-none (n ∷ ns) = refl
 
 -- one more image has its node
-pub zip-more : {A B : Type 0} (ns : List A) (ys : List B) (y : B) (n : A) → length ys < length ns → zip ns (ys ++ y ∷ []) ≡ zip ns ys ++ (get_or ns (length ys) n, y) ∷ []
+pub zip-more : {A B : Type 0} (ns : List A) (ys : List B) (y : B) (n : A) → length ys < length ns
+    → zip ns (ys ++ y ∷ []) ≡ zip ns ys ++ (get_or ns (length ys) n, y) ∷ []
 zip-more [] ys y n l = absurd (omega (arith, l))
 zip-more {A} {B} (a ∷ ns) [] y n l = ap (λ (rest : List (A × B)). (a, y) ∷ rest) (zip-none ns)
-zip-more {A} {B} (a ∷ ns) (b ∷ ys) y n l = ap (λ (rest : List (A × B)). (a, b) ∷ rest) (zip-more ns ys y n (omega (arith, l)))
+zip-more {A} {B} (a ∷ ns) (b ∷ ys) y n l =
+    ap (λ (rest : List (A × B)). (a, b) ∷ rest) (zip-more ns ys y n (omega (arith, l)))
 
 -- one more node is planned
-pub plans-more : (ns : List WiringNode) (ys : List Image) (y : Image) (n : WiringNode) (d : WiringNode) → length ys < length ns → n ≡ get_or ns (length ys) d
+pub plans-more : (ns : List WiringNode) (ys : List Image) (y : Image) (n : WiringNode) (d : WiringNode)
+    → length ys < length ns → n ≡ get_or ns (length ys) d
     → map node_of (zip ns (ys ++ y ∷ [])) ≡ map node_of (zip ns ys) ++ node_of (n, y) ∷ []
 plans-more ns ys y n d l e =
-    ap (map node_of) (zip-more ns ys y d l) ∙ map-append node_of (zip ns ys) _ ∙ ap (λ (m : WiringNode). map node_of (zip ns ys) ++ node_of (m, y) ∷ []) (sym e)
+    ap (map node_of) (zip-more ns ys y d l) ∙ map-append node_of (zip ns ys) _
+    ∙ ap (λ (m : WiringNode). map node_of (zip ns ys) ++ node_of (m, y) ∷ []) (sym e)
 
 -- the nodes so far, with their images
-pub record ArePlannedSoFar (nodes : List WiringNode) (files : List (List ℕ)) (place : ℕ) (plans : List NodePlan) : Type 0 where
+pub record ArePlannedSoFar (nodes : List WiringNode) (files : List (List ℕ)) (place : ℕ) (plans : List NodePlan) : Type
+    0 where
   pub images : List Image
   pub ahead_of : images_of files ≡ ahead images (images_from place (drop place files))
   pub planned : plans ≡ map node_of (zip nodes images)
   pub as_many : length images ≡ place
 
 -- none is planned
-pub none_planned : (nodes : List WiringNode) (files : List (List ℕ)) (plans : List NodePlan) → plans ≡ [] → ArePlannedSoFar nodes files 0 plans
-none_planned nodes files plans e = record { images = []; ahead_of = ahead-none (images_of files); planned = e ∙ ap (map node_of) (sym (zip-none nodes)); as_many = refl }
+pub none_planned : (nodes : List WiringNode) (files : List (List ℕ)) (plans : List NodePlan) → plans ≡ []
+    → ArePlannedSoFar nodes files 0 plans
+none_planned nodes files plans e =
+    record {
+      images = [];
+      ahead_of = ahead-none (images_of files);
+      planned = e
+          ∙ ap (map node_of) (sym (zip-none nodes));
+      as_many = refl;
+    }
 
 -- one more is planned
-pub one_planned : (nodes : List WiringNode) (files : List (List ℕ)) (place : ℕ) (plans more : List NodePlan) (image : Image) (n : WiringNode) (d : List ℕ) → ArePlannedSoFar nodes files place plans
-    → length files ≡ length nodes → place < length files → image_of (get_or files place d) ≡ Ok image → more ≡ plans ++ node_of (get_or nodes place n, image) ∷ []
+pub one_planned : (nodes : List WiringNode) (files : List (List ℕ)) (place : ℕ) (plans more : List NodePlan)
+    (image : Image) (n : WiringNode) (d : List ℕ) → ArePlannedSoFar nodes files place plans
+    → length files ≡ length nodes → place < length files → image_of (get_or files place d) ≡ Ok image
+    → more ≡ plans ++ node_of (get_or nodes place n, image) ∷ []
     → ArePlannedSoFar nodes files (place + 1) more
 one_planned nodes files place plans more image n d h e l read pushed =
     record {
@@ -106,15 +135,19 @@ one_planned nodes files place plans more image n d h e l read pushed =
       ahead_of = next_image files place h.images image d l h.ahead_of read;
       planned =
           pushed ∙ ap (λ (ps : List NodePlan). ps ++ node_of (get_or nodes place n, image) ∷ []) h.planned
-          ∙ sym (plans-more nodes h.images image (get_or nodes place n) n (omega (arith, l, e, h.as_many)) (ap (λ (k : ℕ). get_or nodes k n) (sym h.as_many)));
+          ∙ sym (plans-more nodes h.images image (get_or nodes place n) n (omega (arith, l, e, h.as_many))
+          (ap (λ (k : ℕ). get_or nodes k n) (sym h.as_many)));
       as_many = length-append h.images (image ∷ []) ∙ ap (λ (k : ℕ). k + 1) h.as_many;
     }
 
 -- all are planned
-pub all_planned : (nodes : List WiringNode) (files : List (List ℕ)) (place : ℕ) (plans : List NodePlan) → ArePlannedSoFar nodes files place plans → length files ≤ place → ArePlansOf nodes files plans
-all_planned nodes files place plans h l = record { images = h.images; read = all_images files place h.images l h.ahead_of; planned = h.planned }
+pub all_planned : (nodes : List WiringNode) (files : List (List ℕ)) (place : ℕ) (plans : List NodePlan)
+    → ArePlannedSoFar nodes files place plans → length files ≤ place → ArePlansOf nodes files plans
+all_planned nodes files place plans h l =
+    record { images = h.images; read = all_images files place h.images l h.ahead_of; planned = h.planned }
 
 -- the next file is no image
-pub not_planned : (nodes : List WiringNode) (files : List (List ℕ)) (place : ℕ) (plans : List NodePlan) (f : Fault) (d : List ℕ) → ArePlannedSoFar nodes files place plans → place < length files
+pub not_planned : (nodes : List WiringNode) (files : List (List ℕ)) (place : ℕ) (plans : List NodePlan) (f : Fault)
+    (d : List ℕ) → ArePlannedSoFar nodes files place plans → place < length files
     → IsFaultOf (as_image place (image_of (get_or files place d))) f → IsFaultOf (images_of files) f
 not_planned nodes files place plans f d h l due = next_fault files place h.images f d l h.ahead_of due

@@ -1,4 +1,5 @@
--- What free workers on the net of a wiring with its images answer and write. Which packets a turn finds hangs on the timing of threads, so this is a relation.
+-- What free workers on the net of a wiring with its images answer and write. Which packets a turn finds hangs on the
+-- timing of threads, so this is a relation.
 -- Source: own choice; the workers, their turns and what they come to are those of free workers' definitions.
 use Rattle.std.specs.Prelude.{ℕ, ◌≡◌, ◌⊎◌, [], List, Option, Result, Ok, Err, Bool, true}
 use Rattle.std.specs.Io.KnownBytes.{Appends}
@@ -29,7 +30,8 @@ shared_with o (Err f) = Err f
 abbrev pub shared_of : Wiring → List (List ℕ) → Options → Result NetState Fault
 shared_of w files o = shared_with o (opened_of w files)
 
--- what free workers did on a net: it was opened for them, each made its turns or stopped at a full clock, and what they did was gathered
+-- what free workers did on a net: it was opened for them, each made its turns or stopped at a full clock, and what they
+-- did was gathered
 pub record AreFree (opened : NetState) (o : Options) (g : Gathered) : Type 0 where
   pub fresh : List View
   pub turned : List View
@@ -51,29 +53,37 @@ free_last g = free_end (is_quiet g.net)
 abbrev pub free_text : Gathered → List ℕ
 free_text g = run_text g.notes (view g.net) (free_last g)
 
--- what has gone out where the text of free workers was due and a fault is answered: nothing; or, where the output failed, the beginning of the text of what workers did
+-- what has gone out where the text of free workers was due and a fault is answered: nothing; or, where the output
+-- failed, the beginning of the text of what workers did
 abbrev pub IsFreeLeft : {W : Type 0} → (W → Option (List ℕ)) → (Gathered → Type 0) → W → W → Fault → Type 0
-IsFreeLeft contents may old new (fault.Output f) = (g : Gathered) × may g × IsCut (contents old) (contents new) (free_text g) f.written
+IsFreeLeft contents may old new (fault.Output f) = (g : Gathered) × may g
+    × IsCut (contents old) (contents new) (free_text g) f.written
 IsFreeLeft contents may old new f = new ≡ old
 
 -- ---- the command: the text, and then the log
 
--- free workers ran, and all is written: the text of one run of the rendezvous machine, and its log, where there is to be one
-pub record IsFreeDone {W L : Type 0} (contents : W → Option (List ℕ)) (log_contents : L → Option (List ℕ)) (w : Wiring) (files : List (List ℕ)) (o : Options) (told : Bool) (old new : W) (log_old log_new : Option L) : Type 0 where
+-- free workers ran, and all is written: the text of one run of the rendezvous machine, and its log, where there is to
+-- be one
+pub record IsFreeDone {W L : Type 0} (contents : W → Option (List ℕ)) (log_contents : L → Option (List ℕ)) (w : Wiring)
+    (files : List (List ℕ)) (o : Options) (told : Bool) (old new : W) (log_old log_new : Option L) : Type 0 where
   pub gathered : Gathered
   pub ran : IsFreeRun w files o gathered
   -- whether a node is frozen is told
   pub frozen : told ≡ has_frozen gathered.net
   pub text : Appends (contents old) (contents new) (free_text gathered)
-  -- the headline: the text is that of one run of the rendezvous machine, in which each message that is complete is one step that copies it whole
+  -- the headline: the text is that of one run of the rendezvous machine, in which each message that is complete is one
+  -- step that copies it whole
   pub run : ShowsOneRun w files gathered.history (free_last gathered) (contents old) (contents new)
   pub log : LogGrows log_contents log_old log_new (log_text gathered.history)
 
--- what has gone out where the command answers a fault: nothing; or, where the output failed, the beginning of the text of what workers did and nothing of the log, or the text whole and the beginning of the log
-abbrev pub IsFreeCut : {W L : Type 0} → (W → Option (List ℕ)) → (L → Option (List ℕ)) → (Gathered → Type 0) → W → W → Option L → Option L → Fault → Type 0
+-- what has gone out where the command answers a fault: nothing; or, where the output failed, the beginning of the text
+-- of what workers did and nothing of the log, or the text whole and the beginning of the log
+abbrev pub IsFreeCut : {W L : Type 0} → (W → Option (List ℕ)) → (L → Option (List ℕ)) → (Gathered → Type 0) → W → W
+    → Option L → Option L → Fault → Type 0
 IsFreeCut contents log_contents may old new log_old log_new (fault.Output f) =
     (g : Gathered)
     × may g
     × ((IsCut (contents old) (contents new) (free_text g) f.written × (log_new ≡ log_old))
-    ⊎ (Appends (contents old) (contents new) (free_text g) × IsLogCut log_contents log_old log_new (log_text g.history) f.written))
+    ⊎ (Appends (contents old) (contents new) (free_text g)
+    × IsLogCut log_contents log_old log_new (log_text g.history) f.written))
 IsFreeCut contents log_contents may old new log_old log_new f = (new ≡ old) × (log_new ≡ log_old)

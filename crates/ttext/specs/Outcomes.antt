@@ -1,6 +1,7 @@
 -- What a run of a wiring with its images answers and writes, and what it has in common with a replay.
 -- Source: own choice; the run itself is that of the net's definitions.
-use Rattle.std.specs.Prelude.{ℕ, suc, ◌≡◌, List, [], ◌∷◌, map, zip, Option, Some, None, Result, Ok, Err, IsOk, IsOkAnd, Bool, true, false}
+use Rattle.std.specs.Prelude.{ℕ, suc, ◌≡◌, List, [], ◌∷◌, map, zip, Option, Some, None, Result, Ok, Err, IsOk, IsOkAnd}
+use Rattle.std.specs.Prelude.{Bool, true, false}
 use Rattle.std.specs.Io.KnownBytes.{Appends}
 use Rattle.tplan.specs.declared.event.Event.{Event}
 use Rattle.tplan.specs.declared.event.Hold.{Hold}
@@ -107,7 +108,8 @@ IsDue due f = IsFaultOf due f
 
 -- what has gone out where a text call answers a fault: the beginning of the text that was due, or nothing
 abbrev pub IsLeft : {T W : Type 0} → (W → Option (List ℕ)) → (T → List ℕ) → Result T Fault → W → W → Fault → Type 0
-IsLeft contents text due old new (fault.Output f) = IsOkAnd due (λ r. IsCut (contents old) (contents new) (text r) f.written)
+IsLeft contents text due old new (fault.Output f) =
+    IsOkAnd due (λ r. IsCut (contents old) (contents new) (text r) f.written)
 IsLeft contents text due old new f = new ≡ old
 
 -- the plans of nodes with the images of files
@@ -129,8 +131,10 @@ pub record IsOpening (w : Wiring) (files : List (List ℕ)) (opened : NetState) 
   pub made : net_of w images ≡ Ok opened
   pub alike : view opened ≡ opening_configuration (plan_of w images)
 
--- the headline of a text: it is that of one run of the rendezvous machine from the opening of the plan, whose steps are the images of these events
-pub record ShowsOneRun (w : Wiring) (files : List (List ℕ)) (events : List Event) (last : List ℕ) (old new : Option (List ℕ)) : Type 0 where
+-- the headline of a text: it is that of one run of the rendezvous machine from the opening of the plan, whose steps are
+-- the images of these events
+pub record ShowsOneRun (w : Wiring) (files : List (List ℕ)) (events : List Event) (last : List ℕ)
+    (old new : Option (List ℕ)) : Type 0 where
   pub opened : NetState
   pub left : NetState
   pub opening : IsOpening w files opened

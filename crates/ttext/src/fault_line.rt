@@ -15,7 +15,8 @@ use tfiles::writing::text::put_decimal;
 use tplan::{BuildFault, WiringFault};
 use trounds::{NetFault, ReplayFault};
 
-/// Writes the line of a fault (own choice of format), as `temu: net N6 EndTwice 1`, and answers the exit status of the
+/// Writes the line of a fault (own choice of format), as `temu: net N6 EndTwice 1`, and answers the exit status of
+/// the
 /// program: 2 for bad input, 3 where the output failed, 4 where there was no memory.
 ///
 /// # Errors

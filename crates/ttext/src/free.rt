@@ -30,15 +30,20 @@ use tplan::{Options, Wiring};
 use trounds::NetFault;
 use tword::Items;
 
-/// Runs the net of a wiring and the files of its images, one file a node, by free workers: each makes so many turns as the
-/// options have rounds, on a thread of its own where one can be started, or stops at a full clock, or when none finds anything
+/// Runs the net of a wiring and the files of its images, one file a node, by free workers: each makes so many turns
+/// as the
+/// options have rounds, on a thread of its own where one can be started, or stops at a full clock, or when none
+/// finds anything
 /// more to do; then they are gathered. It
-/// writes the trace, the dump of each node and a last line `end quiet`, or `end turns` where the net is not quiet. What the
+/// writes the trace, the dump of each node and a last line `end quiet`, or `end turns` where the net is not quiet.
+/// What the
 /// wiring holds is ignored. Nothing is written before the workers are gathered.
 ///
 /// # Errors
-/// The first of these: `Image` for the first file that is no image, `Net` for the lowest fault of the plan, `Rounds` with
-/// `BadWorkers` outside 1 to 64, `Output` where the writer failed. `Memory` where the allocator refused, in a turn too. But for
+/// The first of these: `Image` for the first file that is no image, `Net` for the lowest fault of the plan,
+/// `Rounds` with
+/// `BadWorkers` outside 1 to 64, `Output` where the writer failed. `Memory` where the allocator refused, in a turn
+/// too. But for
 /// `Output` nothing was written.
 pub fn free_text<R: Threads + Sync, W: Write>(
     rt: &R,
@@ -57,9 +62,11 @@ pub fn free_text<R: Threads + Sync, W: Write>(
     // its text is written
     ensures text { IfOk result (λ g. Appends (W.contents out.old) (W.contents out.new) (spec.free_text g)) }
 
-    // the headline: this is the text of one run of the rendezvous machine, in which each message that is complete is one step
+    // the headline: this is the text of one run of the rendezvous machine, in which each message that is complete
+    // is one step
     // that copies it whole
-    ensures run { IfOk result (λ g. ShowsOneRun wiring.now files.now g.history (free_last g) (W.contents out.old) (W.contents out.new)) }
+    ensures run { IfOk result
+        (λ g. ShowsOneRun wiring.now files.now g.history (free_last g) (W.contents out.old) (W.contents out.new)) }
 
     // else nothing is written, or the beginning of the text of what workers did
     ensures left { IfErr result (IsFreeLeft W.contents (IsFreeRun wiring.now files.now options.now) out.old out.new) }
@@ -113,7 +120,8 @@ fn turned<R: Threads + Sync>(
     mut workers: Vec<Worker>,
     options: &Options,
 ) -> Result<Vec<Worker>, Fault>
-    ensures turns { IfOk result (λ turned. AreTurned options.now.rounds options.now.slice workers.items true turned.items) }
+    ensures turns { IfOk result
+        (λ turned. AreTurned options.now.rounds options.now.slice workers.items true turned.items) }
     ensures same { IfOk result (λ turned. map share_of turned.items ≡ map share_of workers.items) }
     ensures memory { IfErr result (λ fault. fault ≡ Memory) }
 {

@@ -1,4 +1,9 @@
 //! Runs and replays of wirings and images, with the text that is printed of them, and the lines of faults.
+//!
+//! - `opened`: the net of a wiring and its images
+//! - `run`, `replaying`, `free`: the text of a run by rounds, of a replay of a log, and of a run by free workers
+//! - `commands`: the commands, from the bytes of their files to what they write
+//! - `fault`, `fault_line`: what may be wrong with the files, and the line that says so
 #![tactic(auto)]
 
 pub mod commands;

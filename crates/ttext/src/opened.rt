@@ -4,7 +4,8 @@ ghost use Rattle.std.specs.Prelude.{◌≡◌, Ok, IfOk, MatchResult, length};
 ghost use Rattle.tnet.specs.Building.{built, opening_configuration};
 ghost use Rattle.tnet.specs.View.{view};
 ghost use Rattle.tfiles.specs.Images.{image_of};
-ghost use Rattle.ttext.specs.Outcomes.{as_image, as_opened, images_of, opened_of, ArePlansOf, IsFaultOf, IsOpening, IsPlanOf};
+ghost use Rattle.ttext.specs.Outcomes.{as_image, as_opened, images_of, opened_of, ArePlansOf, IsFaultOf, IsOpening};
+ghost use Rattle.ttext.specs.Outcomes.{IsPlanOf};
 
 use crate::fault::Fault;
 use std::alloc::Global;
@@ -17,11 +18,13 @@ use tword::Items;
 /// The net that a wiring and the files of its images stand for, one file a node, before its first event.
 ///
 /// # Errors
-/// `Image` with the number of the first node whose file is no image, else `Net` with the lowest fault of the plan. `Memory`
+/// `Image` with the number of the first node whose file is no image, else `Net` with the lowest fault of the plan.
+/// `Memory`
 /// where the allocator refused.
 pub fn open_net(alloc: Global, wiring: &Wiring, files: &[Items<u8>]) -> Result<Net, Fault>
     requires { length files.now ≡ length wiring.now.nodes }
-    ensures answer { MatchResult result (λ net. opened_of wiring.now files.now ≡ Ok net) (IsFaultOf (opened_of wiring.now files.now)) }
+    ensures answer { MatchResult result (λ net. opened_of wiring.now files.now ≡ Ok net)
+        (IsFaultOf (opened_of wiring.now files.now)) }
 
     // nothing is offered in it
     ensures opening { IfOk result (IsOpening wiring.now files.now) }
@@ -77,7 +80,8 @@ fn node_plans(
 
 /// The image of a node.
 pub(crate) fn image_of_node(alloc: Global, node: usize, file: &[u8]) -> Result<Image, Fault>
-    ensures { MatchResult result (λ image. image_of file.now ≡ Ok image) (IsFaultOf (as_image node (image_of file.now))) }
+    ensures { MatchResult result (λ image. image_of file.now ≡ Ok image)
+        (IsFaultOf (as_image node (image_of file.now))) }
 {
     match read_image(alloc, file) {
         Ok(image) => Ok(image),

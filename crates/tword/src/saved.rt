@@ -1,6 +1,7 @@
 //! The workspaces whose words are saved.
 
-ghost use Rattle.std.specs.Prelude.{◌≡◌, ◌+◌, ◌-◌, ◌*◌, ◌%◌, ◌<◌, ◌≤◌, ◌==◌, ◌∷◌, ◌&&◌, not, IfOk, IfSome, length, true, false, None, vec_len, slice_index, ℕ, []};
+ghost use Rattle.std.specs.Prelude.{◌≡◌, ◌+◌, ◌-◌, ◌*◌, ◌%◌, ◌<◌, ◌≤◌, ◌==◌, ◌∷◌, ◌&&◌, not, IfOk, IfSome, length};
+ghost use Rattle.std.specs.Prelude.{true, false, None, vec_len, slice_index, ℕ, []};
 ghost use Rattle.std.specs.List.{list_any};
 ghost use Rattle.tword.specs.Accesses.{IsClaimableWorkspace};
 ghost use Rattle.tword.specs.Claims.{overlap, saved_words};
@@ -21,9 +22,11 @@ const SLOTS: usize = 65_536;
 /// The most words of a touch that are looked up one by one.
 const FEW: u64 = 256;
 
-/// The workspaces of the processes that are queued or wait. Contracts see them as a list, the one that came last at its head.
+/// The workspaces of the processes that are queued or wait. Contracts see them as a list, the one that came last at
+/// its head.
 ///
-/// `counts` has for each slot how many saved words fall into it: a touch whose slots have none needs no further look. `places` has for each slot where a workspace of that slot was last put: a place to look first.
+/// `counts` has for each slot how many saved words fall into it: a touch whose slots have none needs no further
+/// look. `places` has for each slot where a workspace of that slot was last put: a place to look first.
 #[derive(Drop)]
 pub struct Saved {
     workspaces: Vec<Word>,
@@ -40,7 +43,8 @@ impl Model for Saved {
 
     ghost view = { λ s. reverse s.workspaces.items };
 
-    ghost invariant = { λ s. IsTable s.workspaces.items s.counts.items s.places.items × (512 ≤ vec_capacity s.workspaces) };
+    ghost invariant = { λ s. IsTable s.workspaces.items s.counts.items s.places.items
+        × (512 ≤ vec_capacity s.workspaces) };
 }
 
 impl Saved {
@@ -104,7 +108,8 @@ impl Saved {
     /// Whether a saved word has a byte in common with a span.
     #[inline(never)]
     pub fn overlap(&self, start: Word, size: u32) -> bool
-        ensures { result ≡ list_any (λ w. overlap (record { start = start; size = size }) (saved_words w)) self.now }
+        ensures { result ≡ list_any (λ w. overlap (record { start = start; size = size }) (saved_words w))
+            self.now }
     {
         let span = Span { start, size };
         let (start, end) = span.bounds();
@@ -132,7 +137,8 @@ impl Saved {
 
     /// The words of a workspace are free again. The order of the others is left open.
     pub fn remove(&mut self, workspace: Word)
-        ensures others { (v : ℕ) → list_any (λ w. w == v) self.new ≡ (not (v == workspace) && list_any (λ w. w == v) self.old) }
+        ensures others { (v : ℕ)
+            → list_any (λ w. w == v) self.new ≡ (not (v == workspace) && list_any (λ w. w == v) self.old) }
         ensures count { list_any (λ w. w == workspace) self.old ≡ true → length self.new + 1 ≡ length self.old }
         ensures same { list_any (λ w. w == workspace) self.old ≡ false → self.new ≡ self.old }
     {
@@ -222,7 +228,8 @@ fn count_up(counts: &mut Vec<u16>, address: u32)
     requires slots { vec_len counts.old ≡ 65536 }
     requires room { slice_index counts.old.items (slot_of address) < 65535 }
     ensures slots { vec_len counts.new ≡ 65536 }
-    ensures counted { (slot : ℕ) → slice_index counts.new.items slot ≡ slice_index counts.old.items slot + is_slot address slot }
+    ensures counted { (slot : ℕ)
+        → slice_index counts.new.items slot ≡ slice_index counts.old.items slot + is_slot address slot }
 {
     counts[slot_of(address)] += 1;
 }
@@ -233,7 +240,8 @@ fn count_down(counts: &mut Vec<u16>, address: u32)
     requires slots { vec_len counts.old ≡ 65536 }
     requires some { 0 < slice_index counts.old.items (slot_of address) }
     ensures slots { vec_len counts.new ≡ 65536 }
-    ensures counted { (slot : ℕ) → slice_index counts.new.items slot + is_slot address slot ≡ slice_index counts.old.items slot }
+    ensures counted { (slot : ℕ)
+        → slice_index counts.new.items slot + is_slot address slot ≡ slice_index counts.old.items slot }
 {
     counts[slot_of(address)] -= 1;
 }

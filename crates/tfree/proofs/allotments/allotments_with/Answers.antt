@@ -21,8 +21,10 @@ loop-allotment-preserved c =
     let ins = c.loop-allotment.ins.items in
     let outs = c.loop-allotment.outs.items in
     let s = c.in_ok-make_allotment.field-0 in
-    let size : c.share-size.result ≡ share n w = c.share-size.ensures ∙ ap (λ (m : ℕ). share m w) (omega (arith, c.len-left.ensures, c.args.parts.now.nodes.ok.0)) in
-    let owned : c.min-owned.result ≡ owned_of n w k = c.min-owned.ensures ∙ ap (λ (m : ℕ). min m c.loop-allotment.left) size ∙ ap (min (share n w)) inv.left ∙ owned_is n w k in
+    let size : c.share-size.result ≡ share n w = c.share-size.ensures
+    ∙ ap (λ (m : ℕ). share m w) (omega (arith, c.len-left.ensures, c.args.parts.now.nodes.ok.0)) in
+    let owned : c.min-owned.result ≡ owned_of n w k = c.min-owned.ensures
+    ∙ ap (λ (m : ℕ). min m c.loop-allotment.left) size ∙ ap (min (share n w)) inv.left ∙ owned_is n w k in
     let more = first_more n w k in
     let four : 4 * c.min-owned.result ≡ 4 * owned_of n w k = ap (λ (m : ℕ). 4 * m) owned in
     let next : 4 * first_of n w k + 4 * owned_of n w k ≡ 4 * first_of n w (k + 1) = omega (arith, more) in
@@ -34,14 +36,30 @@ loop-allotment-preserved c =
       wires = c.in_ok-make_allotment.ensures.wires;
       empty = c.in_ok-make_allotment.ensures.empty;
       room = omega (arith, c.in_ok-make_allotment.ensures.room, owned);
-      ins_are = ap ins_view c.in_ok-make_allotment.ensures.ins ∙ portion (option_map in_view) ins all_ins (4 * first_of n w k) (4 * c.min-owned.result) inv.ins ∙ ap (λ (m : ℕ). part_of (4 * first_of n w k) m all_ins) four;
-      outs_are = ap outs_view c.in_ok-make_allotment.ensures.outs ∙ portion (option_map out_view) outs all_outs (4 * first_of n w k) (4 * c.min-owned.result) inv.outs ∙ ap (λ (m : ℕ). part_of (4 * first_of n w k) m all_outs) four;
+      ins_are = ap ins_view c.in_ok-make_allotment.ensures.ins
+          ∙ portion (option_map in_view) ins all_ins (4 * first_of n w k) (4 * c.min-owned.result) inv.ins
+          ∙ ap (λ (m : ℕ). part_of (4 * first_of n w k) m all_ins) four;
+      outs_are = ap outs_view c.in_ok-make_allotment.ensures.outs
+          ∙ portion (option_map out_view) outs all_outs (4 * first_of n w k) (4 * c.min-owned.result) inv.outs
+          ∙ ap (λ (m : ℕ). part_of (4 * first_of n w k) m all_outs) four;
     } in
     let moved : 4 * first_of n w k + 4 * c.min-owned.result ≡ 4 * first_of n w (k + 1) = omega (arith, next, four) in
     record {
       left = omega (arith, inv.left, owned, more);
-      ins = ap ins_view c.in_ok-make_allotment.ensures.ins_left ∙ rest (option_map in_view) ins all_ins (4 * first_of n w k) (4 * c.min-owned.result) inv.ins ∙ ap (λ (m : ℕ). drop m all_ins) moved;
-      outs = ap outs_view c.in_ok-make_allotment.ensures.outs_left ∙ rest (option_map out_view) outs all_outs (4 * first_of n w k) (4 * c.min-owned.result) inv.outs ∙ ap (λ (m : ℕ). drop m all_outs) moved;
-      allotments = subst (AreSeats net w all_ins all_outs 0) (sym c.in_ok-push.ensures.items) (allotments_more net w all_ins all_outs 0 k c.loop-allotment.allotments.items s inv.allotments (omega (arith, inv.all)) is);
-      all = omega (arith, ap length c.in_ok-push.ensures.items, length-append c.loop-allotment.allotments.items (s ∷ []), inv.all);
+      ins = ap ins_view c.in_ok-make_allotment.ensures.ins_left
+          ∙ rest (option_map in_view) ins all_ins (4 * first_of n w k) (4 * c.min-owned.result) inv.ins
+          ∙ ap (λ (m : ℕ). drop m all_ins) moved;
+      outs = ap outs_view c.in_ok-make_allotment.ensures.outs_left
+          ∙ rest (option_map out_view) outs all_outs (4 * first_of n w k) (4 * c.min-owned.result) inv.outs
+          ∙ ap (λ (m : ℕ). drop m all_outs) moved;
+      allotments =
+          subst (AreSeats net w all_ins all_outs 0) (sym c.in_ok-push.ensures.items)
+          (allotments_more net w all_ins all_outs 0 k c.loop-allotment.allotments.items s inv.allotments
+          (omega (arith, inv.all)) is);
+      all = omega (
+        arith,
+        ap length c.in_ok-push.ensures.items,
+        length-append c.loop-allotment.allotments.items (s ∷ []),
+        inv.all,
+      );
     }

@@ -10,5 +10,6 @@ drain_node-left-requires-clause-joined c = λ l b f wire.
     let n = c.loop-node.node in
     let j = c.requires.joined n l c.loop-node-test.true b f wire in (
       subst (λ (o : List (Option OutView)). place_of f < length o) (sym i.outs) j.0,
-      ap (option_map (λ (x : InView). x.id)) (i.ins (4 * n + l) (omega arith)) ∙ j.1 ∙ ap (λ (o : List (Option OutView)). option_map (λ (x : OutView). x.id) (out_at o (place_of f))) (sym i.outs),
+      ap (option_map (λ (x : InView). x.id)) (i.ins (4 * n + l) (omega arith)) ∙ j.1
+          ∙ ap (λ (o : List (Option OutView)). option_map (λ (x : OutView). x.id) (out_at o (place_of f))) (sym i.outs),
     )

@@ -11,8 +11,10 @@ pub returns-clause-ins : goal.returns-clause-ins
 returns-clause-ins c = λ q other.
     let p = 4 * c.args.node + c.args.link in
     ap (λ (l : List (Option InView)). in_at l q) (map-set (option_map in_view) c.args.ins.now p c.drain_slot.new.end)
-    ∙ get_or-set_other (map (option_map in_view) c.args.ins.now) p q (option_map in_view c.drain_slot.new.end) None other
+    ∙ get_or-set_other (map (option_map in_view) c.args.ins.now) p q (option_map in_view c.drain_slot.new.end) None
+    other
 
 pub returns-clause-outs : goal.returns-clause-outs
 returns-clause-outs c =
-    map-set_same (option_map out_view) c.args.outs.now (4 * c.in-Some.far.node + c.in-Some.far.link) c.drain_slot.new.out c.index-outs-from.result c.drain_slot.ensures.out
+    map-set_same (option_map out_view) c.args.outs.now (4 * c.in-Some.far.node + c.in-Some.far.link)
+    c.drain_slot.new.out c.index-outs-from.result c.drain_slot.ensures.out

@@ -15,7 +15,9 @@ returns-clause-added c =
       nodes = c.move_all.ensures.items;
       ins = c.move_all-2.ensures.items;
       outs = c.move_all-3.ensures.items;
-      events = ap event_lists c.push_reserved.ensures.items ∙ map_push (λ (u : Unmerged). u.events) old _ ∙ ap (λ (l : List OwnEvent). event_lists old ++ l ∷ []) c.into_queue.ensures;
-      told = ap told_lists c.push_reserved.ensures.items ∙ map_push (λ (u : Unmerged). u.told.items) old _ ∙ ap (λ (l : List StampedNote). told_lists old ++ l ∷ []) c.from.ensures.0;
+      events = ap event_lists c.push_reserved.ensures.items ∙ map_push (λ (u : Unmerged). u.events) old _
+          ∙ ap (λ (l : List OwnEvent). event_lists old ++ l ∷ []) c.into_queue.ensures;
+      told = ap told_lists c.push_reserved.ensures.items ∙ map_push (λ (u : Unmerged). u.told.items) old _
+          ∙ ap (λ (l : List StampedNote). told_lists old ++ l ∷ []) c.from.ensures.0;
       left = refl;
     }

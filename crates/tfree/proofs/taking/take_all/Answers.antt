@@ -11,18 +11,21 @@ take_one-wires-requires-clause-room c =
     let ws = c.args.workers.items in
     let r = c.requires.room in
     if_some (λ (v : View). HasRoomFor v.share.owned c.args.all.now) (worker_of 0 ws)
-    (λ v e. room_for c.args.count ws c.requires.opening c.requires.there 0 c.args.all.now (taken_none ws c.args.count c.args.all.now r) (omega arith) v c.requires.some e r.nodes r.ins r.outs r.unmerged)
+    (λ v e. room_for c.args.count ws c.requires.opening c.requires.there 0 c.args.all.now
+    (taken_none ws c.args.count c.args.all.now r) (omega arith) v c.requires.some e r.nodes r.ins r.outs r.unmerged)
 
 pub loop-number-init : goal.loop-number-init
 loop-number-init c =
     let ws = c.args.workers.items in
     let r = c.requires.room in
     let v = some_of (worker_of 0 ws) (c.requires.there 0 c.requires.some) in
-    let added = from_some (λ (v : View). IsAdded v c.args.all.now c.take_one-wires.new.all c.take_one-wires.result) (worker_of 0 ws) v.0 v.1 c.take_one-wires.ensures.added in
+    let added = from_some (λ (v : View). IsAdded v c.args.all.now c.take_one-wires.new.all c.take_one-wires.result)
+    (worker_of 0 ws) v.0 v.1 c.take_one-wires.ensures.added in
     let k = c.take_one-wires.ensures.room in
     record {
       rest = λ j b. c.take_one-wires.ensures.others j (λ q. omega (arith, b, q));
-      taken = taken_more ws 0 v.0 c.args.all.now c.take_one-wires.new.all c.take_one-wires.result v.1 added (taken_none ws c.args.count c.args.all.now r);
+      taken = taken_more ws 0 v.0 c.args.all.now c.take_one-wires.new.all c.take_one-wires.result v.1 added
+          (taken_none ws c.args.count c.args.all.now r);
       nodes = omega (arith, r.nodes, k.nodes);
       ins = omega (arith, r.ins, k.ins);
       outs = omega (arith, r.outs, k.outs);
@@ -34,9 +37,11 @@ take_one-requires-clause-room c =
     let ws = c.args.workers.items in
     let n = c.loop-number.number in
     let i = c.loop-number.invariant in
-    subst (λ (o : Option View). IfSome o (λ (v : View). HasRoomFor v.share.owned c.loop-number.all)) (sym (i.rest n (omega arith)))
+    subst (λ (o : Option View). IfSome o (λ (v : View). HasRoomFor v.share.owned c.loop-number.all))
+    (sym (i.rest n (omega arith)))
     (if_some (λ (v : View). HasRoomFor v.share.owned c.loop-number.all) (worker_of n ws)
-    (λ v e. room_for c.args.count ws c.requires.opening c.requires.there n c.loop-number.all i.taken (omega (arith, c.loop-number-test.true)) v c.loop-number-test.true e i.nodes i.ins i.outs i.unmerged))
+    (λ v e. room_for c.args.count ws c.requires.opening c.requires.there n c.loop-number.all i.taken
+    (omega (arith, c.loop-number-test.true)) v c.loop-number-test.true e i.nodes i.ins i.outs i.unmerged))
 
 pub loop-number-preserved : goal.loop-number-preserved
 loop-number-preserved c =
@@ -44,7 +49,8 @@ loop-number-preserved c =
     let n = c.loop-number.number in
     let i = c.loop-number.invariant in
     let v = some_of (worker_of n ws) (c.requires.there n c.loop-number-test.true) in
-    let added = from_some (λ (v : View). IsAdded v c.loop-number.all c.take_one.new.all c.take_one.result) (worker_of n c.loop-number.workers.items) v.0 (i.rest n (omega arith) ∙ v.1) c.take_one.ensures.added in
+    let added = from_some (λ (v : View). IsAdded v c.loop-number.all c.take_one.new.all c.take_one.result)
+    (worker_of n c.loop-number.workers.items) v.0 (i.rest n (omega arith) ∙ v.1) c.take_one.ensures.added in
     let k = c.take_one.ensures.room in
     record {
       rest = λ j b. c.take_one.ensures.others j (λ q. omega (arith, b, q)) ∙ i.rest j (omega (arith, b));

@@ -13,6 +13,9 @@ returns-clause-others c = λ j other.
     let ws = c.args.workers.now.items in
     let v = c.remove.result in
     let lt : i < length ws = subst (λ (l : List View). i < length l) c.as_slice.ensures.value c.in-Some.ensures.0 in
-    let at_i : slice_get ws i ≡ Some v = slice_get-get_or ws i v lt ∙ ap (λ (x : View). Some x) (sym c.remove.ensures.value) in
-    let found : worker_of k ws ≡ slice_get ws i = subst (λ (l : List View). worker_of k l ≡ slice_get l i) c.as_slice.ensures.value c.in-Some.ensures.1 in
-    ap (worker_of j) c.remove.ensures.items ∙ remove_other ws i j v at_i (λ q. other (sym q ∙ number_of k ws v (found ∙ at_i)))
+    let at_i : slice_get ws i ≡ Some v = slice_get-get_or ws i v lt
+    ∙ ap (λ (x : View). Some x) (sym c.remove.ensures.value) in
+    let found : worker_of k ws ≡ slice_get ws i =
+    subst (λ (l : List View). worker_of k l ≡ slice_get l i) c.as_slice.ensures.value c.in-Some.ensures.1 in
+    ap (worker_of j) c.remove.ensures.items
+    ∙ remove_other ws i j v at_i (λ q. other (sym q ∙ number_of k ws v (found ∙ at_i)))

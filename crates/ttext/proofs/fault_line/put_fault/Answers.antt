@@ -7,4 +7,5 @@ use Rattle.ttext.proofs.fault_line.put_fault.Goals as goal
 
 pub returns-in-File : goal.returns-in-File
 returns-in-File g c =
-    tells_as (tells_then c.put.ensures (tells_as c.put-in-File.ensures c.as_bytes.ensures.value)) (ap (λ (f : Fault). words (fault_words f)) (sym c.in-File.is))
+    tells_as (tells_then c.put.ensures (tells_as c.put-in-File.ensures c.as_bytes.ensures.value))
+    (ap (λ (f : Fault). words (fault_words f)) (sym c.in-File.is))

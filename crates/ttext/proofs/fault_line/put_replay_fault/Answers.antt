@@ -6,4 +6,5 @@ use Rattle.ttext.specs.FaultLines.{replay_words}
 use Rattle.ttext.proofs.fault_line.put_replay_fault.Goals as goal
 
 pub returns-in-NotEnabled : goal.returns-in-NotEnabled
-returns-in-NotEnabled g c = tells_as c.put_numbered.ensures (ap (λ (f : ReplayFault). words (replay_words f)) (sym c.in-NotEnabled.is))
+returns-in-NotEnabled g c =
+    tells_as c.put_numbered.ensures (ap (λ (f : ReplayFault). words (replay_words f)) (sym c.in-NotEnabled.is))

@@ -7,7 +7,9 @@ use Rattle.ttext.proofs.free.write_gathered.Goals as goal
 
 pub returns : goal.returns
 returns g c =
-    let quiet = quiet_as c.quiet_is_nothing_enabled.ensures c.args.gathered.now.net c.requires c.is_quiet.result c.is_quiet.ensures in
+    let quiet = quiet_as c.quiet_is_nothing_enabled.ensures c.args.gathered.now.net c.requires c.is_quiet.result
+    c.is_quiet.ensures in
     let last = tells_as c.put_free_end.ensures (ap (λ (b : Bool). free_end b) quiet) in
     let trace = tells_as c.put_trace.ensures (ap (λ (notes : List Note). trace_text notes) c.as_slice.ensures) in
-    written_out c.new-output.ensures (tells_then trace (tells_then c.put_dump.ensures last)) c.finish.ensures _ (search rules)
+    written_out c.new-output.ensures (tells_then trace (tells_then c.put_dump.ensures last)) c.finish.ensures _
+    (search rules)

@@ -6,6 +6,9 @@ use Rattle.ttext.proofs.run.write_report.Goals as goal
 
 pub returns : goal.returns
 returns g c =
-    let last = tells_as c.put_rounds_end.ensures (ap (λ (quiet : Bool). rounds_end quiet c.args.report.now.rounds) c.is_quiet_end.ensures) in
+    let last =
+    tells_as c.put_rounds_end.ensures
+    (ap (λ (quiet : Bool). rounds_end quiet c.args.report.now.rounds) c.is_quiet_end.ensures) in
     let trace = tells_as c.put_trace.ensures (ap (λ (notes : List Note). trace_text notes) c.as_slice.ensures) in
-    written_out c.new-output.ensures (tells_then trace (tells_then c.put_dump.ensures last)) c.finish.ensures _ (search rules)
+    written_out c.new-output.ensures (tells_then trace (tells_then c.put_dump.ensures last)) c.finish.ensures _
+    (search rules)
