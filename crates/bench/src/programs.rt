@@ -7,7 +7,8 @@ pub const START: u32 = 0x8000_0080;
 pub const SIZE: u32 = 131_072;
 
 /// Goes over an array of 64 words by turns: adds each to a sum and puts the sum back, and then takes the sum's
-/// complement in part, or calls a procedure on it. Its workspace has the index, the count, the sum, a pointer, and from
+/// complement in part, or calls a procedure on it. Its workspace has the index, the count, the sum, a pointer, and
+/// from
 /// word 16 on the array.
 #[rattlefmt::skip]
 pub const LOOP: [u8; 50] = [
@@ -72,7 +73,8 @@ pub const WAIT: [u8; 7] = [
     0xf7, // in
 ];
 
-/// Counts up in a buffer, sends it and receives it, again and again. The workspace has the channel for sending, that
+/// Counts up in a buffer, sends it and receives it, again and again. The workspace has the channel for sending,
+/// that
 /// for receiving, the buffer and the length.
 #[rattlefmt::skip]
 pub const PING: [u8; 15] = [
@@ -93,7 +95,8 @@ pub const PING: [u8; 15] = [
     0x60, 0x01, // j again
 ];
 
-/// Receives a buffer and sends it back, again and again. The workspace has the channel for receiving, that for sending,
+/// Receives a buffer and sends it back, again and again. The workspace has the channel for receiving, that for
+/// sending,
 /// the buffer and the length.
 #[rattlefmt::skip]
 pub const PONG: [u8; 10] = [
@@ -133,7 +136,8 @@ pub const COUNTED_PING: [u8; 20] = [
     0x21, 0xf5, // stopp
 ];
 
-/// Receives a buffer and sends it back, so many times, and stops. The workspace has the channel for receiving, that for
+/// Receives a buffer and sends it back, so many times, and stops. The workspace has the channel for receiving, that
+/// for
 /// sending, the buffer, the length, and from word 4 on the index and the count.
 #[rattlefmt::skip]
 pub const COUNTED_PONG: [u8; 14] = [

@@ -1,5 +1,7 @@
 -- A chain is put at the head of a buffer, its last byte behind its prefixes.
-use Rattle.std.proofs.Common.{◌≡◌, ℕ, zero, suc, ◌+◌, ◌-◌, ◌*◌, ◌/◌, ◌%◌, ◌^◌, ◌<◌, ◌≤◌, sym, ap, ◌∙◌, List, [], ◌∷◌, ◌++◌, length, get_or, drop, ℤ, pos, negsuc, false, w32, of_z, arith, append_assoc, drop-cons}
+use Rattle.std.proofs.Common.{◌≡◌, ℕ, zero, suc, ◌+◌, ◌-◌, ◌*◌, ◌/◌, ◌%◌, ◌^◌, ◌<◌, ◌≤◌, sym, ap, ◌∙◌, List, [], ◌∷◌}
+use Rattle.std.proofs.Common.{◌++◌, length, get_or, drop, ℤ, pos, negsuc, false, w32, of_z, arith, append_assoc}
+use Rattle.std.proofs.Common.{drop-cons}
 use Rattle.std.proofs.Math.ListN.{set}
 use Rattle.std.proofs.Math.Seq.{set-append_seam}
 use Rattle.std.proofs.lemmas.Bool.{le-ltb, lt-ltb, le-leb, false≢true}
@@ -9,7 +11,8 @@ use Rattle.tcode.specs.Chains.{pfix, nfix}
 use Rattle.tcode.specs.Encoding.{chain}
 
 -- a byte behind what stands at the head of a buffer
-pub put-next : (buffer old front : List ℕ) (at byte : ℕ) → buffer ≡ front ++ drop at old → at ≡ length front → at < length old
+pub put-next : (buffer old front : List ℕ) (at byte : ℕ) → buffer ≡ front ++ drop at old → at ≡ length front
+    → at < length old
     → set buffer at byte ≡ (front ++ byte ∷ []) ++ drop (at + 1) old
 put-next buffer old front at byte e same room =
     let after : suc at ≡ at + 1 = omega arith in
@@ -27,13 +30,15 @@ chain-one (suc most) code n some small =
     rw (lt-ltb n 16 small) (ap (λ (d : ℕ). (16 * code + d) ∷ []) same)
 
 -- a chain with prefixes
-pub chain-more : (most code n : ℕ) → 0 < most → 16 ≤ n → chain most code (pos n) ≡ chain (most - 1) pfix (pos (n / 16)) ++ (16 * code + n % 16) ∷ []
+pub chain-more : (most code n : ℕ) → 0 < most → 16 ≤ n
+    → chain most code (pos n) ≡ chain (most - 1) pfix (pos (n / 16)) ++ (16 * code + n % 16) ∷ []
 chain-more zero code n some large = absurd (omega arith)
 chain-more (suc most) code n some large =
     let less : most ≡ suc most - 1 = omega arith in
     rw (le-ltb n 16 large) (ap (λ (k : ℕ). chain k pfix (pos (n / 16)) ++ (16 * code + n % 16) ∷ []) less)
 
-complement_is : (u : ℕ) (e : ℤ) → FitsSigned w32 e → le_z (pos 0) e ≡ false → u ≡ of_z w32 e → e ≡ negsuc (2 ^ 32 - 1 - u)
+complement_is : (u : ℕ) (e : ℤ) → FitsSigned w32 e → le_z (pos 0) e ≡ false → u ≡ of_z w32 e
+    → e ≡ negsuc (2 ^ 32 - 1 - u)
 complement_is u (pos n) fits below same = absurd (false≢true (sym below ∙ le-leb 0 n (omega arith)))
 complement_is u (negsuc n) fits below same = let less = fits.sfits in ap negsuc (omega arith)
 

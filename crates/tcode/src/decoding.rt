@@ -32,7 +32,8 @@ fn prefixed(code: u8, value: u32) -> u32
 /// The instruction that a function ends, unless its operation is not listed.
 #[inline(always)]
 fn ended(function: Function, operand: u32, length: u8) -> Option<Instruction>
-    ensures { result ≡ (if is_listed function (pos operand) then Some (instruction function (pos operand) length) else None) }
+    ensures { result
+        ≡ (if is_listed function (pos operand) then Some (instruction function (pos operand) length) else None) }
 {
     let operand = Word::new(operand);
     if let Function::Opr = function

@@ -1,12 +1,16 @@
--- Local effects deschedule nobody: the claims stay as they are, so what follows goes on from the store that was left. By this a contract that speaks of the run of an effect alone serves a step that goes on.
-use Rattle.std.proofs.Common.{◌≡◌, ℕ, refl, sym, ap, subst, cond, ◌%◌, [], ◌∷◌, Bool, true, false, Option, Some, None, Result, Ok, Err}
+-- Local effects deschedule nobody: the claims stay as they are, so what follows goes on from the store that was left.
+-- By this a contract that speaks of the run of an effect alone serves a step that goes on.
+use Rattle.std.proofs.Common.{◌≡◌, ℕ, refl, sym, ap, subst, cond, ◌%◌, [], ◌∷◌, Bool, true, false, Option, Some, None}
+use Rattle.std.proofs.Common.{Result, Ok, Err}
 use Rattle.std.specs.Prelude.{IfSome, IfOk, unwrap_or}
 use Rattle.tword.specs.declared.breaks.Break.{Break}
 use Rattle.tword.proofs.Leads.{passed}
 use Rattle.tword.specs.Words.{plus, minus}
 use Rattle.tword.specs.Stores.{Store, word_at, byte_at, with_word, with_cells, as_cells, cells}
 use Rattle.tword.specs.Claims.{Claims}
-use Rattle.tword.specs.Actions.{Action, answer, breaks, requiring, touching_word, touching_byte, touching, writing_word, writing_byte, copying, descheduling, reading_saved, setting_saved, unless, saved_word_at, with_saved_word, run, run_from, ◌>>=◌}
+use Rattle.tword.specs.Actions.{Action, answer, breaks, requiring, touching_word, touching_byte, touching, writing_word}
+use Rattle.tword.specs.Actions.{writing_byte, copying, descheduling, reading_saved, setting_saved, unless}
+use Rattle.tword.specs.Actions.{saved_word_at, with_saved_word, run, run_from, ◌>>=◌}
 use Rattle.tcode.specs.declared.instruction.Function.{Function}
 use Rattle.tcode.specs.declared.instruction.Function.TheVariants as function
 use Rattle.tcode.specs.declared.instruction.Operation.{Operation}
@@ -42,13 +46,15 @@ abbrev pub then_from : {A B : Type 0} → Result (A × Store) Break → (A → S
 then_from (Ok (a, s)) k = k a s
 then_from (Err b) k = Err b
 
-unless_then : {A B : Type 0} (o : Option Break) (r : Result B Break) (r' : Result (A × Store) Break) (k : A → Store → Result B Break)
+unless_then : {A B : Type 0} (o : Option Break) (r : Result B Break) (r' : Result (A × Store) Break) (k : A → Store
+    → Result B Break)
     → r ≡ then_from r' k → unless o r ≡ then_from (unless o r') k
 unless_then None r r' k e = e
 unless_then (Some b) r r' k e = refl
 
 -- an action that is quiet, and then another
-pub quiet_bind : {A B : Type 0} (Q : A → Type 0) (x : Action A) (f : A → Action B) (old new : Store) (c : Claims) → IsQuiet Q x
+pub quiet_bind : {A B : Type 0} (Q : A → Type 0) (x : Action A) (f : A → Action B) (old new : Store) (c : Claims)
+    → IsQuiet Q x
     → run_from (x >>= f) old c new ≡ then_from (run_from x old c new) (λ a s. run_from (f a) old c s)
 quiet_bind Q (answer x) f old new c q = refl
 quiet_bind Q (breaks b) f old new c q = refl
@@ -64,20 +70,27 @@ quiet_bind Q (reading_saved w k next) f old new c q = quiet_bind Q (next _) f ol
 quiet_bind Q (setting_saved w k v next) f old new c q = quiet_bind Q next f old _ c q
 
 -- what holds of its answer
-quiet_run : {A : Type 0} (Q : A → Type 0) (x : Action A) (old new : Store) (c : Claims) (a : A) (s : Store) → IsQuiet Q x → run_from x old c new ≡ Ok (a, s) → Q a
+quiet_run : {A : Type 0} (Q : A → Type 0) (x : Action A) (old new : Store) (c : Claims) (a : A) (s : Store)
+    → IsQuiet Q x → run_from x old c new ≡ Ok (a, s) → Q a
 quiet_run {A} Q (answer x) old new c a s q e =
     let k : ◌≡◌ {A = A × Store} (x, new) (a, s) = cc in
     subst Q (ap (λ (p : A × Store). p.0) k) q
 quiet_run Q (breaks b) old new c a s q e = cc
 quiet_run Q (requiring t b next) old new c a s q e = quiet_run Q next old new c a s q (passed _ _ _ e).1
-quiet_run Q (touching_word mode b next) old new c a s q e = quiet_run Q (next (word_at old b)) old new c a s (q (word_at old b)) (passed _ _ _ e).1
-quiet_run Q (touching_byte mode b next) old new c a s q e = quiet_run Q (next (unwrap_or (byte_at old b) 0)) old new c a s (q (unwrap_or (byte_at old b) 0)) (passed _ _ _ e).1
+quiet_run Q (touching_word mode b next) old new c a s q e =
+    quiet_run Q (next (word_at old b)) old new c a s (q (word_at old b)) (passed _ _ _ e).1
+quiet_run Q (touching_byte mode b next) old new c a s q e =
+    quiet_run Q (next (unwrap_or (byte_at old b) 0)) old new c a s (q (unwrap_or (byte_at old b) 0)) (passed _ _ _ e).1
 quiet_run Q (touching mode span next) old new c a s q e = quiet_run Q next old new c a s q (passed _ _ _ e).1
-quiet_run Q (writing_word b v next) old new c a s q e = quiet_run Q next old (with_word new b v) c a s q (passed _ _ _ e).1
-quiet_run Q (writing_byte b v next) old new c a s q e = quiet_run Q next old (with_cells new b (as_cells (v % 256 ∷ []))) c a s q (passed _ _ _ e).1
-quiet_run Q (copying from to count next) old new c a s q e = quiet_run Q next old (with_cells new to (cells new from count)) c a s q (passed _ _ _ e).1
+quiet_run Q (writing_word b v next) old new c a s q e =
+    quiet_run Q next old (with_word new b v) c a s q (passed _ _ _ e).1
+quiet_run Q (writing_byte b v next) old new c a s q e =
+    quiet_run Q next old (with_cells new b (as_cells (v % 256 ∷ []))) c a s q (passed _ _ _ e).1
+quiet_run Q (copying from to count next) old new c a s q e =
+    quiet_run Q next old (with_cells new to (cells new from count)) c a s q (passed _ _ _ e).1
 quiet_run Q (descheduling w next) old new c a s q e = absurd q
-quiet_run Q (reading_saved w k next) old new c a s q e = quiet_run Q (next (saved_word_at old c w k)) old new c a s (q (saved_word_at old c w k)) e
+quiet_run Q (reading_saved w k next) old new c a s q e =
+    quiet_run Q (next (saved_word_at old c w k)) old new c a s (q (saved_word_at old c w k)) e
 quiet_run Q (setting_saved w k v next) old new c a s q e = quiet_run Q next old (with_saved_word new c w k v) c a s q e
 
 -- nothing is left to the scheduler, and a jump stays in the workspace
@@ -112,16 +125,19 @@ functions-quiet function.Stl n b r w = tt
 functions-quiet function.Stnl n b r w = tt
 functions-quiet function.Opr n b r w = tt
 
-looped-quiet : (left index : ℕ) (t : Bool) (b r : Registers) → b.wptr ≡ r.wptr → IsQuiet (IsEnd b) (looped left index t r)
+looped-quiet : (left index : ℕ) (t : Bool) (b r : Registers) → b.wptr ≡ r.wptr
+    → IsQuiet (IsEnd b) (looped left index t r)
 looped-quiet left index true b r w = sym w
 looped-quiet left index false b r w = tt
 
 -- a local operation
-operations-quiet : (o : Operation) (b r : Registers) → b.wptr ≡ r.wptr → IfSome (operation_effect o r) (λ x. IsQuiet (IsEnd b) x)
+operations-quiet : (o : Operation) (b r : Registers) → b.wptr ≡ r.wptr
+    → IfSome (operation_effect o r) (λ x. IsQuiet (IsEnd b) x)
 unfolding operation_effect
 operations-quiet op.Lb b r w = λ _. tt
 operations-quiet op.Ret b r w = λ _. tt
-operations-quiet op.Lend b r w = λ count index. looped-quiet (minus count 1) index (is_positive_word (minus count 1)) b r w
+operations-quiet op.Lend b r w =
+    λ count index. looped-quiet (minus count 1) index (is_positive_word (minus count 1)) b r w
 operations-quiet op.Rev b r w = tt
 operations-quiet op.Bsub b r w = tt
 operations-quiet op.Diff b r w = tt
@@ -195,7 +211,8 @@ quiet_stays r (descheduling w next) q = q
 quiet_stays r (reading_saved w k next) q = λ v. quiet_stays r (next v) (q v)
 quiet_stays r (setting_saved w k v next) q = quiet_stays r next q
 
-local-quiet : (x : Option (Action Outcome)) (o : Operation) (b : Registers) → IfSome x (λ x. IsQuiet (IsEnd b) x) → IsQuiet (IsStay b) (local_or_left x o b)
+local-quiet : (x : Option (Action Outcome)) (o : Operation) (b : Registers) → IfSome x (λ x. IsQuiet (IsEnd b) x)
+    → IsQuiet (IsStay b) (local_or_left x o b)
 local-quiet (Some x) o b q = quiet_stays b x q
 local-quiet None o b q = tt
 
@@ -218,12 +235,14 @@ pub effect_then : {B : Type 0} (i : Instruction) (r : Registers) (f : Outcome �
 effect_then i r f s c = quiet_bind (IsStay r) (effect i r) f s s c (effect-quiet i r)
 
 -- so what was answered goes on as what follows says
-pub effect_answered : {B : Type 0} (i : Instruction) (r r' : Registers) (next : Next) (f : Outcome → Action B) (s s' : Store) (c : Claims)
+pub effect_answered : {B : Type 0} (i : Instruction) (r r' : Registers) (next : Next) (f : Outcome → Action B)
+    (s s' : Store) (c : Claims)
     → run (effect i r) s c ≡ Ok ((r', next), s') → run_from (effect i r >>= f) s c s ≡ run_from (f (r', next)) s c s'
 effect_answered i r r' next f s s' c e = rw (effect_then i r f s c, e) refl
 
 -- and a break is one whatever follows
-pub effect_broke : {B : Type 0} (i : Instruction) (r : Registers) (b : Break) (f : Outcome → Action B) (s : Store) (c : Claims)
+pub effect_broke : {B : Type 0} (i : Instruction) (r : Registers) (b : Break) (f : Outcome → Action B) (s : Store)
+    (c : Claims)
     → run (effect i r) s c ≡ Err b → run_from (effect i r >>= f) s c s ≡ Err b
 effect_broke i r b f s c e = rw (effect_then i r f s c, e) refl
 
@@ -248,22 +267,27 @@ stays_effect i r r' c s s' (Ok next) e = quiet_run (IsStay r) (effect i r) s s c
 stays_effect i r r' c s s' (Err b) e = tt
 
 -- what is left to the scheduler has changed nothing
-local-left : (x : Option (Action Outcome)) (o p : Operation) (b r' : Registers) (c : Claims) (s s' : Store) → IfSome x (λ x. IsQuiet (IsEnd b) x)
+local-left : (x : Option (Action Outcome)) (o p : Operation) (b r' : Registers) (c : Claims) (s s' : Store)
+    → IfSome x (λ x. IsQuiet (IsEnd b) x)
     → run (local_or_left x o b) s c ≡ Ok ((r', Schedule p), s') → (s' ≡ s) × (r' ≡ b)
 local-left (Some x) o p b r' c s s' q e = absurd (quiet_run (IsEnd b) x s s c (r', Schedule p) s' q e)
 local-left None o p b r' c s s' q e =
     let same : ◌≡◌ {A = Outcome × Store} ((b, Schedule o), s) ((r', Schedule p), s') = cc in
     (sym (ap (λ (x : Outcome × Store). x.1) same), sym (ap (λ (x : Outcome × Store). x.0.0) same))
 
-selected-left : (o : Option Operation) (p : Operation) (b r r' : Registers) (c : Claims) (s s' : Store) → b.wptr ≡ r.wptr
+selected-left : (o : Option Operation) (p : Operation) (b r r' : Registers) (c : Claims) (s s' : Store)
+    → b.wptr ≡ r.wptr
     → run (selected_effect o b r) s c ≡ Ok ((r', Schedule p), s') → (s' ≡ s) × (r' ≡ b)
 selected-left None p b r r' c s s' w e = cc
-selected-left (Some o) p b r r' c s s' w e = local-left (operation_effect o r) o p b r' c s s' (operations-quiet o b r w) e
+selected-left (Some o) p b r r' c s s' w e =
+    local-left (operation_effect o r) o p b r' c s s' (operations-quiet o b r w) e
 
-effect_at-left : (f : Function) (n : ℕ) (p : Operation) (b r r' : Registers) (c : Claims) (s s' : Store) → b.wptr ≡ r.wptr
+effect_at-left : (f : Function) (n : ℕ) (p : Operation) (b r r' : Registers) (c : Claims) (s s' : Store)
+    → b.wptr ≡ r.wptr
     → run (effect_at f n b r) s c ≡ Ok ((r', Schedule p), s') → (s' ≡ s) × (r' ≡ b)
 effect_at-left function.Opr n p b r r' c s s' w e = selected-left (operation_at n) p b r r' c s s' w e
-effect_at-left f n p b r r' c s s' w e = absurd (quiet_run (IsEnd b) (function_effect f n r) s s c (r', Schedule p) s' (functions-quiet f n b r w) e)
+effect_at-left f n p b r r' c s s' w e =
+    absurd (quiet_run (IsEnd b) (function_effect f n r) s s c (r', Schedule p) s' (functions-quiet f n b r w) e)
 
 pub stands_at : (f : Function) (n : ℕ) (b r r' : Registers) (c : Claims) (s s' : Store) (next : Next) → b.wptr ≡ r.wptr
     → run (effect_at f n b r) s c ≡ Ok ((r', next), s') → StandsWhereLeft next s b s' r'

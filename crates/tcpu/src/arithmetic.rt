@@ -9,7 +9,7 @@ ghost use Rattle.tcpu.specs.Functions.{function_effect};
 ghost use Rattle.tcpu.specs.Operations.{operation_effect};
 
 use crate::registers::{Next, Registers};
-use crate::words::{
+use crate::word_arithmetic::{
     signed_difference, signed_product, signed_quotient, signed_sum, truth, word_address,
 };
 use tword::Word;

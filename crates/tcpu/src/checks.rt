@@ -7,7 +7,7 @@ ghost use Rattle.tword.specs.Actions.{answer};
 ghost use Rattle.tcpu.specs.Operations.{operation_effect};
 
 use crate::registers::{Next, Registers};
-use crate::words::{is_outside, sign_of};
+use crate::word_arithmetic::{is_outside, sign_of};
 use tword::Word;
 
 /// `csub0`: a subscript below a limit

@@ -14,7 +14,7 @@ ghost use Rattle.tcpu.specs.Local.{outcome_of};
 ghost use Rattle.tcpu.specs.Operations.{operation_effect};
 
 use crate::registers::{Next, Registers};
-use crate::words::{is_word_address, word_address};
+use crate::word_arithmetic::{is_word_address, word_address};
 use tword::{Break, Marks, Memory, Word};
 
 /// `j`: jumps by the operand
@@ -76,7 +76,9 @@ pub fn general_adjust_workspace(
     memory: &Memory,
     marks: &Marks,
 ) -> Result<Next, Break>
-    ensures done { run (local_or_left (operation_effect op.Gajw registers.old) op.Gajw registers.old) memory.now marks.now ≡ outcome_of result registers.new memory.now }
+    ensures done { run (local_or_left (operation_effect op.Gajw registers.old) op.Gajw registers.old) memory.now
+        marks.now
+        ≡ outcome_of result registers.new memory.now }
     ensures kept { OnErr result (registers.new ≡ registers.old) }
 {
     let workspace = registers.a;
@@ -99,7 +101,8 @@ pub fn call(
     marks: &Marks,
     operand: Word,
 ) -> Result<Next, Break>
-    ensures done { run (function_effect function.Call operand registers.old) memory.old marks.now ≡ outcome_of result registers.new memory.new }
+    ensures done { run (function_effect function.Call operand registers.old) memory.old marks.now
+        ≡ outcome_of result registers.new memory.new }
     ensures kept { OnErr result ((memory.new ≡ memory.old) × (registers.new ≡ registers.old)) }
     ensures sized { length memory.new ≡ length memory.old }
 {
@@ -149,7 +152,8 @@ pub fn return_from_call(
     memory: &Memory,
     marks: &Marks,
 ) -> Result<Next, Break>
-    ensures done { run (local_or_left (operation_effect op.Ret registers.old) op.Ret registers.old) memory.now marks.now ≡ outcome_of result registers.new memory.now }
+    ensures done { run (local_or_left (operation_effect op.Ret registers.old) op.Ret registers.old) memory.now marks.now
+        ≡ outcome_of result registers.new memory.now }
     ensures kept { OnErr result (registers.new ≡ registers.old) }
 {
     registers.iptr = memory.read_word(marks, registers.wptr)?;
@@ -157,7 +161,8 @@ pub fn return_from_call(
     Ok(Next::Go)
 }
 
-/// `lend`: the count falls, and while it is above 0 the index rises and the loop goes round again. The test is on the
+/// `lend`: the count falls, and while it is above 0 the index rises and the loop goes round again. The test is on
+/// the
 /// wrapped count (own choice).
 ///
 /// # Errors
@@ -168,7 +173,9 @@ pub fn loop_end(
     memory: &mut Memory,
     marks: &Marks,
 ) -> Result<Next, Break>
-    ensures done { run (local_or_left (operation_effect op.Lend registers.old) op.Lend registers.old) memory.old marks.now ≡ outcome_of result registers.new memory.new }
+    ensures done { run (local_or_left (operation_effect op.Lend registers.old) op.Lend registers.old) memory.old
+        marks.now
+        ≡ outcome_of result registers.new memory.new }
     ensures kept { OnErr result ((memory.new ≡ memory.old) × (registers.new ≡ registers.old)) }
     ensures sized { length memory.new ≡ length memory.old }
 {
@@ -198,7 +205,8 @@ pub fn loop_end(
 pub fn falling_count(registers: &Registers, memory: &Memory, marks: &Marks) -> Result<Word, Break>
     ensures count { result ≡ or_break (
         first_break (word_break (length memory.now) marks.now Writes (plus registers.now.b 4))
-        (word_break (length memory.now) marks.now Writes registers.now.b)) (minus (word_at memory.now (plus registers.now.b 4)) 1) }
+        (word_break (length memory.now) marks.now Writes registers.now.b))
+        (minus (word_at memory.now (plus registers.now.b 4)) 1) }
     ensures count_inside { OnOk result (is_inside (length memory.now) (word_span (plus registers.now.b 4)) ≡ true) }
     ensures index_inside { OnOk result (is_inside (length memory.now) (word_span registers.now.b) ≡ true) }
 {

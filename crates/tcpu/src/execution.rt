@@ -13,7 +13,8 @@ use crate::{
 use tcode::{Function, Instruction, Operation, operation_of};
 use tword::{Break, Marks, Memory, Word};
 
-/// Does an instruction, as the tables of the Compiler Writer's Guide say, or leaves an operation to the scheduler with
+/// Does an instruction, as the tables of the Compiler Writer's Guide say, or leaves an operation to the scheduler
+/// with
 /// nothing changed.
 ///
 /// # Errors
@@ -28,7 +29,8 @@ pub fn local(
     marks: &Marks,
     instruction: Instruction,
 ) -> Result<Next, Break>
-    ensures done { run (effect instruction registers.old) memory.old marks.now ≡ outcome_of result registers.new memory.new }
+    ensures done { run (effect instruction registers.old) memory.old marks.now
+        ≡ outcome_of result registers.new memory.new }
     ensures kept { OnErr result ((memory.new ≡ memory.old) × (registers.new ≡ registers.old)) }
     ensures left { IfOk result (λ next. StandsWhereLeft next memory.old registers.old memory.new registers.new) }
     ensures sized { length memory.new ≡ length memory.old }
@@ -56,7 +58,8 @@ fn act(
     function: Function,
     operand: Word,
 ) -> Result<Next, Break>
-    ensures done { run (effect_at function operand (record registers.old { iptr = start }) registers.old) memory.old marks.now ≡ outcome_of result registers.new memory.new }
+    ensures done { run (effect_at function operand (record registers.old { iptr = start }) registers.old) memory.old
+        marks.now ≡ outcome_of result registers.new memory.new }
     ensures kept { OnErr result ((memory.new ≡ memory.old) × (registers.new ≡ registers.old)) }
     ensures sized { length memory.new ≡ length memory.old }
 {
@@ -91,7 +94,8 @@ fn operate(
     start: Word,
     operation: Operation,
 ) -> Result<Next, Break>
-    ensures done { run (local_or_left (operation_effect operation registers.old) operation (record registers.old { iptr = start })) memory.old marks.now ≡ outcome_of result registers.new memory.new }
+    ensures done { run (local_or_left (operation_effect operation registers.old) operation
+        (record registers.old { iptr = start })) memory.old marks.now ≡ outcome_of result registers.new memory.new }
     ensures kept { OnErr result ((memory.new ≡ memory.old) × (registers.new ≡ registers.old)) }
     ensures sized { length memory.new ≡ length memory.old }
 {

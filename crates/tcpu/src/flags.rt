@@ -7,7 +7,7 @@ ghost use Rattle.tword.specs.Actions.{answer};
 ghost use Rattle.tcpu.specs.Operations.{operation_effect};
 
 use crate::registers::{Next, Registers};
-use crate::words::truth;
+use crate::word_arithmetic::truth;
 use tword::Word;
 
 /// `seterr`: sets Error

@@ -8,7 +8,7 @@ ghost use Rattle.tcpu.specs.Operations.{operation_effect};
 
 use crate::control::{falling_count, may_call};
 use crate::registers::Registers;
-use crate::words::{is_word_address, word_address};
+use crate::word_arithmetic::{is_word_address, word_address};
 use tcode::{Function, Instruction, Operation, operation_of};
 use tword::{Break, Marks, Memory};
 
@@ -70,7 +70,10 @@ fn operation_jumps(
     marks: &Marks,
     operation: Operation,
 ) -> Result<bool, Break>
-    ensures { (next : ℕ) → result ≡ would_jump (run (local_or_left (operation_effect operation (record registers.now { iptr = next })) operation registers.now) memory.now marks.now) }
+    ensures { (next : ℕ)
+        → result ≡ would_jump
+        (run (local_or_left (operation_effect operation (record registers.now { iptr = next })) operation
+        registers.now) memory.now marks.now) }
 {
     match operation {
         Operation::Lb => {

@@ -7,7 +7,7 @@ ghost use Rattle.tword.specs.Actions.{answer};
 ghost use Rattle.tcpu.specs.Operations.{operation_effect};
 
 use crate::registers::{Next, Registers};
-use crate::words::{
+use crate::word_arithmetic::{
     carry, double_word, high_word, long_quotient, low_word, normalised, signed_difference_with,
     signed_sum_with, truth,
 };

@@ -11,7 +11,7 @@ ghost use Rattle.tcpu.specs.Local.{outcome_of};
 ghost use Rattle.tcpu.specs.Operations.{operation_effect};
 
 use crate::registers::{Next, Registers};
-use crate::words::word_address;
+use crate::word_arithmetic::word_address;
 use tword::{Break, Marks, Memory, Word};
 
 /// `ldl`: pushes a word of the workspace
@@ -25,7 +25,8 @@ pub fn load_local(
     marks: &Marks,
     operand: Word,
 ) -> Result<Next, Break>
-    ensures done { run (function_effect function.Ldl operand registers.old) memory.now marks.now ≡ outcome_of result registers.new memory.now }
+    ensures done { run (function_effect function.Ldl operand registers.old) memory.now marks.now
+        ≡ outcome_of result registers.new memory.now }
     ensures kept { OnErr result (registers.new ≡ registers.old) }
 {
     let value = memory.read_word(marks, word_address(registers.wptr, operand))?;
@@ -44,7 +45,8 @@ pub fn load_non_local(
     marks: &Marks,
     operand: Word,
 ) -> Result<Next, Break>
-    ensures done { run (function_effect function.Ldnl operand registers.old) memory.now marks.now ≡ outcome_of result registers.new memory.now }
+    ensures done { run (function_effect function.Ldnl operand registers.old) memory.now marks.now
+        ≡ outcome_of result registers.new memory.now }
     ensures kept { OnErr result (registers.new ≡ registers.old) }
 {
     let value = memory.read_word(marks, word_address(registers.a, operand))?;
@@ -63,7 +65,8 @@ pub fn store_local(
     marks: &Marks,
     operand: Word,
 ) -> Result<Next, Break>
-    ensures done { run (function_effect function.Stl operand registers.old) memory.old marks.now ≡ outcome_of result registers.new memory.new }
+    ensures done { run (function_effect function.Stl operand registers.old) memory.old marks.now
+        ≡ outcome_of result registers.new memory.new }
     ensures kept { OnErr result ((memory.new ≡ memory.old) × (registers.new ≡ registers.old)) }
     ensures sized { length memory.new ≡ length memory.old }
 {
@@ -83,7 +86,8 @@ pub fn store_non_local(
     marks: &Marks,
     operand: Word,
 ) -> Result<Next, Break>
-    ensures done { run (function_effect function.Stnl operand registers.old) memory.old marks.now ≡ outcome_of result registers.new memory.new }
+    ensures done { run (function_effect function.Stnl operand registers.old) memory.old marks.now
+        ≡ outcome_of result registers.new memory.new }
     ensures kept { OnErr result ((memory.new ≡ memory.old) × (registers.new ≡ registers.old)) }
     ensures sized { length memory.new ≡ length memory.old }
 {
@@ -99,7 +103,8 @@ pub fn store_non_local(
 /// The break of a read of the byte.
 #[inline(always)]
 pub fn load_byte(registers: &mut Registers, memory: &Memory, marks: &Marks) -> Result<Next, Break>
-    ensures done { run (local_or_left (operation_effect op.Lb registers.old) op.Lb registers.old) memory.now marks.now ≡ outcome_of result registers.new memory.now }
+    ensures done { run (local_or_left (operation_effect op.Lb registers.old) op.Lb registers.old) memory.now marks.now
+        ≡ outcome_of result registers.new memory.now }
     ensures kept { OnErr result (registers.new ≡ registers.old) }
 {
     let value = memory.read_byte(marks, registers.a)?;
@@ -117,7 +122,8 @@ pub fn store_byte(
     memory: &mut Memory,
     marks: &Marks,
 ) -> Result<Next, Break>
-    ensures done { run (local_or_left (operation_effect op.Sb registers.old) op.Sb registers.old) memory.old marks.now ≡ outcome_of result registers.new memory.new }
+    ensures done { run (local_or_left (operation_effect op.Sb registers.old) op.Sb registers.old) memory.old marks.now
+        ≡ outcome_of result registers.new memory.new }
     ensures kept { OnErr result ((memory.new ≡ memory.old) × (registers.new ≡ registers.old)) }
     ensures sized { length memory.new ≡ length memory.old }
 {
@@ -138,7 +144,9 @@ pub fn move_bytes(
     memory: &mut Memory,
     marks: &Marks,
 ) -> Result<Next, Break>
-    ensures done { run (local_or_left (operation_effect op.Move registers.old) op.Move registers.old) memory.old marks.now ≡ outcome_of result registers.new memory.new }
+    ensures done { run (local_or_left (operation_effect op.Move registers.old) op.Move registers.old) memory.old
+        marks.now
+        ≡ outcome_of result registers.new memory.new }
     ensures kept { OnErr result ((memory.new ≡ memory.old) × (registers.new ≡ registers.old)) }
     ensures sized { length memory.new ≡ length memory.old }
 {

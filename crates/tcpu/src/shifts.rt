@@ -7,7 +7,7 @@ ghost use Rattle.tword.specs.Actions.{answer};
 ghost use Rattle.tcpu.specs.Operations.{operation_effect};
 
 use crate::registers::{Next, Registers};
-use crate::words::{double_word, high_word, low_word};
+use crate::word_arithmetic::{double_word, high_word, low_word};
 use tword::Word;
 
 /// `shr`: with zeros from the left

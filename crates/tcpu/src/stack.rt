@@ -9,8 +9,9 @@ ghost use Rattle.tcpu.specs.Functions.{function_effect};
 ghost use Rattle.tcpu.specs.Operations.{operation_effect};
 
 use crate::registers::{Next, Registers};
-use crate::words::word_address;
+use crate::word_arithmetic::word_address;
 use tword::Word;
+use tword::limits::MOST_NEG;
 
 /// `ldc`: pushes the operand
 #[inline]
@@ -43,7 +44,7 @@ pub fn load_non_local_pointer(registers: &mut Registers, operand: Word) -> Next
 pub fn minimum_integer(registers: &mut Registers) -> Next
     ensures { operation_effect op.Mint registers.old ≡ Some (answer (registers.new, result)) }
 {
-    registers.push(Word::new(0x8000_0000));
+    registers.push(Word::new(MOST_NEG));
     Next::Go
 }
 

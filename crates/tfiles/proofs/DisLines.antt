@@ -1,5 +1,6 @@
 -- The lines of a disassembly, one after another.
-use Rattle.std.proofs.Common.{◌≡◌, ℕ, zero, suc, ℤ, pos, ◌+◌, ◌-◌, ◌<◌, ◌≤◌, refl, sym, ap, ◌∙◌, List, [], ◌∷◌, ◌++◌, length, drop, Bool, true, false, Some, None, Result, Ok, Err, arith}
+use Rattle.std.proofs.Common.{◌≡◌, ℕ, zero, suc, ℤ, pos, ◌+◌, ◌-◌, ◌<◌, ◌≤◌, refl, sym, ap, ◌∙◌, List, [], ◌∷◌, ◌++◌}
+use Rattle.std.proofs.Common.{length, drop, Bool, true, false, Some, None, Result, Ok, Err, arith}
 use Rattle.std.specs.Prelude.{if◌then◌else◌, slice_get}
 use Rattle.std.proofs.lemmas.List.{length-drop}
 use Rattle.tword.specs.Words.{plus}
@@ -15,29 +16,37 @@ use Rattle.tfiles.specs.Disassembly.{at_address, head_text, head_size, dis_lines
 abbrev pub EndsWithin : ℕ → List ℕ → Instruction → Type 0
 EndsWithin had bytes i = (had < i.length) × (i.length ≤ had + length bytes)
 
-listed_within : (b : Bool) (f : Function) (value : ℤ) (had byte : ℕ) (bytes : List ℕ) (i : Instruction) → (if b then Ok (instruction f value (suc had)) else Err fault.NoSuchOperation) ≡ Ok i
+listed_within : (b : Bool) (f : Function) (value : ℤ) (had byte : ℕ) (bytes : List ℕ) (i : Instruction)
+    → (if b then Ok (instruction f value (suc had)) else Err fault.NoSuchOperation) ≡ Ok i
     → EndsWithin had (byte ∷ bytes) i
 listed_within true f value had byte bytes i h = let e : suc had ≡ i.length = cc in (omega arith, omega arith)
 listed_within false f value had byte bytes i h = cc
 
 part_within : (rest : ℤ → Result Instruction DecodeFault) (p : Part) (had byte : ℕ) (bytes : List ℕ) (i : Instruction)
-    → ((value : ℤ) → rest value ≡ Ok i → EndsWithin (suc had) bytes i) → complete_in rest (suc had) p ≡ Ok i → EndsWithin had (byte ∷ bytes) i
-part_within rest (More value) had byte bytes i later h = let k : EndsWithin (suc had) bytes i = later value h in (omega (arith, k.0), omega (arith, k.1))
+    → ((value : ℤ) → rest value ≡ Ok i → EndsWithin (suc had) bytes i) → complete_in rest (suc had) p ≡ Ok i
+    → EndsWithin had (byte ∷ bytes) i
+part_within rest (More value) had byte bytes i later h = let k : EndsWithin (suc had) bytes i = later value h in
+    (omega (arith, k.0), omega (arith, k.1))
 part_within rest (Last f value) had byte bytes i later h = listed_within (is_listed f value) f value had byte bytes i h
 
-fetched_within : (left had : ℕ) (bytes : List ℕ) (value : ℤ) (i : Instruction) → fetch_in left had bytes value ≡ Ok i → EndsWithin had bytes i
+fetched_within : (left had : ℕ) (bytes : List ℕ) (value : ℤ) (i : Instruction) → fetch_in left had bytes value ≡ Ok i
+    → EndsWithin had bytes i
 fetched_within zero had bytes value i h = cc
 fetched_within (suc left) had [] value i h = cc
 fetched_within (suc left) had (byte ∷ bytes) value i h =
-    part_within (fetch_in left (suc had) bytes) (part value byte) had byte bytes i (λ v k. fetched_within left (suc had) bytes v i k) h
+    part_within (fetch_in left (suc had) bytes) (part value byte) had byte bytes i
+    (λ v k. fetched_within left (suc had) bytes v i k) h
 
 -- a line has a byte or more, and no more than there are
-pub head_within : (byte : ℕ) (bytes : List ℕ) (head : Result Instruction DecodeFault) → head ≡ decode_bytes (byte ∷ bytes) → (0 < head_size head) × (head_size head ≤ length (byte ∷ bytes))
-head_within byte bytes (Ok i) e = let k : EndsWithin 0 (byte ∷ bytes) i = fetched_within 16 0 (byte ∷ bytes) (pos 0) i (sym e) in (k.0, omega (arith, k.1))
+pub head_within : (byte : ℕ) (bytes : List ℕ) (head : Result Instruction DecodeFault)
+    → head ≡ decode_bytes (byte ∷ bytes) → (0 < head_size head) × (head_size head ≤ length (byte ∷ bytes))
+head_within byte bytes (Ok i) e = let k : EndsWithin 0 (byte ∷ bytes) i =
+    fetched_within 16 0 (byte ∷ bytes) (pos 0) i (sym e) in (k.0, omega (arith, k.1))
 head_within byte bytes (Err fault) e = (omega arith, omega arith)
 
 -- there are no more lines than bytes
-enough : (n m address : ℕ) (bytes : List ℕ) → length bytes ≤ n → length bytes ≤ m → dis_lines n address bytes ≡ dis_lines m address bytes
+enough : (n m address : ℕ) (bytes : List ℕ) → length bytes ≤ n → length bytes ≤ m
+    → dis_lines n address bytes ≡ dis_lines m address bytes
 unfolding dis_lines
 enough zero zero address [] k l = refl
 enough zero (suc m) address [] k l = refl
@@ -56,31 +65,41 @@ enough (suc n) (suc m) address (byte ∷ bytes) k l =
 abbrev pub lines_at : ℕ → List ℕ → List ℕ
 lines_at address bytes = dis_lines (length bytes) address bytes
 
-pub lines_at-next : (address byte : ℕ) (bytes : List ℕ) (head : Result Instruction DecodeFault) → head ≡ decode_bytes (byte ∷ bytes)
-    → lines_at address (byte ∷ bytes) ≡ at_address address (head_text head byte) ++ lines_at (plus address (head_size head)) (drop (head_size head) (byte ∷ bytes))
+pub lines_at-next : (address byte : ℕ) (bytes : List ℕ) (head : Result Instruction DecodeFault)
+    → head ≡ decode_bytes (byte ∷ bytes)
+    → lines_at address (byte ∷ bytes) ≡ at_address address (head_text head byte)
+    ++ lines_at (plus address (head_size head)) (drop (head_size head) (byte ∷ bytes))
 unfolding dis_lines
 lines_at-next address byte bytes head e =
     let some = head_within byte bytes head e in
-    let left : length (drop (head_size head) (byte ∷ bytes)) ≡ length (byte ∷ bytes) - head_size head = length-drop (head_size head) (byte ∷ bytes) in
-    ap (λ (h : Result Instruction DecodeFault). at_address address (head_text h byte) ++ dis_lines (length bytes) (plus address (head_size h)) (drop (head_size h) (byte ∷ bytes))) (sym e)
+    let left : length (drop (head_size head) (byte ∷ bytes)) ≡ length (byte ∷ bytes) - head_size head =
+    length-drop (head_size head) (byte ∷ bytes) in
+    ap (λ (h : Result Instruction DecodeFault). at_address address (head_text h byte)
+    ++ dis_lines (length bytes) (plus address (head_size h)) (drop (head_size h) (byte ∷ bytes))) (sym e)
     ∙ ap (λ (ls : List ℕ). at_address address (head_text head byte) ++ ls)
-    (enough (length bytes) (length (drop (head_size head) (byte ∷ bytes))) (plus address (head_size head)) (drop (head_size head) (byte ∷ bytes)) (omega (arith, some.0)) (omega arith))
+    (enough (length bytes) (length (drop (head_size head) (byte ∷ bytes))) (plus address (head_size head))
+    (drop (head_size head) (byte ∷ bytes)) (omega (arith, some.0)) (omega arith))
 
 pub lines_at-end : (address : ℕ) → lines_at address [] ≡ []
 unfolding dis_lines
 lines_at-end address = refl
 
 -- the same, where the first byte is known
-pub first_within : (bytes : List ℕ) (byte : ℕ) (head : Result Instruction DecodeFault) → Some byte ≡ slice_get bytes 0 → head ≡ decode_bytes bytes → (0 < head_size head) × (head_size head ≤ length bytes)
+pub first_within : (bytes : List ℕ) (byte : ℕ) (head : Result Instruction DecodeFault) → Some byte ≡ slice_get bytes 0
+    → head ≡ decode_bytes bytes → (0 < head_size head) × (head_size head ≤ length bytes)
 first_within [] byte head f e = cc
 first_within (b ∷ bytes) byte head f e = head_within b bytes head e
 
-pub first_line : (address : ℕ) (bytes : List ℕ) (byte : ℕ) (head : Result Instruction DecodeFault) → Some byte ≡ slice_get bytes 0 → head ≡ decode_bytes bytes
-    → lines_at address bytes ≡ at_address address (head_text head byte) ++ lines_at (plus address (head_size head)) (drop (head_size head) bytes)
+pub first_line : (address : ℕ) (bytes : List ℕ) (byte : ℕ) (head : Result Instruction DecodeFault)
+    → Some byte ≡ slice_get bytes 0 → head ≡ decode_bytes bytes
+    → lines_at address bytes ≡ at_address address (head_text head byte)
+    ++ lines_at (plus address (head_size head)) (drop (head_size head) bytes)
 first_line address [] byte head f e = cc
 first_line address (b ∷ bytes) byte head f e =
     let same : b ≡ byte = cc in
-    lines_at-next address b bytes head e ∙ ap (λ (x : ℕ). at_address address (head_text head x) ++ lines_at (plus address (head_size head)) (drop (head_size head) (b ∷ bytes))) same
+    lines_at-next address b bytes head e
+    ∙ ap (λ (x : ℕ). at_address address (head_text head x)
+    ++ lines_at (plus address (head_size head)) (drop (head_size head) (b ∷ bytes))) same
 
 pub no_line : (address : ℕ) (bytes : List ℕ) → None ≡ slice_get bytes 0 → lines_at address bytes ≡ []
 no_line address [] f = lines_at-end address

@@ -1,5 +1,7 @@
 -- The lines of a dump, byte by byte and line by line.
-use Rattle.std.proofs.Common.{◌≡◌, ℕ, zero, suc, ◌+◌, ◌*◌, ◌-◌, ◌<◌, ◌≤◌, refl, sym, ap, ap₂, ◌∙◌, List, [], ◌∷◌, ◌++◌, length, get_or, take, drop, flat_map, min, Bool, true, false, ◌⊎◌, inl, inr, Option, Some, None, arith, add-one, drop-cons}
+use Rattle.std.proofs.Common.{◌≡◌, ℕ, zero, suc, ◌+◌, ◌*◌, ◌-◌, ◌<◌, ◌≤◌, refl, sym, ap, ap₂, ◌∙◌, List, [], ◌∷◌, ◌++◌}
+use Rattle.std.proofs.Common.{length, get_or, take, drop, flat_map, min, Bool, true, false, ◌⊎◌, inl, inr, Option, Some}
+use Rattle.std.proofs.Common.{None, arith, add-one, drop-cons}
 use Rattle.std.specs.Prelude.{codes, if◌then◌else◌, ◌&&◌, ◌||◌, nat_lt, slice_range}
 use Rattle.std.specs.Int.{div_ceil, to_be_bytes, w32}
 use Rattle.hex.specs.Hex.{encode_lower}
@@ -21,47 +23,60 @@ cell_of t a b = if t a then None else Some b
 
 -- the cells of bytes, from one of them on
 pub cells_next : (t : ℕ → Bool) (a i : ℕ) (bytes : List ℕ) → i < length bytes
-    → hiding_from t (a + i) (as_cells (drop i bytes)) ≡ cell_of t (a + i) (get_or bytes i 0) ∷ hiding_from t (a + (i + 1)) (as_cells (drop (i + 1) bytes))
+    → hiding_from t (a + i) (as_cells (drop i bytes)) ≡ cell_of t (a + i) (get_or bytes i 0)
+    ∷ hiding_from t (a + (i + 1)) (as_cells (drop (i + 1) bytes))
 cells_next t a i bytes l =
     let e : suc (a + i) ≡ a + (i + 1) = omega arith in
     ap (λ (xs : List ℕ). hiding_from t (a + i) (as_cells xs)) (drop-cons bytes i 0 l)
-    ∙ ap₂ (λ (b j : ℕ). cell_of t (a + i) (get_or bytes i 0) ∷ hiding_from t b (as_cells (drop j bytes))) e (sym (add-one i))
+    ∙ ap₂ (λ (b j : ℕ). cell_of t (a + i) (get_or bytes i 0) ∷ hiding_from t b (as_cells (drop j bytes))) e
+    (sym (add-one i))
 
-pub cells_end : (t : ℕ → Bool) (a i : ℕ) (bytes : List ℕ) → length bytes ≤ i → hiding_from t a (as_cells (drop i bytes)) ≡ []
+pub cells_end : (t : ℕ → Bool) (a i : ℕ) (bytes : List ℕ) → length bytes ≤ i
+    → hiding_from t a (as_cells (drop i bytes)) ≡ []
 cells_end t a i bytes l = ap (λ (xs : List ℕ). hiding_from t a (as_cells xs)) (drop_of_length-le bytes l)
 
 pub all_zero_next : (t : ℕ → Bool) (a i : ℕ) (bytes : List ℕ) → i < length bytes
     → list_all is_zero (hiding_from t (a + i) (as_cells (drop i bytes)))
-    ≡ (is_zero (cell_of t (a + i) (get_or bytes i 0)) && list_all is_zero (hiding_from t (a + (i + 1)) (as_cells (drop (i + 1) bytes))))
+    ≡ (is_zero (cell_of t (a + i) (get_or bytes i 0)) && list_all is_zero
+    (hiding_from t (a + (i + 1)) (as_cells (drop (i + 1) bytes))))
 all_zero_next t a i bytes l = ap (λ (s : Store). list_all is_zero s) (cells_next t a i bytes l)
 
-pub all_zero_end : (t : ℕ → Bool) (a i : ℕ) (bytes : List ℕ) → length bytes ≤ i → list_all is_zero (hiding_from t a (as_cells (drop i bytes))) ≡ true
+pub all_zero_end : (t : ℕ → Bool) (a i : ℕ) (bytes : List ℕ) → length bytes ≤ i
+    → list_all is_zero (hiding_from t a (as_cells (drop i bytes))) ≡ true
 all_zero_end t a i bytes l = ap (λ (s : Store). list_all is_zero s) (cells_end t a i bytes l)
 
 pub cells_text_next : (t : ℕ → Bool) (a i : ℕ) (bytes : List ℕ) → i < length bytes
     → flat_map cell_text (hiding_from t (a + i) (as_cells (drop i bytes)))
-    ≡ cell_text (cell_of t (a + i) (get_or bytes i 0)) ++ flat_map cell_text (hiding_from t (a + (i + 1)) (as_cells (drop (i + 1) bytes)))
+    ≡ cell_text (cell_of t (a + i) (get_or bytes i 0))
+    ++ flat_map cell_text (hiding_from t (a + (i + 1)) (as_cells (drop (i + 1) bytes)))
 cells_text_next t a i bytes l = ap (λ (s : Store). flat_map cell_text s) (cells_next t a i bytes l)
 
-pub cells_text_end : (t : ℕ → Bool) (a i : ℕ) (bytes : List ℕ) → length bytes ≤ i → flat_map cell_text (hiding_from t a (as_cells (drop i bytes))) ≡ []
+pub cells_text_end : (t : ℕ → Bool) (a i : ℕ) (bytes : List ℕ) → length bytes ≤ i
+    → flat_map cell_text (hiding_from t a (as_cells (drop i bytes))) ≡ []
 cells_text_end t a i bytes l = ap (λ (s : Store). flat_map cell_text s) (cells_end t a i bytes l)
 
 -- cells are hidden by what a test says of their addresses alone
-pub hiding_from-same : (s t : ℕ → Bool) (a : ℕ) (cells : Store) → ((k : ℕ) → a ≤ k → k < a + length cells → s k ≡ t k) → hiding_from s a cells ≡ hiding_from t a cells
+pub hiding_from-same : (s t : ℕ → Bool) (a : ℕ) (cells : Store) → ((k : ℕ) → a ≤ k → k < a + length cells → s k ≡ t k)
+    → hiding_from s a cells ≡ hiding_from t a cells
 hiding_from-same s t a [] h = refl
 hiding_from-same s t a (cell ∷ cells) h =
     let here : s a ≡ t a = h a (omega arith) (omega arith) in
-    ap₂ (λ (b : Bool) (rest : Store). (if b then None else cell) ∷ rest) here (hiding_from-same s t (suc a) cells (λ k l m. h k (omega arith) (omega arith)))
+    ap₂ (λ (b : Bool) (rest : Store). (if b then None else cell) ∷ rest) here
+    (hiding_from-same s t (suc a) cells (λ k l m. h k (omega arith) (omega arith)))
 
-pub drop-hiding_from : (t : ℕ → Bool) (n a : ℕ) (cells : Store) → drop n (hiding_from t a cells) ≡ hiding_from t (a + n) (drop n cells)
+pub drop-hiding_from : (t : ℕ → Bool) (n a : ℕ) (cells : Store)
+    → drop n (hiding_from t a cells) ≡ hiding_from t (a + n) (drop n cells)
 drop-hiding_from t zero a cells = ap (λ (b : ℕ). hiding_from t b cells) (omega arith)
 drop-hiding_from t (suc n) a [] = refl
-drop-hiding_from t (suc n) a (cell ∷ cells) = drop-hiding_from t n (suc a) cells ∙ ap (λ (b : ℕ). hiding_from t b (drop n cells)) (omega arith)
+drop-hiding_from t (suc n) a (cell ∷ cells) = drop-hiding_from t n (suc a) cells
+    ∙ ap (λ (b : ℕ). hiding_from t b (drop n cells)) (omega arith)
 
-pub take-hiding_from : (t : ℕ → Bool) (n a : ℕ) (cells : Store) → take n (hiding_from t a cells) ≡ hiding_from t a (take n cells)
+pub take-hiding_from : (t : ℕ → Bool) (n a : ℕ) (cells : Store)
+    → take n (hiding_from t a cells) ≡ hiding_from t a (take n cells)
 take-hiding_from t zero a cells = refl
 take-hiding_from t (suc n) a [] = refl
-take-hiding_from t (suc n) a (cell ∷ cells) = ap (λ (rest : Store). (if t a then None else cell) ∷ rest) (take-hiding_from t n (suc a) cells)
+take-hiding_from t (suc n) a (cell ∷ cells) =
+    ap (λ (rest : Store). (if t a then None else cell) ∷ rest) (take-hiding_from t n (suc a) cells)
 
 -- no cells, no lines
 pub dump_lines-none : (n a : ℕ) → dump_lines n a [] ≡ []
@@ -73,7 +88,8 @@ length-hiding_from t a [] = refl
 length-hiding_from t a (cell ∷ cells) = ap suc (length-hiding_from t (suc a) cells)
 
 -- a byte of a span has nothing in common with what the span has nothing in common with
-byte_apart : (a n k : ℕ) (p : Option Span) → a ≤ k → k < a + n → overlaps_claim (record { start = a; size = n }) p ≡ false → overlaps_claim (byte_span k) p ≡ false
+byte_apart : (a n k : ℕ) (p : Option Span) → a ≤ k → k < a + n
+    → overlaps_claim (record { start = a; size = n }) p ≡ false → overlaps_claim (byte_span k) p ≡ false
 byte_apart a n k None l m h = refl
 byte_apart a n k (Some s) l m h = by (overlap (byte_span k) s) refl
   where
@@ -92,26 +108,35 @@ byte_apart a n k (Some s) l m h = by (overlap (byte_span k) s) refl
         let t : overlap (record { start = a; size = n }) s ≡ true = grind (arith, h1, h2, h3, h4) in
         absurd (both_ways (overlap (record { start = a; size = n }) s) h t)
 
-none_pending : (a n k : ℕ) (pending : List (Option Span)) → a ≤ k → k < a + n → list_any (overlaps_claim (record { start = a; size = n })) pending ≡ false → is_pending pending k ≡ false
+none_pending : (a n k : ℕ) (pending : List (Option Span)) → a ≤ k → k < a + n
+    → list_any (overlaps_claim (record { start = a; size = n })) pending ≡ false → is_pending pending k ≡ false
 none_pending a n k [] l m h = refl
 none_pending a n k (p ∷ ps) l m h =
-    let parts = or_parts (overlaps_claim (record { start = a; size = n }) p) (list_any (overlaps_claim (record { start = a; size = n })) ps) h in
+    let parts = or_parts (overlaps_claim (record { start = a; size = n }) p)
+    (list_any (overlaps_claim (record { start = a; size = n })) ps) h in
     ap₂ (λ (x y : Bool). x || y) (byte_apart a n k p l m parts.0) (none_pending a n k ps l m parts.1)
 
 -- where no pending input has a byte of the line, its cells are as if none were pending
-pub shown_same : (pending : List (Option Span)) (a : ℕ) (bytes : List ℕ) → list_any (overlaps_claim (record { start = a; size = length bytes })) pending ≡ false
+pub shown_same : (pending : List (Option Span)) (a : ℕ) (bytes : List ℕ)
+    → list_any (overlaps_claim (record { start = a; size = length bytes })) pending ≡ false
     → hiding_from (is_pending []) a (as_cells bytes) ≡ hiding_from (is_pending pending) a (as_cells bytes)
 shown_same pending a bytes h =
     let same : length (as_cells bytes) ≡ length bytes = length-map bytes Some in
-    hiding_from-same (is_pending []) (is_pending pending) a (as_cells bytes) (λ k l m. sym (none_pending a (length bytes) k pending l (omega (arith, same)) h))
+    hiding_from-same (is_pending []) (is_pending pending) a (as_cells bytes)
+    (λ k l m. sym (none_pending a (length bytes) k pending l (omega (arith, same)) h))
 
 -- a line of zeros is left out
 pub line_left_out : (a : ℕ) (cells : Store) → true ≡ list_all is_zero cells → [] ≡ dump_line a cells
-line_left_out a cells e = ap (λ (z : Bool). if z then [] else line (encode_lower (to_be_bytes w32 a) ++ (codes ":" ++ flat_map cell_text cells))) e
+line_left_out a cells e =
+    ap (λ (z : Bool). if z then [] else line
+    (encode_lower (to_be_bytes w32 a) ++ (codes ":" ++ flat_map cell_text cells))) e
 
 -- any other is not
-pub line_shown : (a : ℕ) (cells : Store) → false ≡ list_all is_zero cells → line (encode_lower (to_be_bytes w32 a) ++ (codes ":" ++ flat_map cell_text cells)) ≡ dump_line a cells
-line_shown a cells e = ap (λ (z : Bool). if z then [] else line (encode_lower (to_be_bytes w32 a) ++ (codes ":" ++ flat_map cell_text cells))) e
+pub line_shown : (a : ℕ) (cells : Store) → false ≡ list_all is_zero cells
+    → line (encode_lower (to_be_bytes w32 a) ++ (codes ":" ++ flat_map cell_text cells)) ≡ dump_line a cells
+line_shown a cells e =
+    ap (λ (z : Bool). if z then [] else line
+    (encode_lower (to_be_bytes w32 a) ++ (codes ":" ++ flat_map cell_text cells))) e
 
 -- the lines of a store, from one of them on
 abbrev pub lines_from : ℕ → Store → List ℕ
@@ -122,7 +147,9 @@ lines_begin store = ap₂ (λ (n a : ℕ). dump_lines n a store) (omega arith) (
 
 -- a line of bytes
 abbrev pub line_of : (ℕ → Bool) → ℕ → List ℕ → List ℕ
-line_of t k bytes = dump_line (most_neg + 16 * k) (hiding_from t (most_neg + 16 * k) (as_cells (slice_range bytes (16 * k) (min (length bytes) (16 * k + 16)))))
+line_of t k bytes =
+    dump_line (most_neg + 16 * k)
+    (hiding_from t (most_neg + 16 * k) (as_cells (slice_range bytes (16 * k) (min (length bytes) (16 * k + 16)))))
 
 pub is_within : (n k lines : ℕ) → lines ≡ div_ceil n 16 → k < lines → 16 * k < n
 is_within n k lines e l = grind (arith, e)
@@ -133,32 +160,40 @@ is_behind n k lines e l = grind (arith, e)
 sixteen : (s : ℕ) (bytes : List ℕ) → slice_range bytes s (min (length bytes) (s + 16)) ≡ take 16 (drop s bytes)
 sixteen s bytes = by (cases_lt (length bytes) (s + 16))
   where
-    by : (length bytes < s + 16) ⊎ (s + 16 ≤ length bytes) → slice_range bytes s (min (length bytes) (s + 16)) ≡ take 16 (drop s bytes)
+    by : (length bytes < s + 16) ⊎ (s + 16 ≤ length bytes)
+        → slice_range bytes s (min (length bytes) (s + 16)) ≡ take 16 (drop s bytes)
     by (inl l) =
         let e : length (drop s bytes) ≡ length bytes - s = length-drop s bytes in
-        take_all (min (length bytes) (s + 16) - s) (drop s bytes) (omega (arith, e)) ∙ sym (take_all 16 (drop s bytes) (omega (arith, e)))
+        take_all (min (length bytes) (s + 16) - s) (drop s bytes) (omega (arith, e))
+        ∙ sym (take_all 16 (drop s bytes) (omega (arith, e)))
     by (inr l) = let e : min (length bytes) (s + 16) - s ≡ 16 = omega arith in ap (λ (n : ℕ). take n (drop s bytes)) e
 
 pub lines_next : (t : ℕ → Bool) (k : ℕ) (bytes : List ℕ) → 16 * k < length bytes
-    → lines_from k (hiding_from t most_neg (as_cells bytes)) ≡ line_of t k bytes ++ lines_from (k + 1) (hiding_from t most_neg (as_cells bytes))
+    → lines_from k (hiding_from t most_neg (as_cells bytes)) ≡ line_of t k bytes
+    ++ lines_from (k + 1) (hiding_from t most_neg (as_cells bytes))
 lines_next t k bytes l =
     let store : Store = hiding_from t most_neg (as_cells bytes) in
     let size : length store ≡ length bytes = length-hiding_from t most_neg (as_cells bytes) ∙ length-map bytes Some in
     let fuel : length store - k ≡ suc (length store - (k + 1)) = omega (arith, size) in
-    let cells : take 16 (drop (16 * k) store) ≡ hiding_from t (most_neg + 16 * k) (as_cells (slice_range bytes (16 * k) (min (length bytes) (16 * k + 16)))) =
-    ap (λ (s : Store). take 16 s) (drop-hiding_from t (16 * k) most_neg (as_cells bytes)) ∙ take-hiding_from t 16 (most_neg + 16 * k) (drop (16 * k) (as_cells bytes))
+    let cells : take 16 (drop (16 * k) store) ≡ hiding_from t (most_neg + 16 * k)
+    (as_cells (slice_range bytes (16 * k) (min (length bytes) (16 * k + 16)))) =
+    ap (λ (s : Store). take 16 s) (drop-hiding_from t (16 * k) most_neg (as_cells bytes))
+    ∙ take-hiding_from t 16 (most_neg + 16 * k) (drop (16 * k) (as_cells bytes))
     ∙ ap (λ (s : Store). hiding_from t (most_neg + 16 * k) (take 16 s)) (drop-map Some (16 * k) bytes)
     ∙ ap (λ (s : Store). hiding_from t (most_neg + 16 * k) s) (take-map Some 16 (drop (16 * k) bytes))
     ∙ ap (λ (s : List ℕ). hiding_from t (most_neg + 16 * k) (as_cells s)) (sym (sixteen (16 * k) bytes)) in
     let address : most_neg + 16 * k + 16 ≡ most_neg + 16 * (k + 1) = omega arith in
     let place : 16 * k + 16 ≡ 16 * (k + 1) = omega arith in
     ap (λ (n : ℕ). dump_lines n (most_neg + 16 * k) (drop (16 * k) store)) fuel
-    ∙ ap₂ (λ (s : Store) (rest : Store). dump_line (most_neg + 16 * k) s ++ dump_lines (length store - (k + 1)) (most_neg + 16 * k + 16) rest) cells (drop-drop 16 (16 * k) store)
+    ∙ ap₂ (λ (s : Store) (rest : Store). dump_line (most_neg + 16 * k) s
+    ++ dump_lines (length store - (k + 1)) (most_neg + 16 * k + 16) rest) cells (drop-drop 16 (16 * k) store)
     ∙ ap₂ (λ (a n : ℕ). line_of t k bytes ++ dump_lines (length store - (k + 1)) a (drop n store)) address place
 
-pub lines_end : (t : ℕ → Bool) (k : ℕ) (bytes : List ℕ) → length bytes ≤ 16 * k → lines_from k (hiding_from t most_neg (as_cells bytes)) ≡ []
+pub lines_end : (t : ℕ → Bool) (k : ℕ) (bytes : List ℕ) → length bytes ≤ 16 * k
+    → lines_from k (hiding_from t most_neg (as_cells bytes)) ≡ []
 lines_end t k bytes l =
     let store : Store = hiding_from t most_neg (as_cells bytes) in
     let size : length store ≡ length bytes = length-hiding_from t most_neg (as_cells bytes) ∙ length-map bytes Some in
-    ap (λ (s : Store). dump_lines (length store - k) (most_neg + 16 * k) s) (drop_of_length-le store (omega (arith, size)))
+    ap (λ (s : Store). dump_lines (length store - k) (most_neg + 16 * k) s)
+    (drop_of_length-le store (omega (arith, size)))
     ∙ dump_lines-none (length store - k) (most_neg + 16 * k)

@@ -36,7 +36,8 @@ dis_lines zero address bytes = []
 dis_lines (suc n) address [] = []
 dis_lines (suc n) address (byte ∷ bytes) =
     let head = decode_bytes (byte ∷ bytes) in
-    at_address address (head_text head byte) ++ dis_lines n (plus address (head_size head)) (drop (head_size head) (byte ∷ bytes))
+    at_address address (head_text head byte) ++ dis_lines n (plus address (head_size head))
+    (drop (head_size head) (byte ∷ bytes))
 
 -- the lines of a segment
 abbrev pub segment_lines : Segment → List ℕ

@@ -1,6 +1,7 @@
 -- Which bytes stand for which image.
 -- Source: own choice, a format of this program.
-use Rattle.std.specs.Prelude.{ℕ, zero, suc, ◌≡◌, ◌≤◌, ◌<◌, ◌^◌, nat_lt, List, [], ◌∷◌, ◌++◌, length, take, drop, All, Option, Some, None, Result, Ok, Err, codes, flat_map, bytes_eq, not, if◌then◌else◌}
+use Rattle.std.specs.Prelude.{ℕ, zero, suc, ◌≡◌, ◌≤◌, ◌<◌, ◌^◌, nat_lt, List, [], ◌∷◌, ◌++◌, length, take, drop, All}
+use Rattle.std.specs.Prelude.{Option, Some, None, Result, Ok, Err, codes, flat_map, bytes_eq, not, if◌then◌else◌}
 use Rattle.std.specs.Int.{w32, to_le_bytes, from_le_bytes}
 use Rattle.tplan.specs.declared.plan.Segment.{Segment}
 use Rattle.tplan.specs.declared.plan.Process.{Process}
@@ -95,7 +96,8 @@ with_count limit (Some (count, rest)) f = if nat_lt limit count then Err TooMany
 -- the two counts and what follows them
 abbrev pub counted_body : List ℕ → Result Image ImageFault
 counted_body bytes =
-    with_count 4096 (word_in bytes) (λ segments rest. with_count 512 (word_in rest) (λ processes rest. body_of segments processes rest))
+    with_count 4096 (word_in bytes)
+    (λ segments rest. with_count 512 (word_in rest) (λ processes rest. body_of segments processes rest))
 
 -- the image that bytes stand for, or the lowest fault
 unfoldable pub image_of : List ℕ → Result Image ImageFault

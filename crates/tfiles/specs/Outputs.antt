@@ -1,6 +1,7 @@
 -- What of a text has gone out to a writer.
 -- Source: own choice, a contract of this program.
-use Rattle.std.specs.Prelude.{ℕ, ◌≡◌, ◌≤◌, ◌+◌, ◌-◌, ◌^◌, min, nat_lt, MatchBool, false, List, [], ◌++◌, length, take, drop, Option, Result, Ok, Err}
+use Rattle.std.specs.Prelude.{ℕ, ◌≡◌, ◌≤◌, ◌+◌, ◌-◌, ◌^◌, min, nat_lt, MatchBool, false, List, [], ◌++◌, length, take}
+use Rattle.std.specs.Prelude.{drop, Option, Result, Ok, Err}
 use Rattle.std.specs.Borrow.{MutBor}
 use Rattle.std.specs.Io.KnownBytes.{Appends}
 use Rattle.tfiles.specs.declared.writing.output.Output.{Output}
@@ -24,7 +25,8 @@ IsOut old new text (Ok _) = Appends old new text
 IsOut old new text (Err fault) = IsCut old new text fault.written
 
 -- a writer took the first of some bytes, and failed unless it took all
-pub record Takes {W : Type 0} (contents : W → Option (List ℕ)) (old new : W) (bytes : List ℕ) (before after : Progress) : Type 0 where
+pub record Takes {W : Type 0} (contents : W → Option (List ℕ)) (old new : W) (bytes : List ℕ)
+    (before after : Progress) : Type 0 where
   pub count : ℕ
   pub within : count ≤ length bytes
   pub out : Appends (contents old) (contents new) (take count bytes)
@@ -32,19 +34,23 @@ pub record Takes {W : Type 0} (contents : W → Option (List ℕ)) (old new : W)
   pub failed : after.failed ≡ nat_lt count (length bytes)
 
 -- a writer that has failed before is left as it is, any other takes bytes
-abbrev pub HandsOn : {W : Type 0} (contents : W → Option (List ℕ)) (old new : W) (bytes : List ℕ) (before after : Progress) → Type 0
+abbrev pub HandsOn : {W : Type 0} (contents : W → Option (List ℕ)) (old new : W) (bytes : List ℕ)
+    (before after : Progress) → Type 0
 HandsOn contents old new bytes before after =
     MatchBool before.failed ((new ≡ old) × (after ≡ before)) (Takes contents old new bytes before after)
 
--- what has become of a text that began while the writer held these bytes: its first bytes went out, and the others wait, unless the writer has failed
-pub record IsTold {W : Type 0} (contents : W → Option (List ℕ)) (start : Option (List ℕ)) (text : List ℕ) (o : Output W) : Type 0 where
+-- what has become of a text that began while the writer held these bytes: its first bytes went out, and the others
+-- wait, unless the writer has failed
+pub record IsTold {W : Type 0} (contents : W → Option (List ℕ)) (start : Option (List ℕ)) (text : List ℕ)
+    (o : Output W) : Type 0 where
   pub cut : IsCut start (contents o.writer.now) text o.progress.written
   pub rest : o.progress.failed ≡ false → o.waiting ≡ drop cut.count text
 
 -- the text goes on with a piece
 pub record Tells {W : Type 0} (contents : W → Option (List ℕ)) (old new : Output W) (piece : List ℕ) : Type 0 where
   pub same : new.writer.ghost_name ≡ old.writer.ghost_name
-  pub goes_on : (start : Option (List ℕ)) (text : List ℕ) → IsTold contents start text old → IsTold contents start (text ++ piece) new
+  pub goes_on : (start : Option (List ℕ)) (text : List ℕ) → IsTold contents start text old
+      → IsTold contents start (text ++ piece) new
 
 -- nothing of a text was told yet
 pub record IsFresh {W : Type 0} (contents : W → Option (List ℕ)) (writer : MutBor W) (o : Output W) : Type 0 where
@@ -52,6 +58,8 @@ pub record IsFresh {W : Type 0} (contents : W → Option (List ℕ)) (writer : M
   pub nothing : IsTold contents (contents writer.now) [] o
 
 -- the text ends: it is out whole, or cut
-pub record IsEnd {W : Type 0} (contents : W → Option (List ℕ)) (old new : Output W) (result : Result (Unit {0}) WriteFault) : Type 0 where
+pub record IsEnd {W : Type 0} (contents : W → Option (List ℕ)) (old new : Output W)
+    (result : Result (Unit {0}) WriteFault) : Type 0 where
   pub same : new.writer.ghost_name ≡ old.writer.ghost_name
-  pub out : (start : Option (List ℕ)) (text : List ℕ) → IsTold contents start text old → IsOut start (contents new.writer.now) text result
+  pub out : (start : Option (List ℕ)) (text : List ℕ) → IsTold contents start text old
+      → IsOut start (contents new.writer.now) text result

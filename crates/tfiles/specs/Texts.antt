@@ -1,11 +1,14 @@
 -- What is printed of a run: the trace, the dump and the last line.
 -- Source: own choice, formats of this program.
-use Rattle.std.specs.Prelude.{ℕ, zero, suc, ◌+◌, Bool, true, false, ◌==◌, List, [], ◌∷◌, ◌++◌, flat_map, length, take, drop, Option, Some, None, codes, decimal, if◌then◌else◌}
+use Rattle.std.specs.Prelude.{ℕ, zero, suc, ◌+◌, Bool, true, false, ◌==◌, List, [], ◌∷◌, ◌++◌, flat_map, length, take}
+use Rattle.std.specs.Prelude.{drop, Option, Some, None, codes, decimal, if◌then◌else◌}
 use Rattle.std.specs.List.{list_all, list_any}
 use Rattle.std.specs.Int.{w32, to_be_bytes}
 use Rattle.hex.specs.Hex.{encode_lower}
 use Rattle.tword.specs.declared.breaks.Break.{Break}
-use Rattle.tword.specs.declared.breaks.Break.TheVariants.{BadAddress, Reserved, Unaligned, NoSuchOperation, LongPrefix, InTransit, SavedWord, LengthMismatch, LinkBusy, WrongEnd, ChannelMisuse, ZeroLength, AlreadyLive, TooManyProcesses}
+use Rattle.tword.specs.declared.breaks.Break.TheVariants.{BadAddress, Reserved, Unaligned, NoSuchOperation, LongPrefix}
+use Rattle.tword.specs.declared.breaks.Break.TheVariants.{InTransit, SavedWord, LengthMismatch, LinkBusy, WrongEnd}
+use Rattle.tword.specs.declared.breaks.Break.TheVariants.{ChannelMisuse, ZeroLength, AlreadyLive, TooManyProcesses}
 use Rattle.tword.specs.Words.{most_neg}
 use Rattle.tword.specs.Stores.{Store}
 use Rattle.tword.specs.declared.span.Span.{Span}
@@ -46,7 +49,8 @@ end_text e = decimal e.node ++ (codes "." ++ decimal e.link)
 
 -- what a note is printed as
 abbrev pub note_text : Note → List ℕ
-note_text (Msg from to bytes) = words (codes "msg" ∷ end_text from ∷ end_text to ∷ decimal (length bytes) ∷ encode_lower bytes ∷ [])
+note_text (Msg from to bytes) =
+    words (codes "msg" ∷ end_text from ∷ end_text to ∷ decimal (length bytes) ∷ encode_lower bytes ∷ [])
 note_text (Halt n) = words (codes "halt" ∷ decimal n ∷ [])
 note_text (Freeze n b) = words (codes "freeze" ∷ decimal n ∷ break_name b ∷ [])
 
@@ -112,7 +116,8 @@ dump_text w = dump_from 0 w.nodes
 
 -- the last line of a run by rounds
 abbrev pub rounds_end : Bool → ℕ → List ℕ
-rounds_end quiet rounds = line (words (codes "end" ∷ (if quiet then codes "quiet" else codes "rounds") ∷ decimal rounds ∷ []))
+rounds_end quiet rounds =
+    line (words (codes "end" ∷ (if quiet then codes "quiet" else codes "rounds") ∷ decimal rounds ∷ []))
 
 -- the last line of free workers
 abbrev pub free_end : Bool → List ℕ

@@ -4,7 +4,8 @@ ghost use Rattle.std.specs.Prelude.{◌≡◌, ◌++◌, codes};
 ghost use Rattle.std.specs.Fmt.{signed_decimal};
 ghost use Rattle.tcode.specs.Table.{function_entry};
 ghost use Rattle.tcode.specs.Texts.{instruction_text};
-ghost use Rattle.tfiles.specs.Disassembly.{at_address, byte_text, dis_text as disassembled, head_size, head_text, segment_lines};
+ghost use Rattle.tfiles.specs.Disassembly.{at_address, byte_text, dis_text as disassembled, head_size, head_text};
+ghost use Rattle.tfiles.specs.Disassembly.{segment_lines};
 ghost use Rattle.tfiles.specs.Outputs.{IsOut, Tells};
 
 use crate::writing::output::{Output, WriteFault};
@@ -16,8 +17,10 @@ use tcode::{
 use tplan::plan::{Image, Segment};
 use tword::Word;
 
-/// Writes the instructions of an image (own choice of format): for each segment, at each address, a line `80000080: ldc 4`. Where
-/// no instruction can be decoded within the segment, the line is `80000080: db 60`, and the next one is at the next byte.
+/// Writes the instructions of an image (own choice of format): for each segment, at each address, a line `80000080:
+/// ldc 4`. Where
+/// no instruction can be decoded within the segment, the line is `80000080: db 60`, and the next one is at the next
+/// byte.
 /// An address is taken modulo 2^32.
 ///
 /// # Errors
@@ -104,7 +107,8 @@ fn put_instruction<W: Write>(out: &mut Output<'_, W>, instruction: &Instruction)
 
 /// A function and its operand.
 fn put_function<W: Write>(out: &mut Output<'_, W>, function: Function, operand: i32)
-    ensures { Tells W.contents out.old out.new ((function_entry function).name ++ (codes " " ++ signed_decimal operand)) }
+    ensures { Tells W.contents out.old out.new
+        ((function_entry function).name ++ (codes " " ++ signed_decimal operand)) }
 {
     out.put(function_name(function).as_bytes());
     out.put(b" ");

@@ -1,12 +1,14 @@
 //! Images: what is loaded into a node, as bytes.
 
 ghost use Rattle.std.specs.Prelude.{◌≡◌, MatchOption, MatchResult, option_map, bytes_eq, take, drop, true, false};
-ghost use Rattle.tfiles.specs.Images.{image_of, body_of, magic, word_in, segment_in, process_in, parts_in, IsImageAnswer, IsPartFault};
+ghost use Rattle.tfiles.specs.Images.{image_of, body_of, magic, word_in, segment_in, process_in, parts_in};
+ghost use Rattle.tfiles.specs.Images.{IsImageAnswer, IsPartFault};
 
 use byteorder::{ByteOrder, LittleEndian};
 use std::alloc::Global;
 use thiserror::Error;
 use tplan::plan::{Image, Process, Segment};
+use tword::limits::{MOST_PROCESSES, MOST_SEGMENTS};
 use tword::{Items, Word};
 
 /// Why bytes are no image.
@@ -32,20 +34,17 @@ pub enum ImageFault {
 /// What every image begins with (own choice).
 const MAGIC: &[u8] = b"TEMUIMG1";
 
-/// The greatest number of segments of an image (own choice).
-pub const MOST_SEGMENTS: u32 = 4_096;
-
-/// The greatest number of processes of an image (own choice).
-pub const MOST_PROCESSES: u32 = 512;
-
-/// The image that bytes stand for (own choice of format): eight bytes `TEMUIMG1`, the numbers of segments and of processes,
-/// each segment as its address, its length and its bytes, and each process as its descriptor and its first address. A number is
+/// The image that bytes stand for (own choice of format): eight bytes `TEMUIMG1`, the numbers of segments and of
+/// processes,
+/// each segment as its address, its length and its bytes, and each process as its descriptor and its first address.
+/// A number is
 /// a word, its lowest byte first.
 ///
 /// Memory is asked for only as far as the bytes fill it.
 ///
 /// # Errors
-/// The first of these that holds: `BadMagic`, `TooMany` for a count over its limit (also where the bytes end behind it),
+/// The first of these that holds: `BadMagic`, `TooMany` for a count over its limit (also where the bytes end behind
+/// it),
 /// `Truncated`, `Trailing`. `OutOfMemory` where the allocator refuses.
 #[tactic(auto, unfolding(crate::specs::Images::image_of))]
 pub fn read_image(alloc: Global, bytes: &[u8]) -> Result<Image, ImageFault>
@@ -57,13 +56,13 @@ pub fn read_image(alloc: Global, bytes: &[u8]) -> Result<Image, ImageFault>
     let Some((segments, rest)) = word(counts) else {
         return Err(ImageFault::Truncated);
     };
-    if segments > MOST_SEGMENTS {
+    if segments as usize > MOST_SEGMENTS {
         return Err(ImageFault::TooMany);
     }
     let Some((processes, rest)) = word(rest) else {
         return Err(ImageFault::Truncated);
     };
-    if processes > MOST_PROCESSES {
+    if processes as usize > MOST_PROCESSES {
         return Err(ImageFault::TooMany);
     }
     body(alloc, segments, processes, rest)

@@ -3,7 +3,6 @@
 use Rattle.std.specs.Prelude.{ℕ, ◌≡◌, ◌+◌, ◌<◌, Bool, true, false, IsTrue, nat_lt, List, [], ◌∷◌, ◌++◌, length, Option}
 use Rattle.std.specs.Prelude.{Some, None, IsSome, option_map, slice_get}
 use Rattle.tlink.specs.declared.event.NodeEvent.{NodeEvent}
-use Rattle.tlink.specs.declared.event.NodeEvent.TheVariants.{Run}
 use Rattle.tlink.specs.Node.{NodeState}
 use Rattle.tlink.specs.Events.{happens, is_node_enabled}
 use Rattle.tplan.specs.declared.plan.End.{End}

@@ -12,6 +12,7 @@ use crate::worker::Worker;
 use std::alloc::{AllocError, Global};
 use tlink::Node;
 use tnet::{Net, NetParts};
+use tword::limits::MOST_WORKERS;
 
 /// Why a net was not opened.
 #[derive(Clone, Copy, Debug, PartialEq, Eq)]
@@ -106,7 +107,7 @@ pub fn open(alloc: Global, net: Net, workers: usize) -> Result<Vec<Worker>, (Ope
     ensures counted { IfErr result (λ e. e.0 ≡ fault.BadWorkers → IsBadCount workers) }
     ensures same { IfErr result (λ e. e.1 ≡ net) }
 {
-    if workers == 0 || workers > 64 {
+    if workers == 0 || workers > MOST_WORKERS {
         return Err((OpenFault::BadWorkers, net));
     }
     let parts = net.into_parts();

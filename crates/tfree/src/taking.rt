@@ -12,9 +12,7 @@ use std::alloc::{AllocError, Global};
 use std::collections::VecDeque;
 use tlink::Node;
 use tnet::Wires;
-
-/// How many nodes a net has at most.
-pub(crate) const MOST_NODES: usize = 64;
+use tword::limits::MOST_NODES;
 
 /// What workers bring, one behind another in the order of their numbers.
 #[derive(Drop)]

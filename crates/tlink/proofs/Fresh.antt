@@ -2,8 +2,8 @@
 use Rattle.std.proofs.Common.{◌≡◌, ℕ, ◌<◌, refl, List, length, Bool, Option, Some, None}
 use Rattle.std.specs.Prelude.{IfSome, MatchOption}
 use Rattle.tproc.specs.declared.offer.Offer.{Offer}
-use Rattle.tproc.specs.declared.waiting.Reason.{Reason}
-use Rattle.tproc.specs.declared.waiting.Reason.TheVariants.{LinkInput, LinkOutput}
+use Rattle.tproc.specs.declared.waiter.Reason.{Reason}
+use Rattle.tproc.specs.declared.waiter.Reason.TheVariants.{LinkInput, LinkOutput}
 use Rattle.tproc.specs.Machine.{Machine}
 use Rattle.tproc.specs.Placement.{IsBuffer, IsPlaced, WaitsFor}
 use Rattle.tproc.proofs.Opening.{same_at}
@@ -15,12 +15,15 @@ module _ (m : Machine) (wired : List Bool) where
   not_counted l = same_at no_counts 4 l
 
   -- a pending message has a byte that is not counted yet
-  uncounted_output : (reason : Reason) (o : Option Offer) → IfSome o (λ o. WaitsFor m.control o.wdesc reason × IsBuffer (length m.store) o)
+  uncounted_output : (reason : Reason) (o : Option Offer)
+      → IfSome o (λ o. WaitsFor m.control o.wdesc reason × IsBuffer (length m.store) o)
       → MatchOption o ((no_counts.sent ≡ 0) × (no_counts.acked ≡ 0)) (λ o. no_counts.acked < o.length)
   uncounted_output reason None h = (refl, refl)
   uncounted_output reason (Some o) h = h.1.0
 
-  uncounted_input : (reason : Reason) (o : Option Offer) → IfSome o (λ o. WaitsFor m.control o.wdesc reason × IsBuffer (length m.store) o) → MatchOption o (no_counts.got ≡ 0) (λ o. no_counts.got < o.length)
+  uncounted_input : (reason : Reason) (o : Option Offer)
+      → IfSome o (λ o. WaitsFor m.control o.wdesc reason × IsBuffer (length m.store) o)
+      → MatchOption o (no_counts.got ≡ 0) (λ o. no_counts.got < o.length)
   uncounted_input reason None h = refl
   uncounted_input reason (Some o) h = h.1.0
 
@@ -28,10 +31,14 @@ module _ (m : Machine) (wired : List Bool) where
   counted placed quiet =
       record {
         four = refl;
-        outputs = λ l. rw (not_counted l) (uncounted_output (LinkOutput l) (output_at (fresh_node m wired) l) (placed.claimed.outputs l));
-        inputs = λ l. rw (not_counted l) (uncounted_input (LinkInput l) (input_at (fresh_node m wired) l) (placed.claimed.inputs l));
+        outputs =
+            λ l. rw (not_counted l)
+            (uncounted_output (LinkOutput l) (output_at (fresh_node m wired) l) (placed.claimed.outputs l));
+        inputs = λ l. rw (not_counted l)
+            (uncounted_input (LinkInput l) (input_at (fresh_node m wired) l) (placed.claimed.inputs l));
         noticed = λ l b. rw (not_counted l) (quiet l b);
       }
 
   pub whole_fresh : IsPlaced m → HasNoticedNothing m.control → length wired ≡ 4 → IsWhole (fresh_node m wired)
-  whole_fresh placed quiet four = record { claimed = placed.claimed; apart = placed.apart; counted = counted placed quiet; four = four }
+  whole_fresh placed quiet four =
+      record { claimed = placed.claimed; apart = placed.apart; counted = counted placed quiet; four = four }

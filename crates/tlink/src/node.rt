@@ -1,3 +1,4 @@
+//! A node, whose processor and links fit one another at all times.
 ghost use Rattle.std.specs.Prelude.{◌≡◌, IfOk};
 ghost use Rattle.tlink.specs.Node.{NodeState, fresh_node};
 ghost use Rattle.tlink.specs.Events.{happens, node_answered, node_left_by, is_node_enabled};
@@ -10,7 +11,8 @@ use std::marker::Model;
 use tproc::Processor;
 use tword::Break;
 
-/// A node: a processor with its links. What is claimed, what was counted and what is pending fit one another at all times.
+/// A node: a processor with its links. What is claimed, what was counted and what is pending fit one another at all
+/// times.
 #[derive(Drop)]
 pub struct Node {
     links: Links,
@@ -28,7 +30,8 @@ impl Model for Node {
 }
 
 impl Node {
-    /// A node before its first event, and which of its links have a wire. Its processor may be at any point of its run, as long
+    /// A node before its first event, and which of its links have a wire. Its processor may be at any point of its
+    /// run, as long
     /// as no byte was noticed at its links.
     pub fn new(processor: Processor, wired: [bool; 4]) -> Self
         requires { HasNoticedNothing processor.control }
@@ -54,7 +57,8 @@ impl Node {
     /// Does one event.
     ///
     /// # Errors
-    /// `NotEnabled` where the machine does not enable the event: nothing has changed. `Frozen` where the event breaks a rule:
+    /// `NotEnabled` where the machine does not enable the event: nothing has changed. `Frozen` where the event
+    /// breaks a rule:
     /// the node is frozen with that break, and nothing else has changed.
     #[inline]
     pub fn step(&mut self, event: NodeEvent) -> Result<Emitted, StepFault>

@@ -1,5 +1,6 @@
 -- What a node may answer to each kind of event: what it emits, what it tells, and which inputs stay.
-use Rattle.std.proofs.Common.{◌≡◌, ◌≢◌, ℕ, refl, sym, ap, ◌∙◌, List, set, Bool, true, false, Result, Ok, Err, Option, Some, None, ◌⊎◌, inl, inr}
+use Rattle.std.proofs.Common.{◌≡◌, ◌≢◌, ℕ, refl, sym, ap, ◌∙◌, List, set, Bool, true, false, Result, Ok, Err, Option}
+use Rattle.std.proofs.Common.{Some, None, ◌⊎◌, inl, inr}
 use Rattle.std.specs.Prelude.{⊤, slice_index_or, ◌+◌, ◌&&◌, ◌==◌, not, nat_lt, if◌then◌else◌, is_none, IsSome, IfSome}
 use Rattle.std.proofs.lemmas.List.{get_or-set_other}
 use Rattle.std.proofs.lemmas.Option.{same_Some}
@@ -7,7 +8,7 @@ use Rattle.tword.specs.declared.breaks.Break.{Break}
 use Rattle.tproc.specs.declared.offer.Offer.{Offer}
 use Rattle.tproc.specs.declared.offer.Ran.{Ran}
 use Rattle.tproc.specs.declared.offer.Ran.TheVariants as ran
-use Rattle.tproc.specs.declared.waiting.LinkEnd.{LinkEnd}
+use Rattle.tproc.specs.declared.waiter.LinkEnd.{LinkEnd}
 use Rattle.tproc.specs.Machine.{Machine}
 use Rattle.tproc.specs.Steps.{step}
 use Rattle.tproc.specs.Links.{notice, finish_input, finish_output}
@@ -27,14 +28,16 @@ use Rattle.tlink.specs.declared.event.Mark.{Mark}
 use Rattle.tlink.specs.declared.event.Mark.TheVariants.{Nothing, Halted, Completed}
 use Rattle.tlink.specs.declared.event.StepFault.TheVariants.{NotEnabled, Frozen}
 use Rattle.tlink.specs.Node.{NodeState, counts_at, with_counts, with_machine, output_at, input_at, is_wired, frozen}
-use Rattle.tlink.specs.Events.{Answer, happens, unless_frozen, after_run, after_send, after_take, after_ack, take_marked, stored, noticed_by, silently, emitting, ended, node_left_by, node_answered}
+use Rattle.tlink.specs.Events.{Answer, happens, unless_frozen, after_run, after_send, after_take, after_ack}
+use Rattle.tlink.specs.Events.{take_marked, stored, noticed_by, silently, emitting, ended, node_left_by, node_answered}
 use Rattle.tplan.specs.declared.event.Act.{Act}
 use Rattle.tplan.specs.declared.event.Act.TheVariants as act
 use Rattle.tplan.specs.declared.plan.End.{End}
 use Rattle.tnet.specs.declared.inbox.Inbox.{Inbox}
 use Rattle.tnet.specs.declared.station.Done.{Done}
 use Rattle.tnet.specs.Wires.{end_at}
-use Rattle.tnet.specs.Stations.{box_at, with_carried, asked, emptied, input_of, input_bytes, message_note, mark_note, answer_note, note_of, answer_done, done_of}
+use Rattle.tnet.specs.Stations.{box_at, with_carried, asked, emptied, input_of, input_bytes, message_note, mark_note}
+use Rattle.tnet.specs.Stations.{answer_note, note_of, answer_done, done_of}
 use Rattle.tnet.specs.Answers.{KeepsInput}
 use Rattle.tnet.proofs.Places.{part_kept}
 
@@ -56,7 +59,8 @@ Sends (Err (Frozen b)) = ⊥
 
 -- an event that takes a byte: it may complete the message of its link, and the other pending inputs stay
 abbrev pub Takes : ℕ → NodeState → Answer → Type 0
-Takes l n (Ok (n', e)) = ((e.mark ≡ Nothing) ⊎ ((e.mark ≡ Completed l) × IsSome (input_at n l))) × ((k : ℕ) → k ≢ l → input_at n' k ≡ input_at n k)
+Takes l n (Ok (n', e)) = ((e.mark ≡ Nothing) ⊎ ((e.mark ≡ Completed l) × IsSome (input_at n l)))
+    × ((k : ℕ) → k ≢ l → input_at n' k ≡ input_at n k)
 Takes l n (Err f) = ⊤
 
 -- a run: nothing is emitted, and after one that halts there is none
@@ -65,12 +69,16 @@ Runs (Ok (n', e)) = (e.packet ≡ None) × ((e.mark ≡ Nothing) ⊎ ((e.mark �
 Runs (Err f) = ⊤
 
 -- the inputs after a link was set
-link_inputs : (m m' : Machine) (l : ℕ) (e : LinkEnd) → m'.control.links ≡ set m.control.links l e → e.input ≡ (link_end m.control l).input → (k : ℕ) → (link_end m'.control k).input ≡ (link_end m.control k).input
+link_inputs : (m m' : Machine) (l : ℕ) (e : LinkEnd) → m'.control.links ≡ set m.control.links l e
+    → e.input ≡ (link_end m.control l).input → (k : ℕ) → (link_end m'.control k).input ≡ (link_end m.control k).input
 link_inputs m m' l e h same k =
-    ap (λ (ls : List LinkEnd). (slice_index_or ls k quiet_end).input) h ∙ part_kept (λ (x : LinkEnd). x.input) m.control.links l k e quiet_end same
+    ap (λ (ls : List LinkEnd). (slice_index_or ls k quiet_end).input) h
+    ∙ part_kept (λ (x : LinkEnd). x.input) m.control.links l k e quiet_end same
 
-other_inputs : (m m' : Machine) (l : ℕ) (e : LinkEnd) → m'.control.links ≡ set m.control.links l e → (k : ℕ) → k ≢ l → (link_end m'.control k).input ≡ (link_end m.control k).input
-other_inputs m m' l e h k d = ap (λ (ls : List LinkEnd). (slice_index_or ls k quiet_end).input) h ∙ ap (λ (x : LinkEnd). x.input) (get_or-set_other m.control.links l k e quiet_end d)
+other_inputs : (m m' : Machine) (l : ℕ) (e : LinkEnd) → m'.control.links ≡ set m.control.links l e → (k : ℕ) → k ≢ l
+    → (link_end m'.control k).input ≡ (link_end m.control k).input
+other_inputs m m' l e h k d = ap (λ (ls : List LinkEnd). (slice_index_or ls k quiet_end).input) h
+    ∙ ap (λ (x : LinkEnd). x.input) (get_or-set_other m.control.links l k e quiet_end d)
 
 noticed-inputs : (l : ℕ) (o : Option Offer) (n : NodeState) → SameInputs n (noticed_by l o n)
 noticed-inputs l None n = link_inputs n.machine (notice l n.machine) l _ (notice-links l n.machine) refl
@@ -80,19 +88,23 @@ unless_brings : (n : NodeState) (b : Option Break) (a : Answer) → Brings n a �
 unless_brings n None a h = h
 unless_brings n (Some b) a h = tt
 
-data_by : (l : ℕ) (o : Option Offer) (c : Counts) (n : NodeState) (t : Bool) → Brings n (if t then silently Nothing (noticed_by l o (with_counts l c n)) else Err NotEnabled)
+data_by : (l : ℕ) (o : Option Offer) (c : Counts) (n : NodeState) (t : Bool)
+    → Brings n (if t then silently Nothing (noticed_by l o (with_counts l c n)) else Err NotEnabled)
 data_by l o c n true = (refl, refl, noticed-inputs l o (with_counts l c n))
 data_by l o c n false = tt
 
 -- Data
 pub data_brings : (l byte : ℕ) (last : Bool) (n : NodeState) → Brings n (happens (Data l byte last) n)
 unfolding happens
-data_brings l byte last n = unless_brings n n.broken _ (data_by l (input_at n l) _ n (is_wired n l && is_none (counts_at n l).arrived))
+data_brings l byte last n =
+    unless_brings n n.broken _ (data_by l (input_at n l) _ n (is_wired n l && is_none (counts_at n l).arrived))
 
 ack_by : (l : ℕ) (c : Counts) (o : Offer) (n : NodeState) (a b : Bool)
-    → Brings n (if a then Err NotEnabled else if b then silently Nothing (ended l c n) else silently Nothing (with_counts l (record c { acked = c.acked + 1 }) n))
+    → Brings n (if a then Err NotEnabled else if b then silently Nothing (ended l c n) else silently Nothing
+    (with_counts l (record c { acked = c.acked + 1 }) n))
 ack_by l c o n true b = tt
-ack_by l c o n false true = (refl, refl, link_inputs n.machine (finish_output l n.machine) l _ (finish_output-links l n.machine) refl)
+ack_by l c o n false true =
+    (refl, refl, link_inputs n.machine (finish_output l n.machine) l _ (finish_output-links l n.machine) refl)
 ack_by l c o n false false = (refl, refl, (λ k. refl))
 
 ack_of : (l : ℕ) (o : Option Offer) (c : Counts) (n : NodeState) → Brings n (after_ack l o c n)
@@ -125,13 +137,20 @@ unless_takes : (l : ℕ) (n : NodeState) (b : Option Break) (a : Answer) → Tak
 unless_takes l n None a h = h
 unless_takes l n (Some b) a h = tt
 
-take_by : (l : ℕ) (n : NodeState) (marked full : Bool) (byte : ℕ) (o : Offer) (c : Counts) → input_at n l ≡ Some o → Takes l n (take_marked l marked full byte o c n)
-take_by l n true true byte o c h = (inr (refl, rw h refl), (λ k d. other_inputs (stored (o.buffer + c.got) byte n).machine (finish_input l (stored (o.buffer + c.got) byte n).machine) l _ (finish_input-links l (stored (o.buffer + c.got) byte n).machine) k d))
+take_by : (l : ℕ) (n : NodeState) (marked full : Bool) (byte : ℕ) (o : Offer) (c : Counts) → input_at n l ≡ Some o
+    → Takes l n (take_marked l marked full byte o c n)
+take_by l n true true byte o c h = (
+  inr (refl, rw h refl),
+  (λ k d. other_inputs (stored (o.buffer + c.got) byte n).machine
+      (finish_input l (stored (o.buffer + c.got) byte n).machine) l _
+      (finish_input-links l (stored (o.buffer + c.got) byte n).machine) k d),
+)
 take_by l n false false byte o c h = (inl refl, (λ k d. refl))
 take_by l n true false byte o c h = tt
 take_by l n false true byte o c h = tt
 
-take_of : (l : ℕ) (a : Option Arrival) (o : Option Offer) (c : Counts) (n : NodeState) → input_at n l ≡ o → Takes l n (after_take l a o c n)
+take_of : (l : ℕ) (a : Option Arrival) (o : Option Offer) (c : Counts) (n : NodeState) → input_at n l ≡ o
+    → Takes l n (after_take l a o c n)
 take_of l None o c n h = tt
 take_of l (Some a) None c n h = tt
 take_of l (Some a) (Some o) c n h = take_by l n a.last (c.got + 1 == o.length) a.byte o c h
@@ -152,7 +171,8 @@ not_enabled (Some b) a h = refl
 
 stopped : (m : Machine) (n : NodeState) → m.control.halted ≡ true → happens Run (with_machine m n) ≡ Err NotEnabled
 unfolding happens
-stopped m n h = not_enabled n.broken (after_run (with_machine m n) (step m)) (ap (after_run (with_machine m n)) (halted-step m h))
+stopped m n h = not_enabled n.broken (after_run (with_machine m n) (step m))
+    (ap (after_run (with_machine m n)) (halted-step m h))
 
 unless_runs : (b : Option Break) (a : Answer) → Runs a → Runs (unless_frozen b a)
 unless_runs None a h = h
@@ -179,7 +199,8 @@ unfolding happens
 frozen-stops e b n = refl
 
 -- what was not enabled leaves the node
-pub not_done : (n : ℕ) (far : ℕ → Option End) (e : NodeEvent) (node : NodeState) → done_of n far e node ≡ None → node_left_by node (happens e node) ≡ node
+pub not_done : (n : ℕ) (far : ℕ → Option End) (e : NodeEvent) (node : NodeState) → done_of n far e node ≡ None
+    → node_left_by node (happens e node) ≡ node
 not_done n far e node h = by (happens e node) refl
   where
     by : (a : Answer) → happens e node ≡ a → node_left_by node (happens e node) ≡ node
@@ -188,7 +209,8 @@ not_done n far e node h = by (happens e node) refl
     by (Err (Frozen b)) is = let q = rw is at h in cc
 
 -- an event that takes a packet freezes no node: where one freezes, what lies at the links stands
-pub frozen_takes_none : (a : Act) (boxes : List Inbox) (e : NodeEvent) (node : NodeState) (b : Break) → asked a boxes ≡ Some e → happens e node ≡ Err (Frozen b) → emptied a boxes ≡ boxes
+pub frozen_takes_none : (a : Act) (boxes : List Inbox) (e : NodeEvent) (node : NodeState) (b : Break)
+    → asked a boxes ≡ Some e → happens e node ≡ Err (Frozen b) → emptied a boxes ≡ boxes
 frozen_takes_none act.Run boxes e node b is h = refl
 frozen_takes_none (act.Send l) boxes e node b is h = refl
 frozen_takes_none (act.Take l) boxes e node b is h = refl
@@ -204,7 +226,8 @@ frozen_takes_none (act.Ack l) boxes e node b is h = by (box_at boxes l).acknowle
     by true q = absurd (rw h at (rw (same_Some _ _ q) at (ack_brings l node)))
 
 -- the far ends are looked up one by one
-pub answer_by_far : (n : ℕ) (f g : ℕ → Option End) (input : Option Offer) (r : Result Emitted StepFault) (node : NodeState) → ((l : ℕ) → f l ≡ g l)
+pub answer_by_far : (n : ℕ) (f g : ℕ → Option End) (input : Option Offer) (r : Result Emitted StepFault)
+    (node : NodeState) → ((l : ℕ) → f l ≡ g l)
     → answer_note n f input r node ≡ answer_note n g input r node
 answer_by_far n f g input (Ok x) node h = by x.mark
   where
@@ -215,38 +238,49 @@ answer_by_far n f g input (Ok x) node h = by x.mark
 answer_by_far n f g input (Err NotEnabled) node h = refl
 answer_by_far n f g input (Err (Frozen b)) node h = refl
 
-pub note_by_far : (n : ℕ) (f g : ℕ → Option End) (e : NodeEvent) (node : NodeState) → ((l : ℕ) → f l ≡ g l) → note_of n f e node ≡ note_of n g e node
-note_by_far n f g e node h = answer_by_far n f g (input_of e node) (node_answered (happens e node)) (node_left_by node (happens e node)) h
+pub note_by_far : (n : ℕ) (f g : ℕ → Option End) (e : NodeEvent) (node : NodeState) → ((l : ℕ) → f l ≡ g l)
+    → note_of n f e node ≡ note_of n g e node
+note_by_far n f g e node h =
+    answer_by_far n f g (input_of e node) (node_answered (happens e node)) (node_left_by node (happens e node)) h
 
 -- a run emits nothing
-pub run_emits_none : (n : ℕ) (far : ℕ → Option End) (node : NodeState) → IfSome (done_of n far Run node) (λ (d : Done). d.packet ≡ None)
+pub run_emits_none : (n : ℕ) (far : ℕ → Option End) (node : NodeState)
+    → IfSome (done_of n far Run node) (λ (d : Done). d.packet ≡ None)
 run_emits_none n far node = by (happens Run node) (run_runs node)
   where
-    by : (a : Answer) → Runs a → IfSome (answer_done (node_answered a) (note_of n far Run node)) (λ (d : Done). d.packet ≡ None)
+    by : (a : Answer) → Runs a
+        → IfSome (answer_done (node_answered a) (note_of n far Run node)) (λ (d : Done). d.packet ≡ None)
     by (Ok (m, x)) h = h.0
     by (Err NotEnabled) h = tt
     by (Err (Frozen b)) h = refl
 
 -- and after one that tells something, as after one that is not enabled, there is none
-pub run_ends : (n : ℕ) (far : ℕ → Option End) (node : NodeState) → IfSome (done_of n far Run node) (λ (d : Done). d.note ≡ None) ⊎ (happens Run (node_left_by node (happens Run node)) ≡ Err NotEnabled)
+pub run_ends : (n : ℕ) (far : ℕ → Option End) (node : NodeState)
+    → IfSome (done_of n far Run node) (λ (d : Done). d.note ≡ None)
+    ⊎ (happens Run (node_left_by node (happens Run node)) ≡ Err NotEnabled)
 run_ends n far node = by (happens Run node) refl (run_runs node)
   where
-    by : (a : Answer) → happens Run node ≡ a → Runs a → IfSome (done_of n far Run node) (λ (d : Done). d.note ≡ None) ⊎ (happens Run (node_left_by node (happens Run node)) ≡ Err NotEnabled)
+    by : (a : Answer) → happens Run node ≡ a → Runs a → IfSome (done_of n far Run node) (λ (d : Done). d.note ≡ None)
+        ⊎ (happens Run (node_left_by node (happens Run node)) ≡ Err NotEnabled)
     by (Ok (m, x)) is h = by_mark h.1
       where
-        by_mark : ((x.mark ≡ Nothing) ⊎ ((x.mark ≡ Halted) × (happens Run m ≡ Err NotEnabled))) → IfSome (done_of n far Run node) (λ (d : Done). d.note ≡ None) ⊎ (happens Run (node_left_by node (happens Run node)) ≡ Err NotEnabled)
+        by_mark : ((x.mark ≡ Nothing) ⊎ ((x.mark ≡ Halted) × (happens Run m ≡ Err NotEnabled)))
+            → IfSome (done_of n far Run node) (λ (d : Done). d.note ≡ None)
+            ⊎ (happens Run (node_left_by node (happens Run node)) ≡ Err NotEnabled)
         by_mark (inl q) = inl (rw (is, q) refl)
         by_mark (inr q) = inr (rw is q.1)
     by (Err NotEnabled) is h = inr (rw is is)
     by (Err (Frozen b)) is h = inr (rw is (frozen-stops Run b node))
 
-brought_stand : (node : NodeState) (l : ℕ) (a : Answer) → Brings node a → input_at (node_left_by node a) l ≡ input_at node l
+brought_stand : (node : NodeState) (l : ℕ) (a : Answer) → Brings node a
+    → input_at (node_left_by node a) l ≡ input_at node l
 brought_stand node l (Ok (n', x)) h = h.2 l
 brought_stand node l (Err NotEnabled) h = refl
 brought_stand node l (Err (Frozen b)) h = refl
 
 -- the inputs that stand
-pub inputs_stand : (a : Act) (boxes : List Inbox) (e : NodeEvent) (node : NodeState) (l : ℕ) → asked a boxes ≡ Some e → KeepsInput a l → input_at (node_left_by node (happens e node)) l ≡ input_at node l
+pub inputs_stand : (a : Act) (boxes : List Inbox) (e : NodeEvent) (node : NodeState) (l : ℕ) → asked a boxes ≡ Some e
+    → KeepsInput a l → input_at (node_left_by node (happens e node)) l ≡ input_at node l
 inputs_stand act.Run boxes e node l is k = absurd k
 inputs_stand (act.Send m) boxes e node l is k = absurd k
 inputs_stand (act.Take m) boxes e node l is k =
@@ -259,11 +293,15 @@ inputs_stand (act.Take m) boxes e node l is k =
     by (Err (Frozen b)) h = refl
 inputs_stand (act.Data m) boxes e node l is k = by (box_at boxes m).carried is
   where
-    by : (o : Option Arrival) → with_carried m o ≡ Some e → input_at (node_left_by node (happens e node)) l ≡ input_at node l
+    by : (o : Option Arrival) → with_carried m o ≡ Some e
+        → input_at (node_left_by node (happens e node)) l ≡ input_at node l
     by None q = cc
-    by (Some x) q = let f : Data m x.byte x.last ≡ e = same_Some _ _ q in rw (← f) (brought_stand node l (happens (Data m x.byte x.last) node) (data_brings m x.byte x.last node))
+    by (Some x) q = let f : Data m x.byte x.last ≡ e = same_Some _ _ q in
+        rw (← f) (brought_stand node l (happens (Data m x.byte x.last) node) (data_brings m x.byte x.last node))
 inputs_stand (act.Ack m) boxes e node l is k = by (box_at boxes m).acknowledged is
   where
-    by : (t : Bool) → (if t then Some (Ack m) else None) ≡ Some e → input_at (node_left_by node (happens e node)) l ≡ input_at node l
+    by : (t : Bool) → (if t then Some (Ack m) else None) ≡ Some e
+        → input_at (node_left_by node (happens e node)) l ≡ input_at node l
     by false q = cc
-    by true q = let f : Ack m ≡ e = same_Some _ _ q in rw (← f) (brought_stand node l (happens (Ack m) node) (ack_brings m node))
+    by true q = let f : Ack m ≡ e = same_Some _ _ q in
+        rw (← f) (brought_stand node l (happens (Ack m) node) (ack_brings m node))

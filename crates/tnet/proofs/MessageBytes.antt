@@ -1,5 +1,6 @@
 -- The bytes of a message, read one after another.
-use Rattle.std.proofs.Common.{◌≡◌, ℕ, zero, suc, ◌+◌, ◌-◌, ◌<◌, ◌≤◌, min, refl, sym, ap, ◌∙◌, List, [], ◌∷◌, ◌++◌, length, get_or, take, drop, Some, ◌⊎◌, inl, inr, arith}
+use Rattle.std.proofs.Common.{◌≡◌, ℕ, zero, suc, ◌+◌, ◌-◌, ◌<◌, ◌≤◌, min, refl, sym, ap, ◌∙◌, List, [], ◌∷◌, ◌++◌}
+use Rattle.std.proofs.Common.{length, get_or, take, drop, Some, ◌⊎◌, inl, inr, arith}
 use Rattle.std.proofs.lemmas.Bool.{cases_lt}
 use Rattle.std.proofs.lemmas.List.{take_more, get_or-drop, length-drop, take_min, drop-map, take-map, drop_all}
 use Rattle.tword.specs.Stores.{Store, as_cells, shown, cells, bytes_at, place}
@@ -9,12 +10,15 @@ shown_bytes : (bytes : List ℕ) → shown (as_cells bytes) ≡ bytes
 shown_bytes [] = refl
 shown_bytes (b ∷ bytes) = ap (λ (bs : List ℕ). b ∷ bs) (shown_bytes bytes)
 
-some_cells : (bytes : List ℕ) (a n : ℕ) → cells (as_cells bytes) a n ≡ as_cells (take (place a + n - place a) (drop (place a) bytes))
+some_cells : (bytes : List ℕ) (a n : ℕ)
+    → cells (as_cells bytes) a n ≡ as_cells (take (place a + n - place a) (drop (place a) bytes))
 some_cells bytes a n =
-    ap (λ (s : Store). take (place a + n - place a) s) (drop-map Some (place a) bytes) ∙ take-map Some (place a + n - place a) (drop (place a) bytes)
+    ap (λ (s : Store). take (place a + n - place a) s) (drop-map Some (place a) bytes)
+    ∙ take-map Some (place a + n - place a) (drop (place a) bytes)
 
 -- one element more of a range
-pub more_taken : (xs : List ℕ) (i j d : ℕ) → i ≤ j → j < length xs → take (j + 1 - i) (drop i xs) ≡ take (j - i) (drop i xs) ++ get_or xs j d ∷ []
+pub more_taken : (xs : List ℕ) (i j d : ℕ) → i ≤ j → j < length xs
+    → take (j + 1 - i) (drop i xs) ≡ take (j - i) (drop i xs) ++ get_or xs j d ∷ []
 more_taken xs i j d above below =
     let n : j + 1 - i ≡ (j - i) + 1 = omega arith in
     let m : i + (j - i) ≡ j = omega arith in
@@ -26,7 +30,8 @@ nothing : (k : ℕ) → ◌≡◌ {A = List ℕ} (take k []) []
 nothing zero = refl
 nothing (suc k) = refl
 
-all_taken : (xs : List ℕ) (i j n : ℕ) → i ≤ j → min (length xs) (i + n) ≤ j → (i ≤ min (length xs) (i + n) → j ≤ min (length xs) (i + n)) → take (j - i) (drop i xs) ≡ take n (drop i xs)
+all_taken : (xs : List ℕ) (i j n : ℕ) → i ≤ j → min (length xs) (i + n) ≤ j
+    → (i ≤ min (length xs) (i + n) → j ≤ min (length xs) (i + n)) → take (j - i) (drop i xs) ≡ take n (drop i xs)
 all_taken xs i j n above over under = by (cases_lt i (length xs))
   where
     by : (i < length xs) ⊎ (length xs ≤ i) → take (j - i) (drop i xs) ≡ take n (drop i xs)
@@ -37,7 +42,8 @@ all_taken xs i j n above over under = by (cases_lt i (length xs))
     by (inr past) = rw (drop_all i xs past) (nothing (j - i) ∙ sym (nothing n))
 
 -- the bytes of a message, read one after another
-pub message_bytes : (all : List ℕ) (store : Store) (buffer n i j : ℕ) → as_cells all ≡ store → i ≡ place buffer → i ≤ j → min (length all) (i + n) ≤ j → (i ≤ min (length all) (i + n) → j ≤ min (length all) (i + n))
+pub message_bytes : (all : List ℕ) (store : Store) (buffer n i j : ℕ) → as_cells all ≡ store → i ≡ place buffer → i ≤ j
+    → min (length all) (i + n) ≤ j → (i ≤ min (length all) (i + n) → j ≤ min (length all) (i + n))
     → take (j - i) (drop i all) ≡ bytes_at store buffer n
 message_bytes all store buffer n i j is at above over under =
     let m : (place buffer + n) - place buffer ≡ n = omega arith in

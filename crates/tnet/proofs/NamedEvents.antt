@@ -1,5 +1,6 @@
 -- Events that are done name a node of the net, and no link from the fourth on.
-use Rattle.std.proofs.Common.{◌≡◌, ℕ, ◌≤◌, refl, sym, ap, ◌∙◌, subst, [], ◌∷◌, length, Bool, true, false, Ok, Err, Option, Some, None, ⊎_elim, All, arith}
+use Rattle.std.proofs.Common.{◌≡◌, ℕ, ◌≤◌, refl, sym, ap, ◌∙◌, subst, [], ◌∷◌, length, Bool, true, false, Ok, Err}
+use Rattle.std.proofs.Common.{Option, Some, None, ⊎_elim, All, arith}
 use Rattle.std.proofs.lemmas.Bool.{cases_lt, or_parts, ltb-false, true≢false}
 use Rattle.std.proofs.lemmas.List.{length-map, length-set}
 use Rattle.std.proofs.lemmas.List.Elements.{All-nil, All-cons}
@@ -21,7 +22,8 @@ use Rattle.tplan.specs.declared.plan.BuildFault.TheVariants.{TooMany}
 use Rattle.tnet.specs.Building.{too_many, when, or_else, fault_of, machines_of, opening_net, unless_fault}
 use Rattle.tnet.specs.Wires.{end_at, far_end}
 use Rattle.tnet.specs.Net.{NetState, node_at, with_node}
-use Rattle.tnet.specs.Packets.{NetAnswer, node_event, received, delivered, sent_off, net_answer, answer_of, net_happens, with_frozen, after_answer, after_event, then_after, after_events, is_done, is_enabled}
+use Rattle.tnet.specs.Packets.{NetAnswer, node_event, received, delivered, sent_off, net_answer, answer_of, net_happens}
+use Rattle.tnet.specs.Packets.{with_frozen, after_answer, after_event, then_after, after_events, is_done, is_enabled}
 use Rattle.tnet.specs.Sound.{IsSound}
 use Rattle.tnet.specs.Corollaries.{NamesLink, NamesPlace, EventsNamePlaces, NetsAreSmall}
 use Rattle.tnet.proofs.OpenedNets.{length-fresh_nodes}
@@ -44,18 +46,23 @@ sent_nodes : (n : ℕ) (p : Option (ℕ × Packet)) (net : NetState) → (sent_o
 sent_nodes n None net = refl
 sent_nodes n (Some (l, p)) net = delivered_nodes p (far_end net.wires (end_at n l)) net
 
-frozen_count : (n : ℕ) (b : Break) (o : Option NodeState) (net : NetState) → length (with_frozen n b o net).nodes ≡ length net.nodes
+frozen_count : (n : ℕ) (b : Break) (o : Option NodeState) (net : NetState)
+    → length (with_frozen n b o net).nodes ≡ length net.nodes
 frozen_count n b None net = refl
 frozen_count n b (Some node) net = length-set net.nodes n (frozen b node)
 
-answer_count : (net net' : NetState) (n : ℕ) (act : Act) (x : Answer) → after_answer n net (net_answer n act net x) ≡ Some net' → length net'.nodes ≡ length net.nodes
+answer_count : (net net' : NetState) (n : ℕ) (act : Act) (x : Answer)
+    → after_answer n net (net_answer n act net x) ≡ Some net' → length net'.nodes ≡ length net.nodes
 answer_count net net' n act (Ok (node, emitted)) h =
-    ap (λ (w : NetState). length w.nodes) (sym (same_Some _ _ h)) ∙ ap length (sent_nodes n emitted.packet (with_node n node (received n act net)))
+    ap (λ (w : NetState). length w.nodes) (sym (same_Some _ _ h))
+    ∙ ap length (sent_nodes n emitted.packet (with_node n node (received n act net)))
     ∙ length-set (received n act net).nodes n node ∙ ap length (received_nodes n act net)
 answer_count net net' n act (Err NotEnabled) h = cc
-answer_count net net' n act (Err (Frozen b)) h = ap (λ (w : NetState). length w.nodes) (sym (same_Some _ _ h)) ∙ frozen_count n b (node_at net n) net
+answer_count net net' n act (Err (Frozen b)) h = ap (λ (w : NetState). length w.nodes) (sym (same_Some _ _ h))
+    ∙ frozen_count n b (node_at net n) net
 
-count_by : (net net' : NetState) (n : ℕ) (act : Act) (e : Option NodeEvent) (o : Option NodeState) → after_answer n net (answer_of n act net e o) ≡ Some net' → length net'.nodes ≡ length net.nodes
+count_by : (net net' : NetState) (n : ℕ) (act : Act) (e : Option NodeEvent) (o : Option NodeState)
+    → after_answer n net (answer_of n act net e o) ≡ Some net' → length net'.nodes ≡ length net.nodes
 count_by net net' n act (Some e) (Some node) h = answer_count net net' n act (happens e node) h
 count_by net net' n act (Some e) None h = cc
 count_by net net' n act None (Some node) h = cc
@@ -73,12 +80,17 @@ answer_done n net net' (Err NotEnabled) h = cc
 answer_done n net net' (Err (Frozen b)) h = refl
 
 -- a link of a node at which something is done
-link_named : (net : NetState) (n : ℕ) (act : Act) (node : NodeState) → IsSound net → node_at net n ≡ Some node → is_enabled net (event_at n act) ≡ true → NamesLink act
+link_named : (net : NetState) (n : ℕ) (act : Act) (node : NodeState) → IsSound net → node_at net n ≡ Some node
+    → is_enabled net (event_at n act) ≡ true → NamesLink act
 link_named net n Run node sound there h = tt
-link_named net n (Send l) node sound there h = ⊎_elim (λ k. k) (λ past. absurd (true≢false (sym h ∙ no_send net n l node sound there past))) (cases_lt l 4)
-link_named net n (Data l) node sound there h = ⊎_elim (λ k. k) (λ past. absurd (true≢false (sym h ∙ no_data net n l node sound there past))) (cases_lt l 4)
-link_named net n (Take l) node sound there h = ⊎_elim (λ k. k) (λ past. absurd (true≢false (sym h ∙ no_take net n l node sound there past))) (cases_lt l 4)
-link_named net n (Ack l) node sound there h = ⊎_elim (λ k. k) (λ past. absurd (true≢false (sym h ∙ no_ack net n l node sound there past))) (cases_lt l 4)
+link_named net n (Send l) node sound there h =
+    ⊎_elim (λ k. k) (λ past. absurd (true≢false (sym h ∙ no_send net n l node sound there past))) (cases_lt l 4)
+link_named net n (Data l) node sound there h =
+    ⊎_elim (λ k. k) (λ past. absurd (true≢false (sym h ∙ no_data net n l node sound there past))) (cases_lt l 4)
+link_named net n (Take l) node sound there h =
+    ⊎_elim (λ k. k) (λ past. absurd (true≢false (sym h ∙ no_take net n l node sound there past))) (cases_lt l 4)
+link_named net n (Ack l) node sound there h =
+    ⊎_elim (λ k. k) (λ past. absurd (true≢false (sym h ∙ no_ack net n l node sound there past))) (cases_lt l 4)
 
 -- an event that is enabled
 named : (net : NetState) (e : Event) → IsSound net → is_enabled net e ≡ true → NamesPlace (length net.nodes) e
@@ -92,14 +104,18 @@ named net e sound h = by (node_at net e.node) refl
 -- each event of a run
 pub events_name_places : EventsNamePlaces
 events_name_places net left [] sound h = All-nil (NamesPlace (length net.nodes))
-events_name_places net left (e ∷ events) sound h = by (λ mid. events_name_places mid left events) (after_event net e) refl h
+events_name_places net left (e ∷ events) sound h =
+    by (λ mid. events_name_places mid left events) (after_event net e) refl h
   where
-    by : ((mid : NetState) → IsSound mid → after_events events mid ≡ Some left → All (NamesPlace (length mid.nodes)) events) → (o : Option NetState) → after_event net e ≡ o
+    by : ((mid : NetState) → IsSound mid → after_events events mid ≡ Some left
+        → All (NamesPlace (length mid.nodes)) events) → (o : Option NetState) → after_event net e ≡ o
         → then_after (after_events events) o ≡ Some left → All (NamesPlace (length net.nodes)) (e ∷ events)
     by others None k g = cc
     by others (Some mid) k g =
-        All-cons (NamesPlace (length net.nodes)) e events (named net e sound (answer_done e.node net mid (net_happens e net) k))
-        (subst (λ (n : ℕ). All (NamesPlace n) events) (count_stays net mid e k) (others mid (stays_sound net mid e sound k) g))
+        All-cons (NamesPlace (length net.nodes)) e events
+        (named net e sound (answer_done e.node net mid (net_happens e net) k))
+        (subst (λ (n : ℕ). All (NamesPlace n) events) (count_stays net mid e k)
+        (others mid (stays_sound net mid e sound k) g))
 
 -- the net of a plan without a fault has as many nodes as the plan, and those are few
 unless_too_many : (b : Bool) (rest : Option BuildFault) → or_else (when b TooMany) rest ≡ None → b ≡ false
@@ -111,12 +127,14 @@ unfolding fault_of machines_of
 few_of_plan p h =
     let few : too_many p ≡ false = unless_too_many (too_many p) _ h in
     let nodes : nat_lt 64 (length p.nodes) ≡ false = (or_parts _ _ (or_parts _ _ few).0).0 in
-    let count : length (opening_net p).nodes ≡ length p.nodes = length-fresh_nodes p.wires 0 (machines_of p) ∙ length-map p.nodes _ in
+    let count : length (opening_net p).nodes ≡ length p.nodes = length-fresh_nodes p.wires 0 (machines_of p)
+    ∙ length-map p.nodes _ in
     omega (arith, ltb-false 64 (length p.nodes) nodes, count)
 
 pub nets_are_small : NetsAreSmall
 nets_are_small p net h = by (fault_of p) refl h
   where
     by : (f : Option BuildFault) → fault_of p ≡ f → unless_fault (opening_net p) f ≡ Ok net → length net.nodes ≤ 64
-    by None e k = let same : opening_net p ≡ net = cc in subst (λ (w : NetState). length w.nodes ≤ 64) same (few_of_plan p e)
+    by None e k = let same : opening_net p ≡ net = cc in
+        subst (λ (w : NetState). length w.nodes ≤ 64) same (few_of_plan p e)
     by (Some f) e k = cc

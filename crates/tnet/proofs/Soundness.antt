@@ -10,11 +10,13 @@ use Rattle.tnet.specs.Sound.{IsSound}
 use Rattle.tnet.proofs.SoundEvents.{stays_sound}
 use Rattle.tnet.specs.Answers.{DoesNet}
 
-by_answer : (e : Event) (net : NetState) (a : NetAnswer) → IsSound net → net_happens e net ≡ a → IsSound (net_left_by e net a)
+by_answer : (e : Event) (net : NetState) (a : NetAnswer) → IsSound net → net_happens e net ≡ a
+    → IsSound (net_left_by e net a)
 by_answer e net (Ok (net', x)) sound h = stays_sound net net' e sound (rw h refl)
 by_answer e net (Err NotEnabled) sound h = sound
 by_answer e net (Err (Frozen b)) sound h = stays_sound net (net_left_by e net (Err (Frozen b))) e sound (rw h refl)
 
 -- an event leaves a sound net
-pub left_sound : (e : Event) (net net' : NetState) (r : Result Emitted StepFault) → IsSound net → DoesNet e (net_happens e net) net r net' → IsSound net'
+pub left_sound : (e : Event) (net net' : NetState) (r : Result Emitted StepFault) → IsSound net
+    → DoesNet e (net_happens e net) net r net' → IsSound net'
 left_sound e net net' r sound does = subst IsSound (sym does.left) (by_answer e net (net_happens e net) sound refl)

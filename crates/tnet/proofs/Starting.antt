@@ -1,12 +1,13 @@
 -- A processor while its segments are loaded and its processes are added, and the node that it becomes.
-use Rattle.std.proofs.Common.{◌≡◌, ℕ, ◌<◌, ◌≤◌, ◌^◌, refl, sym, ap, ◌∙◌, subst, List, length, get_or, replicate, false, not, ◌&&◌, None, Result, Ok, Err, All, arith, Fits, w8}
+use Rattle.std.proofs.Common.{◌≡◌, ℕ, ◌<◌, ◌≤◌, ◌^◌, refl, sym, ap, ◌∙◌, subst, List, length, get_or, replicate, false}
+use Rattle.std.proofs.Common.{not, ◌&&◌, None, Result, Ok, Err, All, arith, Fits, w8}
 use Rattle.std.specs.Prelude.{fold, OnOk}
 use Rattle.std.proofs.lemmas.Bool.{not-false, and_parts}
 use Rattle.std.proofs.lemmas.List.{get_or_default}
 use Rattle.tword.specs.declared.breaks.Break.{Break}
 use Rattle.tword.specs.Touches.{is_inside, is_open}
 use Rattle.tproc.specs.Machine.{Machine}
-use Rattle.tproc.specs.declared.waiting.LinkEnd.{LinkEnd}
+use Rattle.tproc.specs.declared.waiter.LinkEnd.{LinkEnd}
 use Rattle.tproc.specs.LinkChannels.{quiet_end}
 use Rattle.tproc.specs.Opening.{Adds, empty_machine, loaded, added}
 use Rattle.tproc.proofs.Opening.{IsReadyMachine, is_ready_loaded, is_ready_added}
@@ -14,7 +15,8 @@ use Rattle.tlink.specs.Whole.{HasNoticedNothing}
 use Rattle.tplan.specs.declared.plan.Segment.{Segment}
 use Rattle.tplan.specs.declared.plan.Process.{Process}
 use Rattle.tplan.specs.declared.plan.NodePlan.{NodePlan}
-use Rattle.tnet.specs.Building.{IsUnstarted, is_bad_segment, bad_segment, built_machine, added_from, loaded_machine, or_loaded}
+use Rattle.tnet.specs.Building.{IsUnstarted, is_bad_segment, bad_segment, built_machine, added_from, loaded_machine}
+use Rattle.tnet.specs.Building.{or_loaded}
 use Rattle.tnet.proofs.OpenedPlans.{opened-links, no_position}
 use Rattle.tnet.proofs.OpenedNets.{quiet_link}
 
@@ -32,11 +34,13 @@ are_bytes bytes h k d l = subst (λ (b : ℕ). b < 256) (get_or_default bytes k 
 
 -- bytes are loaded where programs may use the memory
 pub still_loaded : (memory start : ℕ) (bytes : List ℕ) (m m' : Machine) → ((k : ℕ) → Fits w8 (get_or bytes k 0))
-    → not (is_inside memory (record { start = start; size = length bytes }) && is_open (record { start = start; size = length bytes })) ≡ false
+    → not (is_inside memory (record { start = start; size = length bytes }) && is_open
+    (record { start = start; size = length bytes })) ≡ false
     → m' ≡ loaded start bytes m → IsUnstarted memory m → IsUnstarted memory m'
 still_loaded memory start bytes m m' fit bounds is u =
     rw is (unstarted memory (loaded start bytes m) (small memory m u)
-    (is_ready_loaded memory 0 start bytes m (ready memory m u) (are_bytes bytes fit) (and_parts _ _ (not-false _ bounds)).0))
+    (is_ready_loaded memory 0 start bytes m (ready memory m u) (are_bytes bytes fit)
+    (and_parts _ _ (not-false _ bounds)).0))
 
 -- a process is added
 pub still_added : (memory process iptr : ℕ) (m m' : Machine) (r : Result (Unit {0}) Break) → process < 2 ^ 32
@@ -44,27 +48,38 @@ pub still_added : (memory process iptr : ℕ) (m m' : Machine) (r : Result (Unit
 still_added memory process iptr m m' r word does u = by (added process iptr m) refl does
   where
     by : (x : Result Machine Break) → added process iptr m ≡ x → Adds x m r m' → OnOk r (IsUnstarted memory m')
-    by (Ok n) e d = rw (d.0, d.1) (unstarted memory n (small memory m u) (is_ready_added memory 0 process iptr m n (small memory m u) word (ready memory m u) e))
+    by (Ok n) e d =
+        rw (d.0, d.1)
+        (unstarted memory n (small memory m u)
+        (is_ready_added memory 0 process iptr m n (small memory m u) word (ready memory m u) e))
     by (Err b) e d = rw d.0 tt
 
 -- no segment of a node is bad
-pub good_segments : (n : NodePlan) → bad_segment n ≡ None → All (λ s. is_bad_segment n.memory s ≡ false) n.image.segments
+pub good_segments : (n : NodePlan) → bad_segment n ≡ None
+    → All (λ s. is_bad_segment n.memory s ≡ false) n.image.segments
 good_segments n h = no_position (λ s. is_bad_segment n.memory s) n.image.segments h
 
 -- a node's processor, in its three steps
-pub built_of : (timeslice : ℕ) (n : NodePlan) (ss : List Segment) (ps : List Process) (empty full : Machine) (x : Result Machine (ℕ × Break))
-    → empty ≡ empty_machine n.memory timeslice → ss ≡ n.image.segments → full ≡ fold (λ m s. loaded s.address s.bytes m) empty ss
+pub built_of : (timeslice : ℕ) (n : NodePlan) (ss : List Segment) (ps : List Process) (empty full : Machine)
+    (x : Result Machine (ℕ × Break))
+    → empty ≡ empty_machine n.memory timeslice → ss ≡ n.image.segments
+    → full ≡ fold (λ m s. loaded s.address s.bytes m) empty ss
     → ps ≡ n.image.processes → added_from 0 ps full ≡ x → built_machine timeslice n ≡ x
 built_of timeslice n ss ps empty full x is_empty segments is_full processes h =
     ap (λ (qs : List Process). added_from 0 qs (loaded_machine timeslice n)) (sym processes)
-    ∙ ap (λ (ts : List Segment). added_from 0 ps (fold (λ m s. loaded s.address s.bytes m) (empty_machine n.memory timeslice) ts)) (sym segments)
+    ∙ ap (λ (ts : List Segment). added_from 0 ps
+    (fold (λ m s. loaded s.address s.bytes m) (empty_machine n.memory timeslice) ts)) (sym segments)
     ∙ ap (λ (m : Machine). added_from 0 ps (fold (λ m s. loaded s.address s.bytes m) m ss)) (sym is_empty)
     ∙ ap (added_from 0 ps) (sym is_full)
     ∙ h
 
-built-links : (timeslice : ℕ) (n : NodePlan) (m : Machine) → built_machine timeslice n ≡ Ok m → m.control.links ≡ replicate 4 quiet_end
-built-links timeslice n m h = ap (λ (x : Result Machine (ℕ × Break)). (or_loaded (loaded_machine timeslice n) x).control.links) (sym h) ∙ opened-links timeslice n
+built-links : (timeslice : ℕ) (n : NodePlan) (m : Machine) → built_machine timeslice n ≡ Ok m
+    → m.control.links ≡ replicate 4 quiet_end
+built-links timeslice n m h =
+    ap (λ (x : Result Machine (ℕ × Break)). (or_loaded (loaded_machine timeslice n) x).control.links) (sym h)
+    ∙ opened-links timeslice n
 
 -- no link of a processor that was built has noticed a byte
-pub unnoticed : (timeslice : ℕ) (n : NodePlan) (m : Machine) → built_machine timeslice n ≡ Ok m → HasNoticedNothing m.control
+pub unnoticed : (timeslice : ℕ) (n : NodePlan) (m : Machine) → built_machine timeslice n ≡ Ok m
+    → HasNoticedNothing m.control
 unnoticed timeslice n m h = λ l b. ap (λ (e : LinkEnd). e.noticed) (quiet_link m l (built-links timeslice n m h))

@@ -1,5 +1,7 @@
 -- The nodes of a plan, one after another: those that are built so far, and the first process that is refused.
-use Rattle.std.proofs.Common.{◌≡◌, ℕ, suc, ◌+◌, ◌<◌, ◌≤◌, refl, sym, ap, ◌∙◌, List, [], ◌∷◌, ◌++◌, length, get_or, take, drop, map, false, Option, Some, None, Result, Ok, Err, All, arith, add-one, add-zero, zero-add}
+use Rattle.std.proofs.Common.{◌≡◌, ℕ, suc, ◌+◌, ◌<◌, ◌≤◌, refl, sym, ap, ◌∙◌, List, [], ◌∷◌, ◌++◌, length, get_or, take}
+use Rattle.std.proofs.Common.{drop, map, false, Option, Some, None, Result, Ok, Err, All, arith, add-one, add-zero}
+use Rattle.std.proofs.Common.{zero-add}
 use Rattle.std.specs.Prelude.{option_map}
 use Rattle.std.proofs.Math.Seq.{take-suc, drop-cons}
 use Rattle.std.proofs.lemmas.List.{map-append, length-map, length-take-le, take_all, drop_all}
@@ -13,101 +15,139 @@ use Rattle.tplan.specs.declared.plan.BuildFault.{BuildFault}
 use Rattle.tplan.specs.declared.plan.BuildFault.TheVariants.{BadProcess}
 use Rattle.tnet.specs.Sound.{IsSoundNode}
 use Rattle.tplan.specs.declared.plan.Plan.{Plan}
-use Rattle.tnet.specs.Building.{AreOpened, IsWellFormed, is_bad_size, bad_segment, machines_of, IsOpened, IsFaultOf, built_machine, bad_process, node_fault, first_fault_from, loaded_machine, or_loaded, wired_links, fresh_nodes}
+use Rattle.tnet.specs.Building.{AreOpened, IsWellFormed, is_bad_size, bad_segment, machines_of, IsOpened, IsFaultOf}
+use Rattle.tnet.specs.Building.{built_machine, bad_process, node_fault, first_fault_from, loaded_machine, or_loaded}
+use Rattle.tnet.specs.Building.{wired_links, fresh_nodes}
 use Rattle.tnet.proofs.OpenedPlans.{opened, no_position, no_fault}
 
 -- how far the building of nodes has come
-pub record IsBuiltSoFar (timeslice : ℕ) (wires : List Wire) (plans : List NodePlan) (number : ℕ) (nodes : List NodeState) : Type 0 where
+pub record IsBuiltSoFar (timeslice : ℕ) (wires : List Wire) (plans : List NodePlan) (number : ℕ)
+    (nodes : List NodeState) : Type 0 where
   pub opened : nodes ≡ fresh_nodes wires 0 (map (opened timeslice) (take number plans))
   pub sound : All IsSoundNode nodes
-  pub added : first_fault_from 0 (bad_process timeslice) plans ≡ first_fault_from number (bad_process timeslice) (drop number plans)
+  pub added : first_fault_from 0 (bad_process timeslice) plans
+      ≡ first_fault_from number (bad_process timeslice) (drop number plans)
 
-fresh_nodes-append : (wires : List Wire) (k : ℕ) (ms : List Machine) (m : Machine) → fresh_nodes wires k (ms ++ m ∷ []) ≡ fresh_nodes wires k ms ++ fresh_node m (wired_links wires (k + length ms)) ∷ []
+fresh_nodes-append : (wires : List Wire) (k : ℕ) (ms : List Machine) (m : Machine)
+    → fresh_nodes wires k (ms ++ m ∷ []) ≡ fresh_nodes wires k ms ++ fresh_node m (wired_links wires (k + length ms))
+    ∷ []
 fresh_nodes-append wires k [] m = rw add-zero refl
 fresh_nodes-append wires k (x ∷ ms) m =
     let e : k + length (x ∷ ms) ≡ suc k + length ms = omega arith in
     rw (fresh_nodes-append wires (suc k) ms m, e) refl
 
 -- a node that was built refused no process
-none_refused : (timeslice : ℕ) (n : NodePlan) (m : Machine) → built_machine timeslice n ≡ Ok m → bad_process timeslice n ≡ None
-none_refused timeslice n m h = ap (λ (x : Result Machine (ℕ × Break)). elim x as (λ _. Option (ℕ × Break)) [ Ok m ↦ None | Err fault ↦ Some fault ]) h
+none_refused : (timeslice : ℕ) (n : NodePlan) (m : Machine) → built_machine timeslice n ≡ Ok m
+    → bad_process timeslice n ≡ None
+none_refused timeslice n m h =
+    ap (λ (x : Result Machine (ℕ × Break)). elim x as (λ _. Option (ℕ × Break))
+    [ Ok m ↦ None | Err fault ↦ Some fault ]) h
 
 opened_is : (timeslice : ℕ) (n : NodePlan) (m : Machine) → built_machine timeslice n ≡ Ok m → opened timeslice n ≡ m
 opened_is timeslice n m h = ap (or_loaded (loaded_machine timeslice n)) h
 
 -- the next node has no fault
-fault_later : {A B : Type 0} (f : A → Option B) (xs : List A) (k : ℕ) (x : A) → k < length xs → x ≡ get_or xs k x → f x ≡ None
+fault_later : {A B : Type 0} (f : A → Option B) (xs : List A) (k : ℕ) (x : A) → k < length xs → x ≡ get_or xs k x
+    → f x ≡ None
     → first_fault_from k f (drop k xs) ≡ first_fault_from (k + 1) f (drop (k + 1) xs)
 fault_later {A} {B} f xs k x l read none = rw (add-one, drop-cons xs k x l, ← read) (by (f x) none)
   where
-    by : (o : Option B) → o ≡ None → ◌≡◌ {A = Option (ℕ × B)} (elim o [ Some fault ↦ Some (k, fault) | None ↦ first_fault_from (suc k) f (drop (suc k) xs) ]) (first_fault_from (suc k) f (drop (suc k) xs))
+    by : (o : Option B) → o ≡ None
+        → ◌≡◌ {A = Option (ℕ × B)}
+        (elim o [ Some fault ↦ Some (k, fault) | None ↦ first_fault_from (suc k) f (drop (suc k) xs) ])
+        (first_fault_from (suc k) f (drop (suc k) xs))
     by None e = refl
     by (Some y) e = cc
 
 -- it has one
-fault_here : {A B : Type 0} (f : A → Option B) (xs : List A) (k : ℕ) (x : A) (y : B) → k < length xs → x ≡ get_or xs k x → f x ≡ Some y
+fault_here : {A B : Type 0} (f : A → Option B) (xs : List A) (k : ℕ) (x : A) (y : B) → k < length xs → x ≡ get_or xs k x
+    → f x ≡ Some y
     → first_fault_from k f (drop k xs) ≡ Some (k, y)
 fault_here {A} {B} f xs k x y l read some = rw (drop-cons xs k x l, ← read) (by (f x) some)
   where
-    by : (o : Option B) → o ≡ Some y → ◌≡◌ {A = Option (ℕ × B)} (elim o [ Some fault ↦ Some (k, fault) | None ↦ first_fault_from (suc k) f (drop (suc k) xs) ]) (Some (k, y))
+    by : (o : Option B) → o ≡ Some y
+        → ◌≡◌ {A = Option (ℕ × B)}
+        (elim o [ Some fault ↦ Some (k, fault) | None ↦ first_fault_from (suc k) f (drop (suc k) xs) ]) (Some (k, y))
     by None e = cc
     by (Some z) e = let q : z ≡ y = cc in ap (λ (z : B). Some (k, z)) q
 
 -- the nodes with one more
-next_nodes : (timeslice : ℕ) (wires : List Wire) (plans : List NodePlan) (number : ℕ) (plan : NodePlan) (node : NodeState)
+next_nodes : (timeslice : ℕ) (wires : List Wire) (plans : List NodePlan) (number : ℕ) (plan : NodePlan)
+    (node : NodeState)
     → number < length plans → plan ≡ get_or plans number plan → IsOpened timeslice wires number plan node
-    → fresh_nodes wires 0 (map (opened timeslice) (take (suc number) plans)) ≡ fresh_nodes wires 0 (map (opened timeslice) (take number plans)) ++ node ∷ []
+    → fresh_nodes wires 0 (map (opened timeslice) (take (suc number) plans))
+    ≡ fresh_nodes wires 0 (map (opened timeslice) (take number plans)) ++ node ∷ []
 next_nodes timeslice wires plans number plan node within read new =
     let before : List Machine = map (opened timeslice) (take number plans) in
-    let count : 0 + length before ≡ number = zero-add (length before) ∙ length-map (take number plans) (opened timeslice) ∙ length-take-le number plans (omega arith) in
-    let machine : opened timeslice (get_or plans number plan) ≡ node.machine = ap (opened timeslice) (sym read) ∙ opened_is timeslice plan node.machine new.built in
+    let count : 0 + length before ≡ number = zero-add (length before)
+    ∙ length-map (take number plans) (opened timeslice) ∙ length-take-le number plans (omega arith) in
+    let machine : opened timeslice (get_or plans number plan) ≡ node.machine = ap (opened timeslice) (sym read)
+    ∙ opened_is timeslice plan node.machine new.built in
     ap (λ (ps : List NodePlan). fresh_nodes wires 0 (map (opened timeslice) ps)) (take-suc plans number plan within)
     ∙ ap (fresh_nodes wires 0) (map-append (opened timeslice) (take number plans) (get_or plans number plan ∷ []))
     ∙ fresh_nodes-append wires 0 before (opened timeslice (get_or plans number plan))
-    ∙ ap (λ (m : Machine). fresh_nodes wires 0 before ++ fresh_node m (wired_links wires (0 + length before)) ∷ []) machine
+    ∙ ap (λ (m : Machine). fresh_nodes wires 0 before ++ fresh_node m (wired_links wires (0 + length before)) ∷ [])
+    machine
     ∙ ap (λ (n : ℕ). fresh_nodes wires 0 before ++ fresh_node node.machine (wired_links wires n) ∷ []) count
     ∙ ap (λ (x : NodeState). fresh_nodes wires 0 before ++ x ∷ []) (sym new.fresh)
 
 -- one more node
-pub one_more_node : (timeslice : ℕ) (wires wires' : List Wire) (plans : List NodePlan) (number : ℕ) (plan : NodePlan) (nodes nodes' : List NodeState) (node : NodeState)
-    → number < length plans → plan ≡ get_or plans number plan → IsBuiltSoFar timeslice wires plans number nodes → wires' ≡ wires → IsOpened timeslice wires' number plan node → nodes' ≡ nodes ++ node ∷ []
+pub one_more_node : (timeslice : ℕ) (wires wires' : List Wire) (plans : List NodePlan) (number : ℕ) (plan : NodePlan)
+    (nodes nodes' : List NodeState) (node : NodeState)
+    → number < length plans → plan ≡ get_or plans number plan → IsBuiltSoFar timeslice wires plans number nodes
+    → wires' ≡ wires → IsOpened timeslice wires' number plan node → nodes' ≡ nodes ++ node ∷ []
     → IsBuiltSoFar timeslice wires plans (number + 1) nodes'
 one_more_node timeslice wires wires' plans number plan nodes nodes' node within read so_far same new' pushed =
     let new : IsOpened timeslice wires number plan node = rw same at new' in
     rw pushed (record {
-      opened = rw add-one (ap (λ (ns : List NodeState). ns ++ node ∷ []) so_far.opened ∙ sym (next_nodes timeslice wires plans number plan node within read new));
-      sound = All-append IsSoundNode nodes (node ∷ []) so_far.sound (All-cons IsSoundNode node [] new.sound (All-nil IsSoundNode));
-      added = so_far.added ∙ fault_later (bad_process timeslice) plans number plan within read (none_refused timeslice plan node.machine new.built);
+      opened = rw add-one (ap (λ (ns : List NodeState). ns ++ node ∷ []) so_far.opened
+          ∙ sym (next_nodes timeslice wires plans number plan node within read new));
+      sound = All-append IsSoundNode nodes (node ∷ []) so_far.sound
+          (All-cons IsSoundNode node [] new.sound (All-nil IsSoundNode));
+      added = so_far.added
+          ∙ fault_later (bad_process timeslice) plans number plan within read
+          (none_refused timeslice plan node.machine new.built);
     })
 
 -- the next node refuses a process
-pub node_fails : (timeslice : ℕ) (wires : List Wire) (all plans : List NodePlan) (number : ℕ) (plan : NodePlan) (nodes : List NodeState) (fault : BuildFault)
-    → plans ≡ all → number < length plans → plan ≡ get_or plans number plan → IsBuiltSoFar timeslice wires plans number nodes → IsFaultOf (node_fault timeslice number plan) fault
+pub node_fails : (timeslice : ℕ) (wires : List Wire) (all plans : List NodePlan) (number : ℕ) (plan : NodePlan)
+    (nodes : List NodeState) (fault : BuildFault)
+    → plans ≡ all → number < length plans → plan ≡ get_or plans number plan
+    → IsBuiltSoFar timeslice wires plans number nodes → IsFaultOf (node_fault timeslice number plan) fault
     → IsFaultOf (option_map (λ f. BadProcess f.0 f.1.0 f.1.1) (first_fault_from 0 (bad_process timeslice) all)) fault
 node_fails timeslice wires all plans number plan nodes fault same within read so_far fails other =
     rw (← same, so_far.added) (by (bad_process timeslice plan) refl (fails other))
   where
-    by : (o : Option (ℕ × Break)) → bad_process timeslice plan ≡ o → option_map (λ (f : ℕ × Break). BadProcess number f.0 f.1) o ≡ Some fault
-        → option_map (λ (f : ℕ × (ℕ × Break)). BadProcess f.0 f.1.0 f.1.1) (first_fault_from number (bad_process timeslice) (drop number plans)) ≡ Some fault
+    by : (o : Option (ℕ × Break)) → bad_process timeslice plan ≡ o
+        → option_map (λ (f : ℕ × Break). BadProcess number f.0 f.1) o ≡ Some fault
+        → option_map (λ (f : ℕ × (ℕ × Break)). BadProcess f.0 f.1.0 f.1.1)
+        (first_fault_from number (bad_process timeslice) (drop number plans)) ≡ Some fault
     by None e h = cc
     by (Some y) e h = rw (fault_here (bad_process timeslice) plans number plan y within read e) h
 
 -- no node of a well formed plan has a bad memory, or a bad segment
-pub good_node : (p : Plan) (plans : List NodePlan) (number : ℕ) (plan : NodePlan) → IsWellFormed p → plans ≡ p.nodes → number < length plans → plan ≡ get_or plans number plan
+pub good_node : (p : Plan) (plans : List NodePlan) (number : ℕ) (plan : NodePlan) → IsWellFormed p → plans ≡ p.nodes
+    → number < length plans → plan ≡ get_or plans number plan
     → (is_bad_size plan ≡ false) × (bad_segment plan ≡ None)
 good_node p plans number plan form same within read =
-    let size : is_bad_size (get_or plans number plan) ≡ false = rw same (no_position is_bad_size p.nodes form.sizes number plan (rw same at within)) in
-    let segments : bad_segment (get_or plans number plan) ≡ None = rw same (no_fault 0 bad_segment p.nodes form.segments number plan (rw same at within)) in
+    let size : is_bad_size (get_or plans number plan) ≡ false =
+    rw same (no_position is_bad_size p.nodes form.sizes number plan (rw same at within)) in
+    let segments : bad_segment (get_or plans number plan) ≡ None =
+    rw same (no_fault 0 bad_segment p.nodes form.segments number plan (rw same at within)) in
     (rw read size, rw read segments)
 
 -- all nodes are built
-pub all_built : (p : Plan) (plans : List NodePlan) (number : ℕ) (nodes : List NodeState) → plans ≡ p.nodes → length plans ≤ number → IsBuiltSoFar p.timeslice p.wires plans number nodes → AreOpened p nodes
+pub all_built : (p : Plan) (plans : List NodePlan) (number : ℕ) (nodes : List NodeState) → plans ≡ p.nodes
+    → length plans ≤ number → IsBuiltSoFar p.timeslice p.wires plans number nodes → AreOpened p nodes
 unfolding machines_of
 all_built p plans number nodes same end so_far =
     record {
-      opened = so_far.opened ∙ ap (λ (ns : List NodePlan). fresh_nodes p.wires 0 (map (opened p.timeslice) ns)) (take_all number plans end ∙ same);
+      opened = so_far.opened
+          ∙ ap (λ (ns : List NodePlan). fresh_nodes p.wires 0 (map (opened p.timeslice) ns)) (take_all number plans end
+          ∙ same);
       sound = so_far.sound;
       added =
           ap (option_map (λ f. BadProcess f.0 f.1.0 f.1.1))
-          (ap (first_fault_from 0 (bad_process p.timeslice)) (sym same) ∙ so_far.added ∙ ap (first_fault_from number (bad_process p.timeslice)) (drop_all number plans end));
+          (ap (first_fault_from 0 (bad_process p.timeslice)) (sym same) ∙ so_far.added
+          ∙ ap (first_fault_from number (bad_process p.timeslice)) (drop_all number plans end));
     }

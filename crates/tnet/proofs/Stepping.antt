@@ -1,5 +1,6 @@
 -- An event of one node among others, and of a net.
-use Rattle.std.proofs.Common.{◌≡◌, ℕ, ◌<◌, refl, sym, ap, ◌∙◌, List, length, set, slice_index_or, Option, Some, None, Result, Ok, Err}
+use Rattle.std.proofs.Common.{◌≡◌, ℕ, ◌<◌, refl, sym, ap, ◌∙◌, List, length, set, slice_index_or, Option, Some, None}
+use Rattle.std.proofs.Common.{Result, Ok, Err}
 use Rattle.std.proofs.lemmas.List.{set-get_or}
 use Rattle.std.proofs.lemmas.Option.{slice_get_read, get_or_from_slice_get}
 use Rattle.tlink.specs.declared.event.NodeEvent.{NodeEvent}
@@ -17,13 +18,16 @@ use Rattle.tnet.specs.Answers.{DoesNet, DoesAt}
 
 -- the node that was read at a place and written back
 pub stepped_at : (n place : ℕ) (e : NodeEvent) (net : NetState) (node node' : NodeState) (r : Result Emitted StepFault)
-    → place ≡ n → place < length net.nodes → node ≡ slice_index_or net.nodes place node → r ≡ node_answered (happens e node) → node' ≡ node_left_by node (happens e node)
+    → place ≡ n → place < length net.nodes → node ≡ slice_index_or net.nodes place node
+    → r ≡ node_answered (happens e node) → node' ≡ node_left_by node (happens e node)
     → DoesAt n e (node_at net n) net r (with_node place node' net)
 stepped_at n place e net node node' r same within read told left =
-    rw (← same, slice_get_read net.nodes (length net.nodes) place node refl within read) (told, ap (λ (x : NodeState). with_node place x net) left)
+    rw (← same, slice_get_read net.nodes (length net.nodes) place node refl within read)
+    (told, ap (λ (x : NodeState). with_node place x net) left)
 
 -- a packet that is received leaves the nodes alone
-received-with_node : (n k : ℕ) (act : Act) (node : NodeState) (net : NetState) → received n act (with_node k node net) ≡ with_node k node (received n act net)
+received-with_node : (n k : ℕ) (act : Act) (node : NodeState) (net : NetState)
+    → received n act (with_node k node net) ≡ with_node k node (received n act net)
 received-with_node n k Run node net = refl
 received-with_node n k (Send l) node net = refl
 received-with_node n k (Data l) node net = refl
@@ -31,8 +35,10 @@ received-with_node n k (Take l) node net = refl
 received-with_node n k (Ack l) node net = refl
 
 -- the node's answer is done
-done_by : (e : Event) (asked : NodeEvent) (net : NetState) (node : NodeState) (x : Emitted) (a : Answer) → node_answered a ≡ Ok x
-    → DoesNet e (net_answer e.node e.act net a) net (Ok x) (sent_off e.node x.packet (received e.node e.act (with_node e.node (node_left_by node a) net)))
+done_by : (e : Event) (asked : NodeEvent) (net : NetState) (node : NodeState) (x : Emitted) (a : Answer)
+    → node_answered a ≡ Ok x
+    → DoesNet e (net_answer e.node e.act net a) net (Ok x)
+    (sent_off e.node x.packet (received e.node e.act (with_node e.node (node_left_by node a) net)))
 done_by e asked net node x (Ok (node', y)) h =
     let q : y ≡ x = cc in
     record {
@@ -42,12 +48,15 @@ done_by e asked net node x (Ok (node', y)) h =
 done_by e asked net node x (Err f) h = cc
 
 -- the node's answer is a fault
-refused_by : (e : Event) (net : NetState) (node : NodeState) (f : StepFault) (a : Answer) → node_at net e.node ≡ Some node → node_answered a ≡ Err f
+refused_by : (e : Event) (net : NetState) (node : NodeState) (f : StepFault) (a : Answer)
+    → node_at net e.node ≡ Some node → node_answered a ≡ Err f
     → DoesNet e (net_answer e.node e.act net a) net (Err f) (with_node e.node (node_left_by node a) net)
 refused_by e net node f (Ok (node', y)) there h = cc
 refused_by e net node f (Err NotEnabled) there h =
     let q : NotEnabled ≡ f = cc in
-    let same : set net.nodes e.node node ≡ net.nodes = ap (set net.nodes e.node) (sym (get_or_from_slice_get net.nodes e.node node node there)) ∙ set-get_or net.nodes e.node node in
+    let same : set net.nodes e.node node ≡ net.nodes =
+    ap (set net.nodes e.node) (sym (get_or_from_slice_get net.nodes e.node node node there))
+    ∙ set-get_or net.nodes e.node node in
     record { told = ap Err (sym q); left = ap (λ (x : List NodeState). record net { nodes = x }) same }
 refused_by e net node f (Err (Frozen b)) there h =
     let q : Frozen b ≡ f = cc in
@@ -61,7 +70,8 @@ unfolding net_happens
 event_done e asked net net' x r is does ok = by (node_at net e.node) refl does
   where
     by : (o : Option NodeState) → node_at net e.node ≡ o → DoesAt e.node asked o net r net'
-        → DoesNet e (answer_of e.node e.act net (node_event net e.node e.act) (node_at net e.node)) net (Ok x) (sent_off e.node x.packet (received e.node e.act net'))
+        → DoesNet e (answer_of e.node e.act net (node_event net e.node e.act) (node_at net e.node)) net (Ok x)
+        (sent_off e.node x.packet (received e.node e.act net'))
     by None there d = let q : Err NotEnabled ≡ Ok x = sym d.0 ∙ ok in cc
     by (Some node) there d = rw (is, there, d.1) (done_by e asked net node x (happens asked node) (sym d.0 ∙ ok))
 
@@ -75,12 +85,14 @@ event_refused e asked net net' f r is does err = by (node_at net e.node) refl do
     by : (o : Option NodeState) → node_at net e.node ≡ o → DoesAt e.node asked o net r net'
         → DoesNet e (answer_of e.node e.act net (node_event net e.node e.act) (node_at net e.node)) net (Err f) net'
     by None there d =
-        let q : f ≡ NotEnabled = let z : ◌≡◌ {A = Result Emitted StepFault} (Err f) (Err NotEnabled) = sym err ∙ d.0 in cc in
+        let q : f ≡ NotEnabled = let z : ◌≡◌ {A = Result Emitted StepFault} (Err f) (Err NotEnabled) = sym err ∙ d.0 in
+        cc in
         rw (is, there) (record { told = ap Err q; left = d.1 })
     by (Some node) there d = rw (is, there, d.1) (refused_by e net node f (happens asked node) there (sym d.0 ∙ err))
 
 -- an event is enabled where its node does what it is asked for
-pub asked_at : (e : Event) (asked : NodeEvent) (net : NetState) (node : NodeState) → node_event net e.node e.act ≡ Some asked → node_at net e.node ≡ Some node
+pub asked_at : (e : Event) (asked : NodeEvent) (net : NetState) (node : NodeState)
+    → node_event net e.node e.act ≡ Some asked → node_at net e.node ≡ Some node
     → is_enabled net e ≡ is_node_enabled asked node
 unfolding net_happens
 asked_at e asked net node is there = rw (is, there) (by (happens asked node))

@@ -15,14 +15,16 @@ use Rattle.tnet.specs.Net.{NetState, with_node}
 use Rattle.tnet.specs.Packets.{NetAnswer, net_left_by, answered}
 
 -- a net does what an answer of the machine says: the caller is told it, and the net is left as it says
-pub record DoesNet (e : Event) (answer : NetAnswer) (old : NetState) (result : Result Emitted StepFault) (new : NetState) : Type 0 where
+pub record DoesNet (e : Event) (answer : NetAnswer) (old : NetState) (result : Result Emitted StepFault)
+    (new : NetState) : Type 0 where
   pub told : result ≡ answered answer
   pub left : new ≡ net_left_by e old answer
 
 -- a node of a net does an event, and the rest of the net stands; or there is no such node
 abbrev pub DoesAt : ℕ → NodeEvent → Option NodeState → NetState → Result Emitted StepFault → NetState → Type 0
 DoesAt n e None old result new = (result ≡ Err NotEnabled) × (new ≡ old)
-DoesAt n e (Some node) old result new = (result ≡ node_answered (happens e node)) × (new ≡ with_node n (node_left_by node (happens e node)) old)
+DoesAt n e (Some node) old result new = (result ≡ node_answered (happens e node))
+    × (new ≡ with_node n (node_left_by node (happens e node)) old)
 
 -- an event is done; or it is not enabled, and nothing changes
 abbrev pub Did : Option NetState → NetState → Bool → NetState → Type 0
@@ -33,7 +35,8 @@ Did (Some net) old result new = (result ≡ true) × (new ≡ net)
 abbrev pub HasRoom : Option Offer → ℕ → Type 0
 HasRoom input room = IfSome input (λ (o : Offer). o.length ≤ room)
 
--- the inputs that surely stand after an act: all after one that takes a packet, and all others after one that takes a byte
+-- the inputs that surely stand after an act: all after one that takes a packet, and all others after one that takes a
+-- byte
 abbrev pub KeepsInput : Act → ℕ → Type 0
 KeepsInput (Data k) l = ⊤
 KeepsInput (Ack k) l = ⊤

@@ -1,6 +1,7 @@
 -- A node at its place in a net: what lies at its links, and what an event of it takes, emits and tells.
 -- Source: the T414 data sheet: data and acknowledge packets. What is told: own choice.
-use Rattle.std.specs.Prelude.{ℕ, true, false, List, [], ◌∷◌, Option, Some, None, Result, Ok, Err, slice_index_or, slice_set, if◌then◌else◌}
+use Rattle.std.specs.Prelude.{ℕ, true, false, List, [], ◌∷◌, Option, Some, None, Result, Ok, Err, slice_index_or}
+use Rattle.std.specs.Prelude.{slice_set, if◌then◌else◌}
 use Rattle.tword.specs.Stores.{bytes_at}
 use Rattle.tproc.specs.declared.offer.Offer.{Offer}
 use Rattle.tlink.specs.declared.counts.Arrival.{Arrival}
@@ -82,7 +83,8 @@ answer_note n far input (Err (Frozen b)) node = Some (Freeze n b)
 
 -- what an event of a node tells
 abbrev pub note_of : ℕ → (ℕ → Option End) → NodeEvent → NodeState → Option Note
-note_of n far e node = answer_note n far (input_of e node) (node_answered (happens e node)) (node_left_by node (happens e node))
+note_of n far e node =
+    answer_note n far (input_of e node) (node_answered (happens e node)) (node_left_by node (happens e node))
 
 -- what was done, as others see it; nothing where it was not enabled
 abbrev pub answer_done : Result Emitted StepFault → Option Note → Option Done

@@ -2,27 +2,15 @@
 ghost use Rattle.std.specs.Prelude.{◌≡◌, ◌||◌, [], length, position, MatchOption};
 ghost use Rattle.std.specs.List.{list_any};
 ghost use Rattle.tnet.specs.Wires.{same_end, joins};
-ghost use Rattle.tnet.specs.Building.{is_too_large, too_many, is_bad_size, is_bad_timeslice, is_bad_end, has_bad_end, end_twice_from, is_bad_segment, bad_segment, first_fault_from, fault_of, IsWellFormed};
+ghost use Rattle.tnet.specs.Building.{is_too_large, too_many, is_bad_size, is_bad_timeslice, is_bad_end};
+ghost use Rattle.tnet.specs.Building.{has_bad_end, end_twice_from, is_bad_segment, bad_segment, first_fault_from};
+ghost use Rattle.tnet.specs.Building.{fault_of, IsWellFormed};
 
 use tplan::{BuildFault, End, Image, NodePlan, Plan, Segment, Wire};
-
-const MOST_NODES: usize = 64;
-
-const MOST_WIRES: usize = 128;
-
-const MOST_SEGMENTS: usize = 4_096;
-
-const MOST_PROCESSES: usize = 512;
-
-const SMALLEST_MEMORY: u32 = 2_048;
-
-const LARGEST_MEMORY: u32 = 1_048_576;
-
-const LONGEST_TIMESLICE: u32 = 65_536;
-
-const LEAST_ADDRESS: u64 = 0x8000_0000;
-
-const FIRST_OPEN_ADDRESS: u64 = 0x8000_0048;
+use tword::limits::{
+    LARGEST_MEMORY, LONGEST_TIMESLICE, MEM_START, MOST_NEG, MOST_NODES, MOST_PROCESSES,
+    MOST_SEGMENTS, MOST_WIRES, SMALLEST_MEMORY,
+};
 
 /// The lowest fault that shows before anything is built.
 #[tactic(auto, unfolding(crate::specs::Building::fault_of))]
@@ -160,9 +148,9 @@ fn is_bad_segment(memory: u32, segment: &Segment) -> bool
     let size = segment.bytes.as_slice().len() as u64;
     let start = u64::from(segment.address.get());
     size != 0
-        && (start < FIRST_OPEN_ADDRESS
+        && (start < u64::from(MEM_START)
             || size > u64::from(memory)
-            || start - LEAST_ADDRESS > u64::from(memory) - size)
+            || start - u64::from(MOST_NEG) > u64::from(memory) - size)
 }
 
 /// The first such segment of a node.

@@ -5,9 +5,7 @@ ghost use Rattle.tword.specs.Stores.{bytes_at};
 use tlink::Node;
 use tproc::Offer;
 use tword::Items;
-
-/// The least address of a memory.
-const LEAST_ADDRESS: u32 = 0x8000_0000;
+use tword::limits::MOST_NEG;
 
 /// The bytes of a message, as they stand in the memory of a node, in a vector that has room for them.
 pub fn message(node: &Node, offer: Offer, mut bytes: Vec<u8>) -> Items<u8>
@@ -16,7 +14,7 @@ pub fn message(node: &Node, offer: Offer, mut bytes: Vec<u8>) -> Items<u8>
 {
     bytes.clear();
     let all = node.processor().bytes();
-    let first = offer.buffer.get().saturating_sub(LEAST_ADDRESS) as usize;
+    let first = offer.buffer.get().saturating_sub(MOST_NEG) as usize;
     let end = all.len().min(first + offer.length as usize);
     for at in first..end {
         bytes.push_reserved(all[at]);

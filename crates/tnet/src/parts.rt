@@ -1,3 +1,4 @@
+//! The parts of a net, and an event of one of its nodes.
 ghost use Rattle.std.specs.Prelude.{◌≡◌, ◌<◌, ℕ, not, [], slice_index_or, slice_set, Option, None, IfOk};
 ghost use Rattle.std.specs.List.{list_all};
 ghost use Rattle.tlink.specs.Node.{NodeState};
@@ -230,7 +231,8 @@ impl Parts {
 
     /// Whether none of these acts of a node is enabled.
     fn refuses(&self, node: u8, acts: &[Act]) -> bool
-        ensures { result ≡ list_all (λ act. not (is_enabled self.now (record { node = node; act = act }))) acts.now }
+        ensures { result ≡ list_all (λ act. not (is_enabled self.now (record { node = node; act = act })))
+            acts.now }
     {
         acts.iter()
             .all(|act| !self.enabled(Event { node, act: *act }))

@@ -1,4 +1,5 @@
-//! A node at its place in a net: what lies at its links, and what an event of it takes, emits and tells. Nets, rounds and
+//! A node at its place in a net: what lies at its links, and what an event of it takes, emits and tells. Nets,
+//! rounds and
 //! free workers do their events by these.
 ghost use Rattle.std.specs.Prelude.{◌≡◌, None, slice_set, vec_capacity};
 ghost use Rattle.tlink.specs.Events.{happens, node_left_by};
@@ -118,7 +119,8 @@ pub fn input_of(node: &Node, event: NodeEvent) -> Option<Offer>
     }
 }
 
-/// What an event told, by the answer to its caller and the node that it left. The bytes of a message go into `room`, which is
+/// What an event told, by the answer to its caller and the node that it left. The bytes of a message go into
+/// `room`, which is
 /// used up.
 #[inline(always)]
 pub fn note_of(
@@ -156,7 +158,8 @@ fn message_note(
     room: &mut Vec<u8>,
 ) -> Option<Note>
     requires room { HasRoom input (vec_capacity room.old) }
-    ensures note { result ≡ plain.message_note (far_in_row far.now link) (end_at number link) (plain.input_bytes input node.now) }
+    ensures note { result ≡ plain.message_note (far_in_row far.now link) (end_at number link)
+        (plain.input_bytes input node.now) }
     ensures kept { input ≡ None → room.new ≡ room.old }
 {
     let from = far.get(usize::from(link)).copied().unwrap_or(None)?;
@@ -171,7 +174,8 @@ fn message_note(
     Some(Note::Msg { from, to, bytes })
 }
 
-/// Does an event of a node: what it emitted and told, or nothing where it is not enabled. The bytes of a message go into
+/// Does an event of a node: what it emitted and told, or nothing where it is not enabled. The bytes of a message go
+/// into
 /// `room`, which is used up.
 #[inline(always)]
 pub fn act(

@@ -1,5 +1,7 @@
 -- Claims agree with a control after each change of its lists.
-use Rattle.std.proofs.Common.{◌≡◌, ◌≢◌, ◌∙◌, ℕ, zero, suc, ◌+◌, ◌<◌, ◌≤◌, ◌%◌, refl, sym, ap, not, ◌&&◌, ◌||◌, Bool, true, false, List, [], ◌∷◌, ◌++◌, map, set, get_or, length, Some, None, Option, arith, AllPairs, length-append}
+use Rattle.std.proofs.Common.{◌≡◌, ◌≢◌, ◌∙◌, ℕ, zero, suc, ◌+◌, ◌<◌, ◌≤◌, ◌%◌, refl, sym, ap, not, ◌&&◌, ◌||◌, Bool}
+use Rattle.std.proofs.Common.{true, false, List, [], ◌∷◌, ◌++◌, map, set, get_or, length, Some, None, Option, arith}
+use Rattle.std.proofs.Common.{AllPairs, length-append}
 use Rattle.std.specs.List.{list_any}
 use Rattle.std.specs.Prelude.{IsSome, IfSome, ◌==◌, option_map, option_to_list}
 use Rattle.std.proofs.lemmas.Bool.{eqb-true, eqb-false, eq-eqb, ne_eqb, or_right}
@@ -7,13 +9,14 @@ use Rattle.std.proofs.lemmas.List.{map-append, map-set, set-get_or, length-map}
 use Rattle.std.proofs.lemmas.List.Folds.{list_any-append}
 use Rattle.tword.specs.Claims.{Claims, has_saved, saving}
 use Rattle.tproc.specs.Machine.{Control, buffer_of, workspace_of, descheduled}
-use Rattle.tproc.specs.Standing.{is_among, reason_of}
-use Rattle.tproc.specs.declared.waiting.Reason.{Reason}
-use Rattle.tproc.specs.declared.waiting.Waiter.{Waiter}
-use Rattle.tproc.specs.declared.waiting.LinkEnd.{LinkEnd}
+use Rattle.tproc.specs.ProcessStatus.{is_among, reason_of}
+use Rattle.tproc.specs.declared.waiter.Reason.{Reason}
+use Rattle.tproc.specs.declared.waiter.Waiter.{Waiter}
+use Rattle.tproc.specs.declared.waiter.LinkEnd.{LinkEnd}
 use Rattle.tproc.specs.Queues.{appended, waiting_for, without_waiter}
 use Rattle.tproc.specs.declared.offer.Offer.{Offer}
-use Rattle.tproc.specs.LinkChannels.{link_end, with_link, quiet_end}
+use Rattle.tproc.specs.Channels.{Side, Input, Output}
+use Rattle.tproc.specs.LinkChannels.{link_end, with_link, quiet_end, ended_at, without_buffer}
 use Rattle.tproc.specs.Agreement.{AgreesWith, Agrees, Settles, Unsettles, Leaves, IsPlain, StillSaved, StillAgrees}
 use Rattle.tword.specs.Accesses.{Frees, with_input, with_output, without_input, without_output}
 use Rattle.tproc.proofs.Occurs.{occurs, occurs-append, occurring_once, found-occurs, same_once}
@@ -27,17 +30,26 @@ moved true false d d' e = sym e
 moved false true d d' e = refl
 moved false false d d' e = sym e
 
-moved_among : (v w : ℕ) (others d d' : List ℕ) → is_among v d' ≡ ((w == v) || is_among v d) → ((w == v) || is_among v (others ++ d)) ≡ is_among v (others ++ d')
-moved_among v w others d d' e = simp list_any-append (moved (w == v) (is_among v others) (is_among v d) (is_among v d') e)
+moved_among : (v w : ℕ) (others d d' : List ℕ) → is_among v d' ≡ ((w == v) || is_among v d)
+    → ((w == v) || is_among v (others ++ d)) ≡ is_among v (others ++ d')
+moved_among v w others d d' e =
+    simp list_any-append (moved (w == v) (is_among v others) (is_among v d) (is_among v d') e)
 
 pub settled : (w : ℕ) (others : List ℕ) (c : Claims) (m m' : Control) → AgreesWith (w ∷ others) c m
-    → ((v : ℕ) → is_among v (descheduled m') ≡ ((w == v) || is_among v (descheduled m))) → length (descheduled m') ≡ length (descheduled m) + 1
+    → ((v : ℕ) → is_among v (descheduled m') ≡ ((w == v) || is_among v (descheduled m)))
+    → length (descheduled m') ≡ length (descheduled m) + 1
     → m'.links ≡ m.links → AgreesWith others c m'
 settled w others c m m' h e n l =
     record {
       on = record {
         saved = λ v. h.on.saved v ∙ moved_among v w others (descheduled m) (descheduled m') (e v);
-        count = omega (arith, h.on.count, n, length-append {A = ℕ} others (descheduled m'), length-append {A = ℕ} others (descheduled m));
+        count = omega (
+          arith,
+          h.on.count,
+          n,
+          length-append {A = ℕ} others (descheduled m'),
+          length-append {A = ℕ} others (descheduled m),
+        );
         inputs = rw l h.on.inputs;
         outputs = rw l h.on.outputs;
       };
@@ -45,13 +57,20 @@ settled w others c m m' h e n l =
 
 -- and back
 pub unsettled : (w : ℕ) (others : List ℕ) (c : Claims) (m m' : Control) → AgreesWith others c m
-    → ((v : ℕ) → is_among v (descheduled m) ≡ ((w == v) || is_among v (descheduled m'))) → length (descheduled m) ≡ length (descheduled m') + 1
+    → ((v : ℕ) → is_among v (descheduled m) ≡ ((w == v) || is_among v (descheduled m')))
+    → length (descheduled m) ≡ length (descheduled m') + 1
     → m'.links ≡ m.links → AgreesWith (w ∷ others) c m'
 unsettled w others c m m' h e n l =
     record {
       on = record {
         saved = λ v. h.on.saved v ∙ sym (moved_among v w others (descheduled m') (descheduled m) (e v));
-        count = omega (arith, h.on.count, n, length-append {A = ℕ} others (descheduled m'), length-append {A = ℕ} others (descheduled m));
+        count = omega (
+          arith,
+          h.on.count,
+          n,
+          length-append {A = ℕ} others (descheduled m'),
+          length-append {A = ℕ} others (descheduled m),
+        );
         inputs = rw l h.on.inputs;
         outputs = rw l h.on.outputs;
       };
@@ -80,10 +99,12 @@ shuffle_last false true c = refl
 shuffle_last false false true = refl
 shuffle_last false false false = refl
 
-in_high : (v w : ℕ) (xs ys zs : List ℕ) → is_among v (((xs ++ w ∷ []) ++ ys) ++ zs) ≡ ((w == v) || is_among v ((xs ++ ys) ++ zs))
+in_high : (v w : ℕ) (xs ys zs : List ℕ)
+    → is_among v (((xs ++ w ∷ []) ++ ys) ++ zs) ≡ ((w == v) || is_among v ((xs ++ ys) ++ zs))
 in_high v w xs ys zs = simp list_any-append (shuffle_high (w == v) (is_among v xs) (is_among v ys) (is_among v zs))
 
-in_low : (v w : ℕ) (xs ys zs : List ℕ) → is_among v ((xs ++ (ys ++ w ∷ [])) ++ zs) ≡ ((w == v) || is_among v ((xs ++ ys) ++ zs))
+in_low : (v w : ℕ) (xs ys zs : List ℕ)
+    → is_among v ((xs ++ (ys ++ w ∷ [])) ++ zs) ≡ ((w == v) || is_among v ((xs ++ ys) ++ zs))
 in_low v w xs ys zs = simp list_any-append (shuffle_low (w == v) (is_among v xs) (is_among v ys) (is_among v zs))
 
 at_last : (v w : ℕ) (xs zs : List ℕ) → is_among v (xs ++ (zs ++ w ∷ [])) ≡ ((w == v) || is_among v (xs ++ zs))
@@ -99,14 +120,16 @@ settles_appended w (suc p) m = λ others c h.
     (simp length-append (omega arith)) refl
 
 -- a process waits whose words were saved
-pub settles_waiting : (process : ℕ) (r : Reason) (m : Control) → Settles (workspace_of process) m (waiting_for process r m)
+pub settles_waiting : (process : ℕ) (r : Reason) (m : Control)
+    → Settles (workspace_of process) m (waiting_for process r m)
 settles_waiting process r m = λ others c h.
     settled (workspace_of process) others c m (waiting_for process r m) h
     (λ v. simp map-append (at_last v (workspace_of process) (m.high ++ m.low) (workspaces_of m.waiting)))
     (simp (map-append, length-append) (omega arith)) refl
 
 -- a workspace is saved
-pub agrees_but : (w : ℕ) (others : List ℕ) (c d : Claims) (m : Control) → AgreesWith others c m → d ≡ saving w c → AgreesWith (w ∷ others) d m
+pub agrees_but : (w : ℕ) (others : List ℕ) (c d : Claims) (m : Control) → AgreesWith others c m → d ≡ saving w c
+    → AgreesWith (w ∷ others) d m
 agrees_but w others c d m h e =
     rw e (record {
       on =
@@ -132,13 +155,23 @@ besides : (v p : ℕ) (ws : List Waiter) (r : Reason) → ((w : ℕ) → occurs 
 besides v p [] r once k = absurd (omega (arith, k.1))
 besides v p (x ∷ xs) r once (zero, b, e) =
     let f : x.process ≡ p = ap (λ (w : Waiter). w.process) e in
-    let none : occurs (workspace_of p) (workspaces_of xs) ≡ 0 = omega (arith, once (workspace_of p), same_once (workspace_of x.process) (workspace_of p) (ap workspace_of f)) in
-    filter_step x xs p (λ ys. is_among v (workspaces_of (x ∷ xs)) ≡ ((workspace_of p == v) || is_among v (workspaces_of ys)))
+    let none : occurs (workspace_of p) (workspaces_of xs) ≡ 0 =
+    omega (arith, once (workspace_of p), same_once (workspace_of x.process) (workspace_of p) (ap workspace_of f)) in
+    filter_step x xs p (λ ys. is_among v (workspaces_of (x ∷ xs))
+    ≡ ((workspace_of p == v) || is_among v (workspaces_of ys)))
     (λ _. rw (without_none xs p none, f) refl) (λ n. absurd (n f))
 besides v p (x ∷ xs) r once (suc k, b, e) =
-    let rest : is_among v (workspaces_of xs) ≡ ((workspace_of p == v) || is_among v (workspaces_of (without p xs))) = besides v p xs r (λ w. omega (arith, once w)) (k, (omega arith), e) in
-    filter_step x xs p (λ ys. is_among v (workspaces_of (x ∷ xs)) ≡ ((workspace_of p == v) || is_among v (workspaces_of ys)))
-    (λ f. absurd (omega (arith, once (workspace_of p), same_once (workspace_of x.process) (workspace_of p) (ap workspace_of f), waiter_occurs xs p r (k, (omega arith), e))))
+    let rest : is_among v (workspaces_of xs) ≡ ((workspace_of p == v) || is_among v (workspaces_of (without p xs))) =
+    besides v p xs r (λ w. omega (arith, once w)) (k, (omega arith), e) in
+    filter_step x xs p (λ ys. is_among v (workspaces_of (x ∷ xs))
+    ≡ ((workspace_of p == v) || is_among v (workspaces_of ys)))
+    (λ f. absurd
+    (omega (
+      arith,
+      once (workspace_of p),
+      same_once (workspace_of x.process) (workspace_of p) (ap workspace_of f),
+      waiter_occurs xs p r (k, (omega arith), e),
+    )))
     (λ _. swap (workspace_of x.process == v) (workspace_of p == v) _ _ rest)
   where
     swap : (b a c d : Bool) → c ≡ (a || d) → (b || c) ≡ (a || (b || d))
@@ -146,22 +179,33 @@ besides v p (x ∷ xs) r once (suc k, b, e) =
     swap true false c d h = refl
     swap false a c d h = h
 
-pub one_less : (p : ℕ) (ws : List Waiter) (r : Reason) → ((w : ℕ) → occurs w (workspaces_of ws) ≤ 1) → HasWaiter ws p r → length ws ≡ length (without p ws) + 1
+pub one_less : (p : ℕ) (ws : List Waiter) (r : Reason) → ((w : ℕ) → occurs w (workspaces_of ws) ≤ 1) → HasWaiter ws p r
+    → length ws ≡ length (without p ws) + 1
 one_less p [] r once k = absurd (omega (arith, k.1))
 one_less p (x ∷ xs) r once (zero, b, e) =
     let f : x.process ≡ p = ap (λ (w : Waiter). w.process) e in
-    let none : occurs (workspace_of p) (workspaces_of xs) ≡ 0 = omega (arith, once (workspace_of p), same_once (workspace_of x.process) (workspace_of p) (ap workspace_of f)) in
+    let none : occurs (workspace_of p) (workspaces_of xs) ≡ 0 =
+    omega (arith, once (workspace_of p), same_once (workspace_of x.process) (workspace_of p) (ap workspace_of f)) in
     filter_step x xs p (λ ys. length (x ∷ xs) ≡ length ys + 1)
     (λ _. rw (without_none xs p none) (omega arith)) (λ n. absurd (n f))
 one_less p (x ∷ xs) r once (suc k, b, e) =
-    let rest : length xs ≡ length (without p xs) + 1 = one_less p xs r (λ w. omega (arith, once w)) (k, (omega arith), e) in
+    let rest : length xs ≡ length (without p xs) + 1 =
+    one_less p xs r (λ w. omega (arith, once w)) (k, (omega arith), e) in
     filter_step x xs p (λ ys. length (x ∷ xs) ≡ length ys + 1)
-    (λ f. absurd (omega (arith, once (workspace_of p), same_once (workspace_of x.process) (workspace_of p) (ap workspace_of f), waiter_occurs xs p r (k, (omega arith), e))))
+    (λ f. absurd
+    (omega (
+      arith,
+      once (workspace_of p),
+      same_once (workspace_of x.process) (workspace_of p) (ap workspace_of f),
+      waiter_occurs xs p r (k, (omega arith), e),
+    )))
     (λ _. omega (arith, rest))
 
 -- each workspace of those that wait stands there once
-pub once_waiting : (m : Control) → AllPairs (λ v w. v ≢ w) (descheduled m) → (w : ℕ) → occurs w (workspaces_of m.waiting) ≤ 1
-once_waiting m d w = omega (arith, occurring_once (descheduled m) d w, occurs-append w (m.high ++ m.low) (workspaces_of m.waiting))
+pub once_waiting : (m : Control) → AllPairs (λ v w. v ≢ w) (descheduled m) → (w : ℕ)
+    → occurs w (workspaces_of m.waiting) ≤ 1
+once_waiting m d w =
+    omega (arith, occurring_once (descheduled m) d w, occurs-append w (m.high ++ m.low) (workspaces_of m.waiting))
 
 -- a process with a reason is among those that wait
 pub a_waiter : (m : Control) (p : ℕ) → IsSome (reason_of m p) → (r : Reason) × HasWaiter m.waiting p r
@@ -172,10 +216,14 @@ a_waiter m p h = by (reason_of m p) refl h
     by None e k = cc
 
 -- a process that waited is forgotten, but its words are saved
-pub unsettles_forgotten : (process : ℕ) (m m' : Control) → AllPairs (λ v w. v ≢ w) (descheduled m) → IsSome (reason_of m process) → m' ≡ without_waiter process m → Unsettles (workspace_of process) m m'
+pub unsettles_forgotten : (process : ℕ) (m m' : Control) → AllPairs (λ v w. v ≢ w) (descheduled m)
+    → IsSome (reason_of m process) → m' ≡ without_waiter process m → Unsettles (workspace_of process) m m'
 unsettles_forgotten process m m' d e k = λ others c h.
     rw k (unsettled (workspace_of process) others c m (without_waiter process m) h
-    (λ v. simp list_any-append (rw (besides v process m.waiting w.0 once w.1) (shuffle_rest (workspace_of process == v) (is_among v m.high) (is_among v m.low) (is_among v (workspaces_of (without process m.waiting))))))
+    (λ v. simp list_any-append
+    (rw (besides v process m.waiting w.0 once w.1)
+    (shuffle_rest (workspace_of process == v) (is_among v m.high) (is_among v m.low)
+    (is_among v (workspaces_of (without process m.waiting))))))
     (simp (length-append, length-map) (omega (arith, one_less process m.waiting w.0 once w.1))) refl)
   where
     once : (v : ℕ) → occurs v (workspaces_of m.waiting) ≤ 1
@@ -201,7 +249,8 @@ fresh_high w xs d = by (is_among w xs) refl
     by true e = absurd (omega (arith, occurring_once (w ∷ xs) d w, found-occurs w xs e, same_once w w refl))
 
 -- nor is one that stands between two parts
-fresh_low : (w : ℕ) (xs ys zs : List ℕ) → AllPairs (λ v w. v ≢ w) ((xs ++ (w ∷ ys)) ++ zs) → is_among w ((xs ++ ys) ++ zs) ≡ false
+fresh_low : (w : ℕ) (xs ys zs : List ℕ) → AllPairs (λ v w. v ≢ w) ((xs ++ (w ∷ ys)) ++ zs)
+    → is_among w ((xs ++ ys) ++ zs) ≡ false
 fresh_low w xs ys zs d = by (is_among w ((xs ++ ys) ++ zs)) refl
   where
     by : (b : Bool) → is_among w ((xs ++ ys) ++ zs) ≡ b → b ≡ false
@@ -224,11 +273,13 @@ shuffle_first true false b c = refl
 shuffle_first false a b c = refl
 
 -- the first of the low queue, among all
-among_low : (v w : ℕ) (xs ys zs : List ℕ) → is_among v ((xs ++ (w ∷ ys)) ++ zs) ≡ ((w == v) || is_among v ((xs ++ ys) ++ zs))
+among_low : (v w : ℕ) (xs ys zs : List ℕ)
+    → is_among v ((xs ++ (w ∷ ys)) ++ zs) ≡ ((w == v) || is_among v ((xs ++ ys) ++ zs))
 among_low v w xs ys zs = simp list_any-append (shuffle_first (w == v) (is_among v xs) (is_among v ys) (is_among v zs))
 
 -- the first of a queue leaves it, or none is there
-pub leaves_high : (o : Option ℕ) (m : Control) (hs : List ℕ) → m.high ≡ option_to_list o ++ hs → IsPlain m → IfSome o (λ w. Leaves w m (record m { high = hs }))
+pub leaves_high : (o : Option ℕ) (m : Control) (hs : List ℕ) → m.high ≡ option_to_list o ++ hs → IsPlain m
+    → IfSome o (λ w. Leaves w m (record m { high = hs }))
 leaves_high None m hs e p = tt
 leaves_high (Some w) m hs e p =
     let d : AllPairs (λ v w. v ≢ w) (w ∷ ((hs ++ m.low) ++ workspaces_of m.waiting)) = rw e at p.distinct in (
@@ -236,7 +287,8 @@ leaves_high (Some w) m hs e p =
       (λ others c h. unsettled w others c m (record m { high = hs }) h (λ v. rw e refl) (rw e (omega arith)) refl),
     )
 
-pub leaves_low : (o : Option ℕ) (m : Control) (ls : List ℕ) → m.low ≡ option_to_list o ++ ls → IsPlain m → IfSome o (λ w. Leaves w m (record m { low = ls }))
+pub leaves_low : (o : Option ℕ) (m : Control) (ls : List ℕ) → m.low ≡ option_to_list o ++ ls → IsPlain m
+    → IfSome o (λ w. Leaves w m (record m { low = ls }))
 leaves_low None m ls e p = tt
 leaves_low (Some w) m ls e p =
     let d : AllPairs (λ v w. v ≢ w) ((m.high ++ (w ∷ ls)) ++ workspaces_of m.waiting) = rw e at p.distinct in (
@@ -248,7 +300,8 @@ leaves_low (Some w) m ls e p =
     )
 
 -- those that wait without a process are among those that wait
-fewer : (v p : ℕ) (ws : List Waiter) → is_among v (workspaces_of (without p ws)) ≡ true → is_among v (workspaces_of ws) ≡ true
+fewer : (v p : ℕ) (ws : List Waiter) → is_among v (workspaces_of (without p ws)) ≡ true
+    → is_among v (workspaces_of ws) ≡ true
 fewer v p [] h = h
 fewer v p (x ∷ xs) h =
     filter_step x xs p (λ ys. is_among v (workspaces_of ys) ≡ true → is_among v (workspaces_of (x ∷ xs)) ≡ true)
@@ -263,23 +316,27 @@ fewer v p (x ∷ xs) h =
 pub still_saved_forgotten : (process : ℕ) (m m' : Control) → m' ≡ without_waiter process m → StillSaved m m'
 still_saved_forgotten process m m' k = λ c h v e.
     let e' : is_among v ((m.high ++ m.low) ++ workspaces_of (without process m.waiting)) ≡ true = rw k at e in
-    h v (more v (m.high ++ m.low) (workspaces_of (without process m.waiting)) (workspaces_of m.waiting) (fewer v process m.waiting) e')
+    h v (more v (m.high ++ m.low) (workspaces_of (without process m.waiting)) (workspaces_of m.waiting)
+    (fewer v process m.waiting) e')
   where
     kept : (a b c : Bool) → (b ≡ true → c ≡ true) → (a || b) ≡ true → (a || c) ≡ true
     kept true b c f k = refl
     kept false b c f k = f k
 
-    more : (v : ℕ) (xs ys zs : List ℕ) → (is_among v ys ≡ true → is_among v zs ≡ true) → is_among v (xs ++ ys) ≡ true → is_among v (xs ++ zs) ≡ true
+    more : (v : ℕ) (xs ys zs : List ℕ) → (is_among v ys ≡ true → is_among v zs ≡ true) → is_among v (xs ++ ys) ≡ true
+        → is_among v (xs ++ zs) ≡ true
     more v xs ys zs f e = rw list_any-append (kept (is_among v xs) _ _ f (rw list_any-append at e))
 
 -- a link that was set says the same where the new one does
-set_same : {X : Type 0} (f : LinkEnd → X) (ls : List LinkEnd) (l : ℕ) (e : LinkEnd) → f e ≡ f (get_or ls l quiet_end) → map f (set ls l e) ≡ map f ls
+set_same : {X : Type 0} (f : LinkEnd → X) (ls : List LinkEnd) (l : ℕ) (e : LinkEnd) → f e ≡ f (get_or ls l quiet_end)
+    → map f (set ls l e) ≡ map f ls
 set_same f ls l e h =
     map-set f ls l e ∙ rw h (sym (map-set f ls l (get_or ls l quiet_end)) ∙ ap (map f) (set-get_or ls l quiet_end))
 
 -- a link is set, and claims change in the same way
 pub agrees_linked : (l : ℕ) (e : LinkEnd) (others : List ℕ) (c d : Claims) (m : Control) → AgreesWith others c m
-    → d.inputs ≡ set c.inputs l (option_map buffer_of e.input) → d.outputs ≡ set c.outputs l (option_map buffer_of e.output) → d.saved ≡ c.saved
+    → d.inputs ≡ set c.inputs l (option_map buffer_of e.input)
+    → d.outputs ≡ set c.outputs l (option_map buffer_of e.output) → d.saved ≡ c.saved
     → AgreesWith others d (with_link l e m)
 agrees_linked l e others c d m h i o s =
     record {
@@ -287,41 +344,59 @@ agrees_linked l e others c d m h i o s =
           record {
             saved = λ v. ap (λ (xs : List ℕ). list_any (λ w. w == v) xs) s ∙ h.on.saved v;
             count = rw s h.on.count;
-            inputs = i ∙ ap (λ xs. set xs l (option_map buffer_of e.input)) h.on.inputs ∙ sym (map-set (λ (x : LinkEnd). option_map buffer_of x.input) m.links l e);
-            outputs = o ∙ ap (λ xs. set xs l (option_map buffer_of e.output)) h.on.outputs ∙ sym (map-set (λ (x : LinkEnd). option_map buffer_of x.output) m.links l e);
+            inputs = i ∙ ap (λ xs. set xs l (option_map buffer_of e.input)) h.on.inputs
+                ∙ sym (map-set (λ (x : LinkEnd). option_map buffer_of x.input) m.links l e);
+            outputs = o ∙ ap (λ xs. set xs l (option_map buffer_of e.output)) h.on.outputs
+                ∙ sym (map-set (λ (x : LinkEnd). option_map buffer_of x.output) m.links l e);
           };
     }
 
 -- the buffer of a link in the claims
-claimed_at : (f : LinkEnd → Option Offer) (ls : List LinkEnd) (l : ℕ) → f quiet_end ≡ None → get_or (map (λ e. option_map buffer_of (f e)) ls) l None ≡ option_map buffer_of (f (get_or ls l quiet_end))
+claimed_at : (f : LinkEnd → Option Offer) (ls : List LinkEnd) (l : ℕ) → f quiet_end ≡ None
+    → get_or (map (λ e. option_map buffer_of (f e)) ls) l None ≡ option_map buffer_of (f (get_or ls l quiet_end))
 claimed_at f [] l e = rw e refl
 claimed_at f (x ∷ xs) zero e = refl
 claimed_at f (x ∷ xs) (suc l) e = claimed_at f xs l e
 
-pub output_at : (others : List ℕ) (c : Claims) (m : Control) (l : ℕ) → AgreesWith others c m → get_or c.outputs l None ≡ option_map buffer_of (link_end m l).output
+pub output_at : (others : List ℕ) (c : Claims) (m : Control) (l : ℕ) → AgreesWith others c m
+    → get_or c.outputs l None ≡ option_map buffer_of (link_end m l).output
 output_at others c m l h = rw h.on.outputs (claimed_at (λ e. e.output) m.links l refl)
 
-pub input_at : (others : List ℕ) (c : Claims) (m : Control) (l : ℕ) → AgreesWith others c m → get_or c.inputs l None ≡ option_map buffer_of (link_end m l).input
+pub input_at : (others : List ℕ) (c : Claims) (m : Control) (l : ℕ) → AgreesWith others c m
+    → get_or c.inputs l None ≡ option_map buffer_of (link_end m l).input
 input_at others c m l h = rw h.on.inputs (claimed_at (λ e. e.input) m.links l refl)
 
 -- so a link of which a half stays as it is has that half claimed as before
-pub output_stays : (others : List ℕ) (c : Claims) (m : Control) (l : ℕ) → AgreesWith others c m → c.outputs ≡ set c.outputs l (option_map buffer_of (link_end m l).output)
+pub output_stays : (others : List ℕ) (c : Claims) (m : Control) (l : ℕ) → AgreesWith others c m
+    → c.outputs ≡ set c.outputs l (option_map buffer_of (link_end m l).output)
 output_stays others c m l h = rw (← output_at others c m l h) (sym (set-get_or c.outputs l None))
 
-pub input_stays : (others : List ℕ) (c : Claims) (m : Control) (l : ℕ) → AgreesWith others c m → c.inputs ≡ set c.inputs l (option_map buffer_of (link_end m l).input)
+pub input_stays : (others : List ℕ) (c : Claims) (m : Control) (l : ℕ) → AgreesWith others c m
+    → c.inputs ≡ set c.inputs l (option_map buffer_of (link_end m l).input)
 input_stays others c m l h = rw (← input_at others c m l h) (sym (set-get_or c.inputs l None))
 
 -- an output begins at a link, or an input
-pub agrees_output : (l : ℕ) (o : Offer) (others : List ℕ) (c d : Claims) (m m' : Control) → AgreesWith others c m → d ≡ with_output l (buffer_of o) c → m' ≡ with_link l (record (link_end m l) { output = Some o }) m → AgreesWith others d m'
-agrees_output l o others c d m m' h e k = rw (e, k) (agrees_linked l (record (link_end m l) { output = Some o }) others c (with_output l (buffer_of o) c) m h (input_stays others c m l h) refl refl)
+pub agrees_output : (l : ℕ) (o : Offer) (others : List ℕ) (c d : Claims) (m m' : Control) → AgreesWith others c m
+    → d ≡ with_output l (buffer_of o) c → m' ≡ with_link l (record (link_end m l) { output = Some o }) m
+    → AgreesWith others d m'
+agrees_output l o others c d m m' h e k =
+    rw (e, k) (agrees_linked l (record (link_end m l) { output = Some o }) others c (with_output l (buffer_of o) c) m h
+    (input_stays others c m l h) refl refl)
 
-pub agrees_input : (l : ℕ) (o : Offer) (others : List ℕ) (c d : Claims) (m m' : Control) → AgreesWith others c m → d ≡ with_input l (buffer_of o) c → m' ≡ with_link l (record (link_end m l) { input = Some o; noticed = false; remembered = None }) m → AgreesWith others d m'
-agrees_input l o others c d m m' h e k = rw (e, k) (agrees_linked l (record (link_end m l) { input = Some o; noticed = false; remembered = None }) others c (with_input l (buffer_of o) c) m h refl (output_stays others c m l h) refl)
+pub agrees_input : (l : ℕ) (o : Offer) (others : List ℕ) (c d : Claims) (m m' : Control) → AgreesWith others c m
+    → d ≡ with_input l (buffer_of o) c
+    → m' ≡ with_link l (record (link_end m l) { input = Some o; noticed = false; remembered = None }) m
+    → AgreesWith others d m'
+agrees_input l o others c d m m' h e k =
+    rw (e, k) (agrees_linked l (record (link_end m l) { input = Some o; noticed = false; remembered = None }) others c
+    (with_input l (buffer_of o) c) m h refl (output_stays others c m l h) refl)
 
 -- a link is set that keeps its offers
-pub still_linked : (l : ℕ) (e : LinkEnd) (m m' : Control) → m' ≡ with_link l e m → e.output ≡ (link_end m l).output → e.input ≡ (link_end m l).input → StillAgrees m m'
+pub still_linked : (l : ℕ) (e : LinkEnd) (m m' : Control) → m' ≡ with_link l e m → e.output ≡ (link_end m l).output
+    → e.input ≡ (link_end m l).input → StillAgrees m m'
 still_linked l e m m' k o i = λ others c h.
-    rw k (agrees_linked l e others c c m h (rw i (input_stays others c m l h)) (rw o (output_stays others c m l h)) refl)
+    rw k (agrees_linked l e others c c m h (rw i (input_stays others c m l h)) (rw o (output_stays others c m l h))
+    refl)
 
 -- the words of a workspace that no process has are freed
 pub agrees_freed : (w : ℕ) (c d : Claims) (m : Control) → AgreesWith (w ∷ []) c m → is_among w (descheduled m) ≡ false
@@ -336,13 +411,17 @@ agrees_freed w c d m h f frees count same =
       };
     }
   where
-    only : (v : ℕ) (b : Bool) → (v == w) ≡ b → (not b && ((w == v) || is_among v (descheduled m))) ≡ is_among v (descheduled m)
+    only : (v : ℕ) (b : Bool) → (v == w) ≡ b
+        → (not b && ((w == v) || is_among v (descheduled m))) ≡ is_among v (descheduled m)
     only v true k = rw (eqb-true v w k, f) refl
     only v false k = rw (ne_eqb w v (λ q. eqb-false v w k (sym q))) refl
 
--- an output is over at a link, or an input
-pub agrees_without_output : (l : ℕ) (others : List ℕ) (c d : Claims) (m m' : Control) → AgreesWith others c m → d ≡ without_output l c → m' ≡ with_link l (record (link_end m l) { output = None }) m → AgreesWith others d m'
-agrees_without_output l others c d m m' h e k = rw (e, k) (agrees_linked l (record (link_end m l) { output = None }) others c (without_output l c) m h (input_stays others c m l h) refl refl)
-
-pub agrees_without_input : (l : ℕ) (others : List ℕ) (c d : Claims) (m m' : Control) → AgreesWith others c m → d ≡ without_input l c → m' ≡ with_link l (record (link_end m l) { input = None }) m → AgreesWith others d m'
-agrees_without_input l others c d m m' h e k = rw (e, k) (agrees_linked l (record (link_end m l) { input = None }) others c (without_input l c) m h refl (output_stays others c m l h) refl)
+-- what is pending at a half of a link is over
+pub agrees_ended : (side : Side) (l : ℕ) (others : List ℕ) (c d : Claims) (m m' : Control) → AgreesWith others c m
+    → d ≡ without_buffer side l c → m' ≡ with_link l (ended_at side (link_end m l)) m → AgreesWith others d m'
+agrees_ended Output l others c d m m' h e k =
+    rw (e, k) (agrees_linked l (record (link_end m l) { output = None }) others c (without_output l c) m h
+    (input_stays others c m l h) refl refl)
+agrees_ended Input l others c d m m' h e k =
+    rw (e, k) (agrees_linked l (record (link_end m l) { input = None }) others c (without_input l c) m h refl
+    (output_stays others c m l h) refl)

@@ -10,7 +10,8 @@ use Rattle.tproc.specs.Messages.{output_of, input_of}
 use Rattle.tproc.specs.Keeping.{ClaimedBytesStand}
 use Rattle.tproc.proofs.Handing.{Lies, buffer_lies}
 use Rattle.tproc.proofs.Pending.{at_some}
-use Rattle.tproc.proofs.Untouched.{AreClaimed, input_claimed, output_claimed, step-stands, notice-stands, finish_output-stands, finish_input-stands}
+use Rattle.tproc.proofs.Untouched.{AreClaimed, input_claimed, output_claimed, step-stands, notice-stands}
+use Rattle.tproc.proofs.Untouched.{finish_output-stands, finish_input-stands}
 
 pub claimed_bytes_stand : ClaimedBytesStand
 claimed_bytes_stand n l o p h = (

@@ -1,12 +1,13 @@
 -- There is a place for one more, since no more than may live do.
-use Rattle.std.proofs.Common.{◌≡◌, ℕ, ◌+◌, ◌≤◌, ◌<◌, true, refl, ◌++◌, length, map, Option, Some, None, arith, length-append}
+use Rattle.std.proofs.Common.{◌≡◌, ℕ, ◌+◌, ◌≤◌, ◌<◌, true, refl, ◌++◌, length, map, Option, Some, None, arith}
+use Rattle.std.proofs.Common.{length-append}
 use Rattle.std.specs.Prelude.{IsSome}
 use Rattle.std.proofs.lemmas.List.{length-map}
 use Rattle.tword.specs.Claims.{Claims}
 use Rattle.tproc.specs.Machine.{Control, workspace_of}
-use Rattle.tproc.specs.declared.waiting.Reason.{Reason}
-use Rattle.tproc.specs.declared.waiting.Waiter.{Waiter}
-use Rattle.tproc.specs.Standing.{has_room, reason_of}
+use Rattle.tproc.specs.declared.waiter.Reason.{Reason}
+use Rattle.tproc.specs.declared.waiter.Waiter.{Waiter}
+use Rattle.tproc.specs.ProcessStatus.{has_room, reason_of}
 use Rattle.tproc.specs.Queues.{without_waiter}
 use Rattle.tproc.proofs.ClaimState.{HasWaiter}
 use Rattle.tproc.proofs.PlaceMoves.{population, ones, live-length}
@@ -32,13 +33,15 @@ place_own process m h own = by m.current refl own.running
     by None e k = cc
 
 -- a process that waited leaves its place
-pub place_released : (m : Control) (process : ℕ) → IsPlain m → IsSome (reason_of m process) → HasPlace (without_waiter process m)
+pub place_released : (m : Control) (process : ℕ) → IsPlain m → IsSome (reason_of m process)
+    → HasPlace (without_waiter process m)
 place_released m process h e =
     let few : population m ≤ 512 = rw (live-length m) at h.few in
     let w : (r : Reason) × HasWaiter m.waiting process r = a_waiter m process e in
     omega (arith, few, one_less process m.waiting w.0 (once_waiting m h.distinct) w.1)
 
-pub taken_released : (m m' : Control) (process : ℕ) → IsPlain m → IsSome (reason_of m process) → m' ≡ without_waiter process m → taken m' + 1 ≡ taken m
+pub taken_released : (m m' : Control) (process : ℕ) → IsPlain m → IsSome (reason_of m process)
+    → m' ≡ without_waiter process m → taken m' + 1 ≡ taken m
 taken_released m m' process h e k =
     let w : (r : Reason) × HasWaiter m.waiting process r = a_waiter m process e in
     rw k (omega (arith, one_less process m.waiting w.0 (once_waiting m h.distinct) w.1))
@@ -46,13 +49,22 @@ taken_released m m' process h e k =
 -- and so there is room for the words of one more workspace
 pub room_placed : (c : Claims) (m : Control) → Agrees c m → HasPlace m → length c.saved < 512
 room_placed c m a p =
-    omega (arith, p, a.on.count, length-append {A = ℕ} (m.high ++ m.low) (map (λ (w : Waiter). workspace_of w.process) m.waiting), length-append {A = ℕ} m.high m.low, length-map {A = Waiter} {B = ℕ})
+    omega (
+      arith,
+      p,
+      a.on.count,
+      length-append {A = ℕ} (m.high ++ m.low) (map (λ (w : Waiter). workspace_of w.process) m.waiting),
+      length-append {A = ℕ} m.high m.low,
+      length-map {A = Waiter} {B = ℕ},
+    )
 
 pub room_admitted : (c : Claims) (m : Control) → Agrees c m → has_room m ≡ true → length c.saved < 512
 room_admitted c m a h = room_placed c m a (place_admitted m h)
 
-pub room_running : (c : Claims) (m : Control) (p : ℕ) → Agrees c m → IsPlain m → m.current ≡ Some p → length c.saved < 512
+pub room_running : (c : Claims) (m : Control) (p : ℕ) → Agrees c m → IsPlain m → m.current ≡ Some p
+    → length c.saved < 512
 room_running c m p a h e = room_placed c m a (place_running m p h e)
 
-pub room_own : (c : Claims) (process : ℕ) (m : Control) → Agrees c m → IsPlain m → IsOwn process m → length c.saved < 512
+pub room_own : (c : Claims) (process : ℕ) (m : Control) → Agrees c m → IsPlain m → IsOwn process m
+    → length c.saved < 512
 room_own c process m a h own = room_placed c m a (place_own process m h own)

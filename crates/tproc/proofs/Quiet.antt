@@ -1,11 +1,15 @@
--- Decoding and local effects deschedule nobody: the claims stay as they are, so what follows goes on from the store that was left. By this a contract that speaks of the run of a part alone serves a step that goes on.
-use Rattle.std.proofs.Common.{◌≡◌, ℕ, ℤ, zero, suc, pos, refl, cond, Bool, true, false, Option, Some, None, Result, Ok, Err}
+-- Decoding and local effects deschedule nobody: the claims stay as they are, so what follows goes on from the store
+-- that was left. By this a contract that speaks of the run of a part alone serves a step that goes on.
+use Rattle.std.proofs.Common.{◌≡◌, ℕ, ℤ, zero, suc, pos, refl, cond, Bool, true, false, Option, Some, None, Result, Ok}
+use Rattle.std.proofs.Common.{Err}
 use Rattle.tword.specs.declared.breaks.Break.{Break}
 use Rattle.tword.specs.declared.breaks.Break.TheVariants.{NoSuchOperation}
 use Rattle.tword.specs.Words.{plus}
 use Rattle.tword.specs.Stores.{Store}
 use Rattle.tword.specs.Claims.{Claims}
-use Rattle.tword.specs.Actions.{Action, answer, breaks, requiring, touching_word, touching_byte, touching, writing_word, writing_byte, copying, descheduling, reading_saved, setting_saved, unless, run, run_from, ◌>>=◌, value_of}
+use Rattle.tword.specs.Actions.{Action, answer, breaks, requiring, touching_word, touching_byte, touching, writing_word}
+use Rattle.tword.specs.Actions.{writing_byte, copying, descheduling, reading_saved, setting_saved, unless, run}
+use Rattle.tword.specs.Actions.{run_from, ◌>>=◌, value_of}
 use Rattle.tcode.specs.declared.instruction.Instruction.{Instruction}
 use Rattle.tcode.specs.Chains.{Part, More, Last, part, is_listed, instruction, longest}
 use Rattle.tcode.specs.Decoding.{complete, fetch, decode}
@@ -29,9 +33,11 @@ pub foresees : (i : Instruction) (r : Registers) (c : Claims) (s : Store) (resul
     → result ≡ would_jump (run (effect i r) s c) → Foresees (effect i r) c s r result
 foresees i r c s result e = by (run (effect i r) s c) refl e
   where
-    by : (y : Result (Outcome × Store) Break) → run (effect i r) s c ≡ y → result ≡ would_jump y → Foresees (effect i r) c s r result
+    by : (y : Result (Outcome × Store) Break) → run (effect i r) s c ≡ y → result ≡ would_jump y
+        → Foresees (effect i r) c s r result
     by (Err b) k h = rw h (λ f. effect_broke i r b f s c k)
-    by (Ok ((r', Jumped), s')) k h = rw h (r', s', stays_effect i r r' c s s' (Ok Jumped) k, (λ f. effect_answered i r r' Jumped f s s' c k))
+    by (Ok ((r', Jumped), s')) k h =
+        rw h (r', s', stays_effect i r r' c s s' (Ok Jumped) k, (λ f. effect_answered i r r' Jumped f s s' c k))
     by (Ok ((r', _), s')) k h = rw h tt
 
 -- no store is written
@@ -44,7 +50,8 @@ IsReading (touching_byte mode a next) = (v : ℕ) → IsReading (next v)
 IsReading (touching mode span next) = IsReading next
 IsReading _ = ⊥
 
-unless_onward : {A B : Type 0} (o : Option Break) (r : Result B Break) (r' : Result (A × Store) Break) (k : A → Result B Break)
+unless_onward : {A B : Type 0} (o : Option Break) (r : Result B Break) (r' : Result (A × Store) Break) (k : A
+    → Result B Break)
     → r ≡ onward (value_of r') k → unless o r ≡ onward (value_of (unless o r')) k
 unless_onward None r r' k e = e
 unless_onward (Some b) r r' k e = refl
@@ -65,7 +72,8 @@ reading_bind (reading_saved w k next) f old new c q = absurd q
 reading_bind (setting_saved w k v next) f old new c q = absurd q
 
 -- the bytes of an instruction
-complete-reading : (rest : ℤ → Action Instruction) (length : ℕ) (p : Part) → ((w : ℤ) → IsReading (rest w)) → IsReading (complete rest length p)
+complete-reading : (rest : ℤ → Action Instruction) (length : ℕ) (p : Part) → ((w : ℤ) → IsReading (rest w))
+    → IsReading (complete rest length p)
 complete-reading rest length (More w) h = h w
 complete-reading rest length (Last f w) h = by (is_listed f w)
   where
@@ -75,14 +83,19 @@ complete-reading rest length (Last f w) h = by (is_listed f w)
 
 fetch-reading : (left had address : ℕ) (value : ℤ) → IsReading (fetch left had address value)
 fetch-reading zero had address value = tt
-fetch-reading (suc left) had address value = λ byte. complete-reading (fetch left (suc had) (plus address 1)) (suc had) (part value byte) (λ w. fetch-reading left (suc had) (plus address 1) w)
+fetch-reading (suc left) had address value =
+    λ byte. complete-reading (fetch left (suc had) (plus address 1)) (suc had) (part value byte)
+    (λ w. fetch-reading left (suc had) (plus address 1) w)
 
 -- what was decoded tells how a step begins
-pub begins_decode : (iptr : ℕ) (c : Claims) (s : Store) (result : Result Instruction Break) → result ≡ value_of (run (decode iptr) s c) → Begins (decode iptr) c s result s
+pub begins_decode : (iptr : ℕ) (c : Claims) (s : Store) (result : Result Instruction Break)
+    → result ≡ value_of (run (decode iptr) s c) → Begins (decode iptr) c s result s
 unfolding decode
-begins_decode iptr c s result e = λ f. rw e (reading_bind (fetch longest 0 iptr (pos 0)) f s s c (fetch-reading longest 0 iptr (pos 0)))
+begins_decode iptr c s result e =
+    λ f. rw e (reading_bind (fetch longest 0 iptr (pos 0)) f s s c (fetch-reading longest 0 iptr (pos 0)))
 
 -- whether it jumped
-pub told_effect : (i : Instruction) (r r' : Registers) (c : Claims) (s s' : Store) (result : Result Next Break) → run (effect i r) s c ≡ outcome_of result r' s' → would_jump (run (effect i r) s c) ≡ jumps_as result
+pub told_effect : (i : Instruction) (r r' : Registers) (c : Claims) (s s' : Store) (result : Result Next Break)
+    → run (effect i r) s c ≡ outcome_of result r' s' → would_jump (run (effect i r) s c) ≡ jumps_as result
 told_effect i r r' c s s' (Ok next) e = rw e refl
 told_effect i r r' c s s' (Err b) e = rw e refl

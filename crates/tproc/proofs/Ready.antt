@@ -1,5 +1,7 @@
 -- What a placement gives to the code of a step, and what the code's step is to the machine.
-use Rattle.std.proofs.Common.{◌≡◌, ◌∙◌, ℕ, zero, suc, ◌+◌, ◌-◌, ◌<◌, ◌≤◌, ◌%◌, ◌^◌, refl, sym, ap, subst, cond, List, [], ◌∷◌, ◌||◌, ◌==◌, Bool, true, false, Result, Ok, Err, Option, Some, None, length, get_or, arith}
+use Rattle.std.proofs.Common.{◌≡◌, ◌∙◌, ℕ, zero, suc, ◌+◌, ◌-◌, ◌<◌, ◌≤◌, ◌%◌, ◌^◌, refl, sym, ap, subst, cond, List}
+use Rattle.std.proofs.Common.{[], ◌∷◌, ◌||◌, ◌==◌, Bool, true, false, Result, Ok, Err, Option, Some, None, length}
+use Rattle.std.proofs.Common.{get_or, arith}
 use Rattle.std.specs.Prelude.{IfSome, IfOk, IsSome, All, find, option_map, nat_le, unwrap_or}
 use Rattle.std.specs.List.{list_any}
 use Rattle.std.proofs.lemmas.Bool.{eqb-true, eq-eqb, or_right, leb-true, leb-false}
@@ -9,7 +11,9 @@ use Rattle.tword.specs.Stores.{Store, place, word_at, byte_at, with_word, with_c
 use Rattle.tword.specs.Claims.{Claims, overlap, saved_words, saving}
 use Rattle.tword.specs.Accesses.{no_claims}
 use Rattle.tword.specs.Touches.{Writes, is_inside, span_break, word_break, byte_span, deschedule_break, copy_break}
-use Rattle.tword.specs.Actions.{Action, answer, breaks, requiring, unmet, touching_word, touching_byte, touching, writing_word, writing_byte, copying, descheduling, reading_saved, setting_saved, unless, run, run_from, saved_word_at, with_saved_word, set_saved_word, ◌>>=◌, value_of}
+use Rattle.tword.specs.Actions.{Action, answer, breaks, requiring, unmet, touching_word, touching_byte, touching}
+use Rattle.tword.specs.Actions.{writing_word, writing_byte, copying, descheduling, reading_saved, setting_saved, unless}
+use Rattle.tword.specs.Actions.{run, run_from, saved_word_at, with_saved_word, set_saved_word, ◌>>=◌, value_of}
 use Rattle.tword.proofs.Answering.{answering, run_from-answering}
 use Rattle.tword.proofs.SameClaims.{SameClaims, run_from-same}
 use Rattle.tcode.specs.declared.instruction.Instruction.{Instruction}
@@ -18,13 +22,13 @@ use Rattle.tcpu.specs.declared.registers.Registers.{Registers}
 use Rattle.tproc.specs.declared.offer.Offer.{Offer}
 use Rattle.tproc.specs.declared.offer.Ran.{Ran}
 use Rattle.tproc.specs.declared.offer.Ran.TheVariants as ran
-use Rattle.tproc.specs.declared.waiting.LinkEnd.{LinkEnd}
-use Rattle.tproc.specs.declared.waiting.Reason.{Reason}
-use Rattle.tproc.specs.declared.waiting.Reason.TheVariants.{LinkInput, LinkOutput}
-use Rattle.tproc.specs.declared.waiting.Suspended.{Suspended}
-use Rattle.tproc.specs.declared.waiting.Waiter.{Waiter}
+use Rattle.tproc.specs.declared.waiter.LinkEnd.{LinkEnd}
+use Rattle.tproc.specs.declared.waiter.Reason.{Reason}
+use Rattle.tproc.specs.declared.waiter.Reason.TheVariants.{LinkInput, LinkOutput}
+use Rattle.tproc.specs.declared.waiter.Suspended.{Suspended}
+use Rattle.tproc.specs.declared.waiter.Waiter.{Waiter}
 use Rattle.tproc.specs.Machine.{Control, Machine, workspace_of, descheduled, claims_of}
-use Rattle.tproc.specs.Standing.{is_among, reason_of}
+use Rattle.tproc.specs.ProcessStatus.{is_among, reason_of}
 use Rattle.tproc.specs.Queues.{iptr_word, admit, enqueue, add_process}
 use Rattle.tproc.specs.LinkChannels.{link_end, quiet_end}
 use Rattle.tproc.specs.Placement.{IsPlaced, AreWords, WaitsFor, IsBuffer}
@@ -66,16 +70,19 @@ found : (f : ℕ → Bool) (x : ℕ) (ys : List ℕ) → f x ≡ true → is_amo
 found f x [] t h = cc
 found f x (y ∷ ys) t h = by (y == x) refl h (found f x ys t)
   where
-    by : (b : Bool) → (y == x) ≡ b → (b || is_among x ys) ≡ true → (is_among x ys ≡ true → list_any f ys ≡ true) → (f y || list_any f ys) ≡ true
+    by : (b : Bool) → (y == x) ≡ b → (b || is_among x ys) ≡ true → (is_among x ys ≡ true → list_any f ys ≡ true)
+        → (f y || list_any f ys) ≡ true
     by true e k rest = rw (eqb-true _ _ e, t) refl
     by false e k rest = or_right (f y) _ (rest k)
 
 -- what some element passes, some element of a list with the same elements passes
-any_within : (f : ℕ → Bool) (xs ys : List ℕ) → ((w : ℕ) → is_among w xs ≡ true → is_among w ys ≡ true) → list_any f xs ≡ true → list_any f ys ≡ true
+any_within : (f : ℕ → Bool) (xs ys : List ℕ) → ((w : ℕ) → is_among w xs ≡ true → is_among w ys ≡ true)
+    → list_any f xs ≡ true → list_any f ys ≡ true
 any_within f [] ys h k = cc
 any_within f (x ∷ xs) ys h k = by (f x) refl k (any_within f xs ys (λ w m. h w (or_right (x == w) _ m)))
   where
-    by : (b : Bool) → f x ≡ b → (b || list_any f xs) ≡ true → (list_any f xs ≡ true → list_any f ys ≡ true) → list_any f ys ≡ true
+    by : (b : Bool) → f x ≡ b → (b || list_any f xs) ≡ true → (list_any f xs ≡ true → list_any f ys ≡ true)
+        → list_any f ys ≡ true
     by true e l rest = found f x ys e (h x (rw (eq-eqb x x refl) refl))
     by false e l rest = rest l
 
@@ -100,14 +107,18 @@ same_from c m h =
 
 -- a step of the control, under claims that agree, is the step of the machine
 pub stepped : (c : Claims) (n n' : Machine) (r : Result Ran Break) → Agrees c n.control
-    → Does (run (control_step n.control.halted n.control) n.store c) n.control n.store r n'.control n'.store → Stepped n r n'
+    → Does (run (control_step n.control.halted n.control) n.store c) n.control n.store r n'.control n'.store
+    → Stepped n r n'
 unfolding step
-stepped c n n' r a h = by (run (control_step m.halted m) n.store (claims_of m)) refl (rw (run_from-same (control_step m.halted m) n.store n.store c (claims_of m) (same_from c m a)) at h)
+stepped c n n' r a h =
+    by (run (control_step m.halted m) n.store (claims_of m)) refl
+    (rw (run_from-same (control_step m.halted m) n.store n.store c (claims_of m) (same_from c m a)) at h)
   where
     m : Control
     m = n.control
 
-    by : (y : Result ((Control × Ran) × Store) Break) → run (control_step m.halted m) n.store (claims_of m) ≡ y → Does y m n.store r n'.control n'.store → Stepped n r n'
+    by : (y : Result ((Control × Ran) × Store) Break) → run (control_step m.halted m) n.store (claims_of m) ≡ y
+        → Does y m n.store r n'.control n'.store → Stepped n r n'
     by (Ok ((m1, x), s1)) e d = record { left = rw (e, ← d.1, ← d.2) refl; answered = rw e d.0 }
     by (Err b) e d = record { left = rw (e, d.1, d.2) refl; answered = rw e d.0 }
 
@@ -120,48 +131,67 @@ placed_after n n' p h = by (step n) refl h
     by (Err b) e k = subst IsPlaced (sym k) p
 
 -- an action of the control alone, under claims that agree, is made on the machine, or nothing is
-pub acted_or_unchanged : (action : Control → Action Control) (c : Claims) (n n' : Machine) (r : Result Ran Break) → Agrees c n.control
-    → Does (run (as_step (action n.control)) n.store c) n.control n.store r n'.control n'.store → n' ≡ act_or_unchanged action n
+pub acted_or_unchanged : (action : Control → Action Control) (c : Claims) (n n' : Machine) (r : Result Ran Break)
+    → Agrees c n.control
+    → Does (run (as_step (action n.control)) n.store c) n.control n.store r n'.control n'.store
+    → n' ≡ act_or_unchanged action n
 acted_or_unchanged action c n n' r a h =
-    rw (run_from-answering {B = Control × Unit {0}} (λ (m : Control). (m, tt)) (action n.control) n.store (claims_of n.control) n.store)
+    rw (run_from-answering {B = Control × Unit {0}} (λ (m : Control). (m, tt)) (action n.control) n.store
+    (claims_of n.control) n.store)
     (by (run (action n.control) n.store (claims_of n.control))
-    (rw (run_from-answering {B = Control × Ran} (λ (m : Control). (m, ran.Instruction)) (action n.control) n.store c n.store, run_from-same (action n.control) n.store n.store c (claims_of n.control) (same_from c n.control a)) at h))
+    (rw (
+      run_from-answering {B = Control × Ran} (λ (m : Control). (m, ran.Instruction)) (action n.control) n.store c
+          n.store,
+      run_from-same (action n.control) n.store n.store c (claims_of n.control) (same_from c n.control a),
+    ) at
+    h))
   where
-    by : (y : Result (Control × Store) Break) → Does (answering {B = Control × Ran} (λ (m : Control). (m, ran.Instruction)) y) n.control n.store r n'.control n'.store
+    by : (y : Result (Control × Store) Break)
+        → Does (answering {B = Control × Ran} (λ (m : Control). (m, ran.Instruction)) y) n.control n.store r n'.control
+        n'.store
         → n' ≡ or_unchanged n (acted n.store (answering {B = Control × Unit {0}} (λ (m : Control). (m, tt)) y))
     by (Ok (m1, s1)) d = rw (← d.1, ← d.2) refl
     by (Err b) d = rw (d.1, d.2) refl
 
 -- a step that was no step changed nothing
-pub rests : (n n' : Machine) (r : Result Ran Break) → n' ≡ step_left_by n (step n) → r ≡ step_answered (step n) → IfOk r (λ x. IfRests x (n' ≡ n))
+pub rests : (n n' : Machine) (r : Result Ran Break) → n' ≡ step_left_by n (step n) → r ≡ step_answered (step n)
+    → IfOk r (λ x. IfRests x (n' ≡ n))
 rests n n' r l a = by (step n) refl l a
   where
-    by : (y : Result (Machine × Ran) Break) → step n ≡ y → n' ≡ step_left_by n y → r ≡ step_answered y → IfOk r (λ x. IfRests x (n' ≡ n))
+    by : (y : Result (Machine × Ran) Break) → step n ≡ y → n' ≡ step_left_by n y → r ≡ step_answered y
+        → IfOk r (λ x. IfRests x (n' ≡ n))
     by (Ok (m, x)) e k h = rw (h, k) (rest_changes_nothing n m x e)
     by (Err b) e k h = rw h tt
 
 -- a process that waits has a reason
-reason_found : (ws : List Waiter) (p : ℕ) (r : Reason) → HasWaiter ws p r → IsSome (option_map (λ (w : Waiter). w.reason) (find (λ (w : Waiter). w.process == p) ws))
+reason_found : (ws : List Waiter) (p : ℕ) (r : Reason) → HasWaiter ws p r
+    → IsSome (option_map (λ (w : Waiter). w.reason) (find (λ (w : Waiter). w.process == p) ws))
 reason_found [] p r h = absurd (omega (arith, h.1))
-reason_found (x ∷ xs) p r (zero, b, e) = let f : (x.process == p) ≡ true = eq-eqb _ _ (ap (λ (w : Waiter). w.process) e) in rw f refl
+reason_found (x ∷ xs) p r (zero, b, e) = let f : (x.process == p) ≡ true =
+    eq-eqb _ _ (ap (λ (w : Waiter). w.process) e) in rw f refl
 reason_found (x ∷ xs) p r (suc k, b, e) = by (x.process == p) (reason_found xs p r (k, (omega arith), e))
   where
-    by : (b : Bool) → IsSome (option_map (λ (w : Waiter). w.reason) (find (λ (w : Waiter). w.process == p) xs)) → IsSome (option_map (λ (w : Waiter). w.reason) (cond b (Some x) (find (λ (w : Waiter). w.process == p) xs)))
+    by : (b : Bool) → IsSome (option_map (λ (w : Waiter). w.reason) (find (λ (w : Waiter). w.process == p) xs))
+        → IsSome (option_map (λ (w : Waiter). w.reason) (cond b (Some x) (find (λ (w : Waiter). w.process == p) xs)))
     by true h = refl
     by false h = h
 
 -- so has that of a pending message
-pub output_waits : (n : Machine) (l : ℕ) → IsPlaced n → IfSome (link_end n.control l).output (λ o. IsSome (reason_of n.control o.wdesc))
+pub output_waits : (n : Machine) (l : ℕ) → IsPlaced n
+    → IfSome (link_end n.control l).output (λ o. IsSome (reason_of n.control o.wdesc))
 output_waits n l p = by (link_end n.control l).output (p.claimed.outputs l)
   where
-    by : (o : Option Offer) → IfSome o (λ o. WaitsFor n.control o.wdesc (LinkOutput l) × IsBuffer (length n.store) o) → IfSome o (λ o. IsSome (reason_of n.control o.wdesc))
+    by : (o : Option Offer) → IfSome o (λ o. WaitsFor n.control o.wdesc (LinkOutput l) × IsBuffer (length n.store) o)
+        → IfSome o (λ o. IsSome (reason_of n.control o.wdesc))
     by None h = tt
     by (Some o) h = reason_found n.control.waiting o.wdesc (LinkOutput l) h.0
 
-pub input_waits : (n : Machine) (l : ℕ) → IsPlaced n → IfSome (link_end n.control l).input (λ o. IsSome (reason_of n.control o.wdesc))
+pub input_waits : (n : Machine) (l : ℕ) → IsPlaced n
+    → IfSome (link_end n.control l).input (λ o. IsSome (reason_of n.control o.wdesc))
 input_waits n l p = by (link_end n.control l).input (p.claimed.inputs l)
   where
-    by : (o : Option Offer) → IfSome o (λ o. WaitsFor n.control o.wdesc (LinkInput l) × IsBuffer (length n.store) o) → IfSome o (λ o. IsSome (reason_of n.control o.wdesc))
+    by : (o : Option Offer) → IfSome o (λ o. WaitsFor n.control o.wdesc (LinkInput l) × IsBuffer (length n.store) o)
+        → IfSome o (λ o. IsSome (reason_of n.control o.wdesc))
     by None h = tt
     by (Some o) h = reason_found n.control.waiting o.wdesc (LinkInput l) h.0
 
@@ -180,26 +210,36 @@ output_within n l p h = by (nat_le 4 l) refl
   where
     by : (b : Bool) → nat_le 4 l ≡ b → l < 4
     by false e = leb-false _ _ e
-    by true e = let f : link_end n.control l ≡ quiet_end = past_the_end n.control.links l (omega (arith, p.claimed.links, leb-true 4 l e)) in absurd (bad (link_end n.control l).output (ap (λ (e : LinkEnd). e.output) f) h)
+    by true e = let f : link_end n.control l ≡ quiet_end =
+        past_the_end n.control.links l (omega (arith, p.claimed.links, leb-true 4 l e)) in
+        absurd (bad (link_end n.control l).output (ap (λ (e : LinkEnd). e.output) f) h)
 
 pub input_within : (n : Machine) (l : ℕ) → IsPlaced n → IsSome (input_of n l) → l < 4
 input_within n l p h = by (nat_le 4 l) refl
   where
     by : (b : Bool) → nat_le 4 l ≡ b → l < 4
     by false e = leb-false _ _ e
-    by true e = let f : link_end n.control l ≡ quiet_end = past_the_end n.control.links l (omega (arith, p.claimed.links, leb-true 4 l e)) in absurd (bad (link_end n.control l).input (ap (λ (e : LinkEnd). e.input) f) h)
+    by true e = let f : link_end n.control l ≡ quiet_end =
+        past_the_end n.control.links l (omega (arith, p.claimed.links, leb-true 4 l e)) in
+        absurd (bad (link_end n.control l).input (ap (λ (e : LinkEnd). e.input) f) h)
 
 -- the byte of a pending message lies in the memory
-pub output_byte : (n : Machine) (l k : ℕ) (o : Offer) → IsPlaced n → output_of n l ≡ Some o → k < o.length → (most_neg ≤ o.buffer + k) × (o.buffer + k - most_neg + 1 ≤ length n.store)
+pub output_byte : (n : Machine) (l k : ℕ) (o : Offer) → IsPlaced n → output_of n l ≡ Some o → k < o.length
+    → (most_neg ≤ o.buffer + k) × (o.buffer + k - most_neg + 1 ≤ length n.store)
 output_byte n l k o p e h =
-    let w : WaitsFor n.control o.wdesc (LinkOutput l) × IsBuffer (length n.store) o = at_some (link_end n.control l).output _ o e (p.claimed.outputs l) in
-    let b : (most_neg ≤ o.buffer) × (place o.buffer + o.length ≤ length n.store) = buffer_inside (length n.store) o w.1 in
+    let w : WaitsFor n.control o.wdesc (LinkOutput l) × IsBuffer (length n.store) o =
+    at_some (link_end n.control l).output _ o e (p.claimed.outputs l) in
+    let b : (most_neg ≤ o.buffer) × (place o.buffer + o.length ≤ length n.store) =
+    buffer_inside (length n.store) o w.1 in
     (omega (arith, b.0, h), omega (arith, b.0, b.1, h))
 
-pub input_byte : (n : Machine) (l k : ℕ) (o : Offer) → IsPlaced n → input_of n l ≡ Some o → k < o.length → (most_neg ≤ o.buffer + k) × (o.buffer + k - most_neg + 1 ≤ length n.store)
+pub input_byte : (n : Machine) (l k : ℕ) (o : Offer) → IsPlaced n → input_of n l ≡ Some o → k < o.length
+    → (most_neg ≤ o.buffer + k) × (o.buffer + k - most_neg + 1 ≤ length n.store)
 input_byte n l k o p e h =
-    let w : WaitsFor n.control o.wdesc (LinkInput l) × IsBuffer (length n.store) o = at_some (link_end n.control l).input _ o e (p.claimed.inputs l) in
-    let b : (most_neg ≤ o.buffer) × (place o.buffer + o.length ≤ length n.store) = buffer_inside (length n.store) o w.1 in
+    let w : WaitsFor n.control o.wdesc (LinkInput l) × IsBuffer (length n.store) o =
+    at_some (link_end n.control l).input _ o e (p.claimed.inputs l) in
+    let b : (most_neg ≤ o.buffer) × (place o.buffer + o.length ≤ length n.store) =
+    buffer_inside (length n.store) o w.1 in
     (omega (arith, b.0, h), omega (arith, b.0, b.1, h))
 
 -- no claims are those of no process
@@ -208,17 +248,28 @@ agrees_empty timeslice = record { on = record { saved = λ w. refl; count = refl
 
 -- parts of an action may be joined in any way
 module _ {A B C : Type 0} (f : A → Action B) (g : B → Action C) where
-  pub run_from-assoc : (x : Action A) (old : Store) (c : Claims) (new : Store) → run_from ((x >>= f) >>= g) old c new ≡ run_from (x >>= (λ a. f a >>= g)) old c new
+  pub run_from-assoc : (x : Action A) (old : Store) (c : Claims) (new : Store)
+      → run_from ((x >>= f) >>= g) old c new ≡ run_from (x >>= (λ a. f a >>= g)) old c new
   run_from-assoc (answer x) old c new = refl
   run_from-assoc (breaks b) old c new = refl
   run_from-assoc (requiring t b next) old c new = ap (unless (unmet t b)) (run_from-assoc next old c new)
-  run_from-assoc (touching_word mode a next) old c new = ap (unless (word_break (length old) c mode a)) (run_from-assoc (next (word_at old a)) old c new)
-  run_from-assoc (touching_byte mode a next) old c new = ap (unless (span_break (length old) c mode (byte_span a))) (run_from-assoc (next (unwrap_or (byte_at old a) 0)) old c new)
-  run_from-assoc (touching mode span next) old c new = ap (unless (span_break (length old) c mode span)) (run_from-assoc next old c new)
-  run_from-assoc (writing_word a v next) old c new = ap (unless (word_break (length old) c Writes a)) (run_from-assoc next old c (with_word new a v))
-  run_from-assoc (writing_byte a v next) old c new = ap (unless (span_break (length old) c Writes (byte_span a))) (run_from-assoc next old c (with_cells new a (as_cells (v % 256 ∷ []))))
-  run_from-assoc (copying from to count next) old c new = ap (unless (copy_break (length old) c from to count)) (run_from-assoc next old c (with_cells new to (cells new from count)))
-  run_from-assoc (descheduling w next) old c new = ap (unless (deschedule_break (length old) c w)) (run_from-assoc next old (saving w c) new)
+  run_from-assoc (touching_word mode a next) old c new =
+      ap (unless (word_break (length old) c mode a)) (run_from-assoc (next (word_at old a)) old c new)
+  run_from-assoc (touching_byte mode a next) old c new =
+      ap (unless (span_break (length old) c mode (byte_span a)))
+      (run_from-assoc (next (unwrap_or (byte_at old a) 0)) old c new)
+  run_from-assoc (touching mode span next) old c new =
+      ap (unless (span_break (length old) c mode span)) (run_from-assoc next old c new)
+  run_from-assoc (writing_word a v next) old c new =
+      ap (unless (word_break (length old) c Writes a)) (run_from-assoc next old c (with_word new a v))
+  run_from-assoc (writing_byte a v next) old c new =
+      ap (unless (span_break (length old) c Writes (byte_span a)))
+      (run_from-assoc next old c (with_cells new a (as_cells (v % 256 ∷ []))))
+  run_from-assoc (copying from to count next) old c new =
+      ap (unless (copy_break (length old) c from to count))
+      (run_from-assoc next old c (with_cells new to (cells new from count)))
+  run_from-assoc (descheduling w next) old c new =
+      ap (unless (deschedule_break (length old) c w)) (run_from-assoc next old (saving w c) new)
   run_from-assoc (reading_saved w k next) old c new = run_from-assoc (next (saved_word_at old c w k)) old c new
   run_from-assoc (setting_saved w k v next) old c new = run_from-assoc next old c (with_saved_word new c w k v)
 
@@ -229,27 +280,42 @@ told (Err b) = Err b
 
 -- a process is added
 pub adds : (process iptr : ℕ) (c : Claims) (n n' : Machine) (r : Result Ran Break) → Agrees c n.control
-    → Does (run (adding process iptr n.control) n.store c) n.control n.store r n'.control n'.store → Adds (added process iptr n) n (told r) n'
+    → Does (run (adding process iptr n.control) n.store c) n.control n.store r n'.control n'.store
+    → Adds (added process iptr n) n (told r) n'
 adds process iptr c n n' r a h =
-    rw (run_from-answering {B = Control × Unit {0}} (λ (m : Control). (m, tt)) (add_process process iptr n.control) n.store (claims_of n.control) n.store)
-    (by (run (add_process process iptr n.control) n.store (claims_of n.control)) (same (run (adding process iptr n.control) n.store c) _ one h))
+    rw (run_from-answering {B = Control × Unit {0}} (λ (m : Control). (m, tt)) (add_process process iptr n.control)
+    n.store (claims_of n.control) n.store)
+    (by (run (add_process process iptr n.control) n.store (claims_of n.control))
+    (same (run (adding process iptr n.control) n.store c) _ one h))
   where
-    one : run (adding process iptr n.control) n.store c ≡ answering {B = Control × Ran} (λ (m : Control). (m, ran.Instruction)) (run (add_process process iptr n.control) n.store (claims_of n.control))
+    one : run (adding process iptr n.control) n.store c
+        ≡ answering {B = Control × Ran} (λ (m : Control). (m, ran.Instruction))
+        (run (add_process process iptr n.control) n.store (claims_of n.control))
     one =
-        sym (run_from-assoc {C = Control × Ran} (λ _. set_saved_word (workspace_of process) iptr_word iptr >>= (λ _. enqueue process n.control)) (λ m'. answer (m', ran.Instruction)) (admit process n.control) n.store c n.store)
-        ∙ run_from-answering {B = Control × Ran} (λ (m : Control). (m, ran.Instruction)) (add_process process iptr n.control) n.store c n.store
-        ∙ ap (answering {B = Control × Ran} (λ (m : Control). (m, ran.Instruction))) (run_from-same (add_process process iptr n.control) n.store n.store c (claims_of n.control) (same_from c n.control a))
+        sym (run_from-assoc {C = Control × Ran}
+        (λ _. set_saved_word (workspace_of process) iptr_word iptr >>= (λ _. enqueue process n.control))
+        (λ m'. answer (m', ran.Instruction)) (admit process n.control) n.store c n.store)
+        ∙ run_from-answering {B = Control × Ran} (λ (m : Control). (m, ran.Instruction))
+        (add_process process iptr n.control) n.store c n.store
+        ∙ ap (answering {B = Control × Ran} (λ (m : Control). (m, ran.Instruction)))
+        (run_from-same (add_process process iptr n.control) n.store n.store c (claims_of n.control)
+        (same_from c n.control a))
 
-    same : (x y : Result ((Control × Ran) × Store) Break) → x ≡ y → Does x n.control n.store r n'.control n'.store → Does y n.control n.store r n'.control n'.store
+    same : (x y : Result ((Control × Ran) × Store) Break) → x ≡ y → Does x n.control n.store r n'.control n'.store
+        → Does y n.control n.store r n'.control n'.store
     same x y e d = rw (← e) d
 
-    by : (y : Result (Control × Store) Break) → Does (answering {B = Control × Ran} (λ (m : Control). (m, ran.Instruction)) y) n.control n.store r n'.control n'.store
-        → Adds (only_machine (acted n.store (answering {B = Control × Unit {0}} (λ (m : Control). (m, tt)) y))) n (told r) n'
+    by : (y : Result (Control × Store) Break)
+        → Does (answering {B = Control × Ran} (λ (m : Control). (m, ran.Instruction)) y) n.control n.store r n'.control
+        n'.store
+        → Adds (only_machine (acted n.store (answering {B = Control × Unit {0}} (λ (m : Control). (m, tt)) y))) n
+        (told r) n'
     by (Ok (m1, s1)) d = rw (d.0, ← d.1, ← d.2) (refl, refl)
     by (Err b) d = rw (d.0, d.1, d.2) (refl, refl)
 
 -- and the placement stays
-pub placed_added : (process iptr : ℕ) (n n' : Machine) (r : Result (Unit {0}) Break) → process < 2 ^ 32 → IsPlaced n → Adds (added process iptr n) n r n' → IsPlaced n'
+pub placed_added : (process iptr : ℕ) (n n' : Machine) (r : Result (Unit {0}) Break) → process < 2 ^ 32 → IsPlaced n
+    → Adds (added process iptr n) n r n' → IsPlaced n'
 placed_added process iptr n n' r w p h = by (added process iptr n) refl h
   where
     by : (y : Result Machine Break) → added process iptr n ≡ y → Adds y n r n' → IsPlaced n'
@@ -257,12 +323,18 @@ placed_added process iptr n n' r w p h = by (added process iptr n) refl h
     by (Err b) e k = subst IsPlaced (sym k.1) p
 
 -- bytes are put into the memory
-pub placed_loaded : (start : ℕ) (bytes : List ℕ) (n : Machine) (s : Store) → IsPlaced n → All (λ b. b < 256) bytes → is_inside (length n.store) (record { start = start; size = length bytes }) ≡ true
+pub placed_loaded : (start : ℕ) (bytes : List ℕ) (n : Machine) (s : Store) → IsPlaced n → All (λ b. b < 256) bytes
+    → is_inside (length n.store) (record { start = start; size = length bytes }) ≡ true
     → s ≡ with_cells n.store start (as_cells bytes) → IsPlaced (record { control = n.control; store = s })
-placed_loaded start bytes n s p small inside e = subst (λ (t : Store). IsPlaced (record { control = n.control; store = t })) (sym e) (loaded_keeps_placed start bytes n p small inside)
+placed_loaded start bytes n s p small inside e =
+    subst (λ (t : Store). IsPlaced (record { control = n.control; store = t })) (sym e)
+    (loaded_keeps_placed start bytes n p small inside)
 
 -- what is fetched does not depend on the order in which the claims are kept
 pub fetched_alike : (c : Claims) (n : Machine) → Agrees c n.control
-    → value_of (run (decode n.control.registers.iptr) n.store c) ≡ value_of (run (decode n.control.registers.iptr) n.store (claims_of n.control))
+    → value_of (run (decode n.control.registers.iptr) n.store c)
+    ≡ value_of (run (decode n.control.registers.iptr) n.store (claims_of n.control))
 fetched_alike c n a =
-    ap (λ (r : Result (Instruction × Store) Break). value_of r) (run_from-same (decode n.control.registers.iptr) n.store n.store c (claims_of n.control) (same_from c n.control a))
+    ap (λ (r : Result (Instruction × Store) Break). value_of r)
+    (run_from-same (decode n.control.registers.iptr) n.store n.store c (claims_of n.control)
+    (same_from c n.control a))

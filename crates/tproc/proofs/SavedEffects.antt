@@ -20,7 +20,8 @@ use Rattle.tcpu.specs.Effects.{local_or_left, selected_effect, effect_at, effect
 use Rattle.tproc.proofs.SavedSets.{SetsNone}
 
 -- the bytes of an instruction
-complete-none : (rest : ℤ → Action Decoded) (length : ℕ) (p : Part) → ((w : ℤ) → SetsNone (rest w)) → SetsNone (complete rest length p)
+complete-none : (rest : ℤ → Action Decoded) (length : ℕ) (p : Part) → ((w : ℤ) → SetsNone (rest w))
+    → SetsNone (complete rest length p)
 complete-none rest length (More w) h = h w
 complete-none rest length (Last f w) h = by (is_listed f w)
   where
@@ -30,7 +31,9 @@ complete-none rest length (Last f w) h = by (is_listed f w)
 
 fetch-none : (left had address : ℕ) (value : ℤ) → SetsNone (fetch left had address value)
 fetch-none zero had address value = tt
-fetch-none (suc left) had address value = λ byte. complete-none (fetch left (suc had) (plus address 1)) (suc had) (part value byte) (λ w. fetch-none left (suc had) (plus address 1) w)
+fetch-none (suc left) had address value =
+    λ byte. complete-none (fetch left (suc had) (plus address 1)) (suc had) (part value byte)
+    (λ w. fetch-none left (suc had) (plus address 1) w)
 
 pub decode-none : (iptr : ℕ) → SetsNone (decode iptr)
 unfolding decode
@@ -55,7 +58,8 @@ operations-none op.Ret r = λ _. tt
 operations-none op.Lend r = λ count index. looped-none (minus count 1) index (is_positive_word (minus count 1)) r
 operations-none _ r = tt
 
-local-none : (x : Option (Action Outcome)) (o : Operation) (b : Registers) → IfSome x (λ x. SetsNone x) → SetsNone (local_or_left x o b)
+local-none : (x : Option (Action Outcome)) (o : Operation) (b : Registers) → IfSome x (λ x. SetsNone x)
+    → SetsNone (local_or_left x o b)
 local-none (Some x) o b h = h
 local-none None o b h = tt
 

@@ -1,5 +1,6 @@
 -- The first guard that is true and ready when it is disabled is selected.
-use Rattle.std.proofs.Common.{◌≡◌, ◌≢◌, ℕ, zero, suc, ◌+◌, ◌<◌, ◌^◌, refl, sym, ap, subst, cond, ◌∙◌, List, [], ◌∷◌, length, Bool, true, false, not, ◌&&◌, Result, Ok, Err, Option, Some, None, arith}
+use Rattle.std.proofs.Common.{◌≡◌, ◌≢◌, ℕ, zero, suc, ◌+◌, ◌<◌, ◌^◌, refl, sym, ap, subst, cond, ◌∙◌, List, [], ◌∷◌}
+use Rattle.std.proofs.Common.{length, Bool, true, false, not, ◌&&◌, Result, Ok, Err, Option, Some, None, arith}
 use Rattle.std.specs.Prelude.{◌==◌, IfSome, is_none, unwrap_or, option_map, option_and_then, find}
 use Rattle.std.proofs.lemmas.Bool.{eq-eqb, ne_eqb}
 use Rattle.tword.specs.declared.breaks.Break.{Break}
@@ -7,7 +8,8 @@ use Rattle.tword.specs.Words.{word_below, plus}
 use Rattle.tword.specs.Stores.{Store, word_at, with_word}
 use Rattle.tword.specs.Claims.{Claims, saving}
 use Rattle.tword.specs.Touches.{Writes, word_break, deschedule_break}
-use Rattle.tword.specs.Actions.{answer, done, write_word, deschedule, set_saved_word, run, value_of, with_saved_word, is_slot, ◌>>=◌, ◌>>◌}
+use Rattle.tword.specs.Actions.{answer, done, write_word, deschedule, set_saved_word, run, value_of, with_saved_word}
+use Rattle.tword.specs.Actions.{is_slot, ◌>>=◌, ◌>>◌}
 use Rattle.tword.proofs.Passing.{deschedule-words}
 use Rattle.tcode.specs.declared.instruction.Function.{Function}
 use Rattle.tcode.specs.declared.instruction.Function.TheVariants as function
@@ -22,23 +24,28 @@ use Rattle.tcpu.specs.Operations.{operation_effect}
 use Rattle.tcpu.specs.Effects.{effect, effect_at}
 use Rattle.tproc.specs.declared.offer.Ran.{Ran}
 use Rattle.tproc.specs.declared.offer.Ran.TheVariants.{Instruction}
-use Rattle.tproc.specs.declared.waiting.Reason.TheVariants.{Sends, Receives, Chooses, LinkInput, LinkOutput}
+use Rattle.tproc.specs.declared.waiter.Reason.TheVariants.{Sends, Receives, Chooses, LinkInput, LinkOutput}
 use Rattle.tproc.specs.Machine.{Control, Machine, claims_of}
-use Rattle.tproc.specs.Standing.{Standing, Waits, Queued, Runs, Interrupted, Unknown, standing}
+use Rattle.tproc.specs.ProcessStatus.{ProcessStatus, Waits, Queued, Runs, Interrupted, Unknown, standing}
 use Rattle.tproc.specs.Queues.{iptr_word, state_word, not_process, waiting_for}
 use Rattle.tproc.specs.Channels.{StepAction, Input, goes_on, waiting_state, ready}
 use Rattle.tproc.specs.LinkChannels.{is_link, link_of, link_end, with_link, check_end, check_free}
-use Rattle.tproc.specs.Alternatives.{none_selected, awaits_choice, disable_found, disable_internal, disable_link, disable, selects, disables_channel}
+use Rattle.tproc.specs.Alternatives.{none_selected, awaits_choice, disable_found, disable_internal, disable_link}
+use Rattle.tproc.specs.Alternatives.{disable, selects, disables_channel}
 use Rattle.tproc.specs.Scheduler.{operation_step, counted_by}
 use Rattle.tproc.specs.Steps.{step, acted, control_step, running_step, low_step, instruction_step, after}
 use Rattle.tproc.specs.Doing.{moved_on}
-use Rattle.tproc.specs.Selection.{operation_of, operation_by, next_operation, outputs_on, is_ready, Guard, guard_of, IsDisabled, Turn, Disables, Passes, AreTurns, left_by, guards, IsChoice, FirstReadyIsSelected, SelectedIsTold}
+use Rattle.tproc.specs.Selection.{operation_of, operation_by, next_operation, outputs_on, is_ready, Guard, guard_of}
+use Rattle.tproc.specs.Selection.{IsDisabled, Turn, Disables, Passes, AreTurns, left_by, guards, IsChoice}
+use Rattle.tproc.specs.Selection.{FirstReadyIsSelected, SelectedIsTold}
 use Rattle.tproc.proofs.Ends.{Ends, ends_run, ends_bind, ends_if}
-use Rattle.tproc.proofs.WordsApart.{LiesWord, lies_word, length-with_word, other_word, word_set, saved_other, below_other}
+use Rattle.tproc.proofs.WordsApart.{LiesWord, lies_word, length-with_word, other_word, word_set, saved_other}
+use Rattle.tproc.proofs.WordsApart.{below_other}
 use Rattle.tproc.proofs.Quiet.{begins_decode}
 
 -- an operation that is none of the local ones is left to the scheduler
-scheduled : (i : Decoded) (r : Registers) (o : Operation) → operation_of i.function i.operand ≡ Some o → ((r' : Registers) → operation_effect o r' ≡ None) → effect i r ≡ answer (r, Schedule o)
+scheduled : (i : Decoded) (r : Registers) (o : Operation) → operation_of i.function i.operand ≡ Some o
+    → ((r' : Registers) → operation_effect o r' ≡ None) → effect i r ≡ answer (r, Schedule o)
 unfolding effect
 scheduled i r o e h = by i.function e
   where
@@ -67,37 +74,50 @@ module _ (n n' : Machine) (x : Ran) (o : Operation) (left : (r : Registers) → 
   record IsStepOf : Type 0 where
     pub priority : ℕ
     pub size : ℕ
-    pub ran : run (operation_step o priority (counted_by o priority (moved_on size n.control))) n.store (claims_of n.control) ≡ Ok ((n'.control, x), n'.store)
+    pub ran : run (operation_step o priority (counted_by o priority (moved_on size n.control))) n.store
+        (claims_of n.control) ≡ Ok ((n'.control, x), n'.store)
 
   -- what ran
-  what_ran : (y : StepAction) → acted n.store (run y n.store (claims_of n.control)) ≡ Ok (n', x) → run y n.store (claims_of n.control) ≡ Ok ((n'.control, x), n'.store)
+  what_ran : (y : StepAction) → acted n.store (run y n.store (claims_of n.control)) ≡ Ok (n', x)
+      → run y n.store (claims_of n.control) ≡ Ok ((n'.control, x), n'.store)
   what_ran y h = by (run y n.store (claims_of n.control)) h
     where
-      by : (z : Result ((Control × Ran) × Store) Break) → acted n.store z ≡ Ok (n', x) → z ≡ Ok ((n'.control, x), n'.store)
+      by : (z : Result ((Control × Ran) × Store) Break) → acted n.store z ≡ Ok (n', x)
+          → z ≡ Ok ((n'.control, x), n'.store)
       by (Ok ((m1, x1), s1)) f =
           let p : ◌≡◌ {A = Machine × Ran} (record { control = m1; store = s1 }, x1) (n', x) = cc in
           ap (λ (q : Machine × Ran). Ok ((q.0.control, q.1), q.0.store)) p
       by (Err b) f = cc
 
   -- one instruction
-  instruction : (p : ℕ) (i : Decoded) → Ok i ≡ value_of (run (decode n.control.registers.iptr) n.store (claims_of n.control)) → operation_of i.function i.operand ≡ Some o
+  instruction : (p : ℕ) (i : Decoded)
+      → Ok i ≡ value_of (run (decode n.control.registers.iptr) n.store (claims_of n.control))
+      → operation_of i.function i.operand ≡ Some o
       → run (instruction_step p n.control) n.store (claims_of n.control) ≡ Ok ((n'.control, x), n'.store) → IsStepOf
   unfolding instruction_step
   instruction p i e f h =
       record {
         priority = p;
         size = i.length;
-        ran = rw (begins_decode n.control.registers.iptr (claims_of n.control) n.store (Ok i) e (λ i. effect i n.control.registers >>= (λ r. after i.length p n.control r.0 r.1)), scheduled i n.control.registers o f left) at h;
+        ran = rw (
+          begins_decode n.control.registers.iptr (claims_of n.control) n.store (Ok i) e
+              (λ i. effect i n.control.registers >>= (λ r. after i.length p n.control r.0 r.1)),
+          scheduled i n.control.registers o f left,
+        ) at h;
       }
 
   -- it is the one that runs next
-  runs_low : (p : ℕ) (high : List ℕ) (y : Result Decoded Break) → y ≡ value_of (run (decode n.control.registers.iptr) n.store (claims_of n.control)) → operation_by (Some (suc p)) high y ≡ Some o
+  runs_low : (p : ℕ) (high : List ℕ) (y : Result Decoded Break)
+      → y ≡ value_of (run (decode n.control.registers.iptr) n.store (claims_of n.control))
+      → operation_by (Some (suc p)) high y ≡ Some o
       → run (low_step high n.control) n.store (claims_of n.control) ≡ Ok ((n'.control, x), n'.store) → IsStepOf
   runs_low p [] (Ok i) e f h = instruction 1 i e f h
   runs_low p [] (Err b) e f h = cc
   runs_low p (w ∷ ws) y e f h = cc
 
-  runs_next : (current : Option ℕ) (y : Result Decoded Break) → y ≡ value_of (run (decode n.control.registers.iptr) n.store (claims_of n.control)) → operation_by current n.control.high y ≡ Some o
+  runs_next : (current : Option ℕ) (y : Result Decoded Break)
+      → y ≡ value_of (run (decode n.control.registers.iptr) n.store (claims_of n.control))
+      → operation_by current n.control.high y ≡ Some o
       → run (running_step current n.control) n.store (claims_of n.control) ≡ Ok ((n'.control, x), n'.store) → IsStepOf
   runs_next None y e f h = cc
   runs_next (Some zero) (Ok i) e f h = instruction 0 i e f h
@@ -108,12 +128,18 @@ module _ (n n' : Machine) (x : Ran) (o : Operation) (left : (r : Registers) → 
   unfolding step
   is_step_of e f = by n.control.halted e f
     where
-      by : (b : Bool) → cond b None (operation_by n.control.current n.control.high (value_of (run (decode n.control.registers.iptr) n.store (claims_of n.control)))) ≡ Some o
+      by : (b : Bool)
+          → cond b None
+          (operation_by n.control.current n.control.high
+          (value_of (run (decode n.control.registers.iptr) n.store (claims_of n.control)))) ≡ Some o
           → acted n.store (run (control_step b n.control) n.store (claims_of n.control)) ≡ Ok (n', x) → IsStepOf
       by true e f = cc
-      by false e f = runs_next n.control.current (value_of (run (decode n.control.registers.iptr) n.store (claims_of n.control))) refl e (what_ran (running_step n.control.current n.control) f)
+      by false e f =
+          runs_next n.control.current (value_of (run (decode n.control.registers.iptr) n.store (claims_of n.control)))
+          refl e (what_ran (running_step n.control.current n.control) f)
 
--- what a disable leaves: word 0 of the workspace holds the offset where the guard is ready and none was selected, and else what it held
+-- what a disable leaves: word 0 of the workspace holds the offset where the guard is ready and none was selected, and
+-- else what it held
 record IsSelected (w : ℕ) (old : Store) (offset : ℕ) (is_ready : Bool) (r : Registers) (s : Store) : Type 0 where
   pub told : r.a ≡ flag (is_ready && (word_at old w == none_selected))
   pub held : word_at s w ≡ cond (is_ready && (word_at old w == none_selected)) offset (word_at old w)
@@ -133,24 +159,29 @@ abbrev LooksAt : ℕ → Store → Control → Bool → Claims → Control × Bo
 LooksAt w old m b d y s = IsLookedAt w old m b y s
 
 -- nothing is written
-looked : (w : ℕ) (old : Store) (m m' : Control) (b : Bool) → m'.registers ≡ m.registers → IsLookedAt w old m b (m', b) old
+looked : (w : ℕ) (old : Store) (m m' : Control) (b : Bool) → m'.registers ≡ m.registers
+    → IsLookedAt w old m b (m', b) old
 looked w old m m' b e = record { registers = e; found = refl; size = refl; stands = λ l. refl }
 
 module _ (old : Store) where
   -- the selection, once the channel was looked at
-  selects-ends : (w offset : ℕ) (b : Bool) (m : Control) (c : Claims) (s : Store) → m.registers.wptr ≡ w → offset < 2 ^ 32 → length s ≡ length old → (LiesWord (length old) w → word_at s w ≡ word_at old w)
+  selects-ends : (w offset : ℕ) (b : Bool) (m : Control) (c : Claims) (s : Store) → m.registers.wptr ≡ w
+      → offset < 2 ^ 32 → length s ≡ length old → (LiesWord (length old) w → word_at s w ≡ word_at old w)
       → Ends (Selects w old offset b) old c s (selects offset b m)
   selects-ends w offset b m c s e small size stands = λ p.
       by (lies_word (length old) w c Writes (rw e at p)) (b && (word_at old w == none_selected)) refl
     where
       by : LiesWord (length old) w → (t : Bool) → (b && (word_at old w == none_selected)) ≡ t
-          → Ends (Selects w old offset b) old c s (cond (b && (word_at old m.registers.wptr == none_selected)) (write_word m.registers.wptr offset) done >> goes_on (all_to (flag (b && (word_at old m.registers.wptr == none_selected))) m.registers) m)
+          → Ends (Selects w old offset b) old c s
+          (cond (b && (word_at old m.registers.wptr == none_selected)) (write_word m.registers.wptr offset) done >>
+          goes_on (all_to (flag (b && (word_at old m.registers.wptr == none_selected))) m.registers) m)
       by l true f = rw (e, f) (λ _. record { told = rw f refl; held = rw f (word_set s w offset (rw size l) small) })
       by l false f = rw (e, f) (record { told = rw f refl; held = rw f (stands l) })
 
   -- an internal channel, by what stands in its word
   module _ (w channel : ℕ) (m : Control) (apart : channel ≢ w) (c : Claims) where
-    found-ends : (where_it_is : Standing) → Ends (LooksAt w old m (outputs_on channel where_it_is)) old c old (disable_found channel where_it_is m)
+    found-ends : (where_it_is : ProcessStatus)
+        → Ends (LooksAt w old m (outputs_on channel where_it_is)) old c old (disable_found channel where_it_is m)
     found-ends (Waits (Sends other buffer length)) = λ e. rw e (looked w old m m true refl)
     found-ends Runs = λ e.
         (let l : LiesWord (length old) channel = lies_word (length old) channel c Writes e in
@@ -168,70 +199,114 @@ module _ (old : Store) where
     found-ends Interrupted = tt
     found-ends Unknown = tt
 
-    internal-ends : Ends (LooksAt w old m (not (word_at old channel == not_process) && outputs_on channel (standing m (word_at old channel)))) old c old (disable_internal channel m)
+    internal-ends : Ends
+        (LooksAt w old m
+        (not (word_at old channel == not_process) && outputs_on channel (standing m (word_at old channel)))) old c old
+        (disable_internal channel m)
     internal-ends = λ _. by (word_at old channel == not_process)
       where
-        by : (t : Bool) → Ends (LooksAt w old m (not t && outputs_on channel (standing m (word_at old channel)))) old c old (cond t (answer (m, false)) (disable_found channel (standing m (word_at old channel)) m))
+        by : (t : Bool)
+            → Ends (LooksAt w old m (not t && outputs_on channel (standing m (word_at old channel)))) old c old
+            (cond t (answer (m, false)) (disable_found channel (standing m (word_at old channel)) m))
         by true = looked w old m m false refl
         by false = found-ends (standing m (word_at old channel))
 
     -- any channel
-    channel-ends : Ends (LooksAt w old m (is_ready channel (record { control = m; store = old }))) old c old (disable channel m)
+    channel-ends : Ends (LooksAt w old m (is_ready channel (record { control = m; store = old }))) old c old
+        (disable channel m)
     channel-ends = by (is_link channel)
       where
-        by : (t : Bool) → Ends (LooksAt w old m (cond t (link_end m (link_of Input channel)).noticed (not (word_at old channel == not_process) && outputs_on channel (standing m (word_at old channel))))) old c old
-            (cond t (check_end Input channel >> check_free Input channel m >> disable_link (link_of Input channel) (link_end m (link_of Input channel)) m) (disable_internal channel m))
-        by true = λ _ _ _. looked w old m (with_link (link_of Input channel) (record (link_end m (link_of Input channel)) { remembered = None }) m) (link_end m (link_of Input channel)).noticed refl
+        by : (t : Bool)
+            → Ends (LooksAt w old m
+            (cond t (link_end m (link_of Input channel)).noticed
+            (not (word_at old channel == not_process) && outputs_on channel (standing m (word_at old channel))))) old c
+            old
+            (cond t (check_end Input channel >> check_free Input channel m >> disable_link (link_of Input channel)
+            (link_end m (link_of Input channel)) m) (disable_internal channel m))
+        by true =
+            λ _ _ _. looked w old m
+            (with_link (link_of Input channel) (record (link_end m (link_of Input channel)) { remembered = None }) m)
+            (link_end m (link_of Input channel)).noticed refl
         by false = internal-ends
 
   -- `disc`: whether the channel is looked at
-  disables-ends : (m : Control) (c : Claims) → m.registers.a < 2 ^ 32 → cond (m.registers.b == 0) None (Some m.registers.c) ≢ Some m.registers.wptr
-      → Ends (Selects m.registers.wptr old m.registers.a (not (m.registers.b == 0) && is_ready m.registers.c (record { control = m; store = old }))) old c old (disables_channel m)
+  disables-ends : (m : Control) (c : Claims) → m.registers.a < 2 ^ 32
+      → cond (m.registers.b == 0) None (Some m.registers.c) ≢ Some m.registers.wptr
+      → Ends (Selects m.registers.wptr old m.registers.a
+      (not (m.registers.b == 0) && is_ready m.registers.c (record { control = m; store = old }))) old c old
+      (disables_channel m)
   disables-ends m c small apart = by (m.registers.b == 0) apart
     where
       b : Bool
       b = is_ready m.registers.c (record { control = m; store = old })
 
       by : (t : Bool) → cond t None (Some m.registers.c) ≢ Some m.registers.wptr
-          → Ends (Selects m.registers.wptr old m.registers.a (not t && b)) old c old (cond t (answer (m, false)) (disable m.registers.c m) >>= (λ y. selects m.registers.a y.1 y.0))
+          → Ends (Selects m.registers.wptr old m.registers.a (not t && b)) old c old
+          (cond t (answer (m, false)) (disable m.registers.c m) >>= (λ y. selects m.registers.a y.1 y.0))
       by true h = selects-ends m.registers.wptr m.registers.a false m c old refl small refl (λ l. refl)
       by false h =
-          ends_bind (LooksAt m.registers.wptr old m b) (Selects m.registers.wptr old m.registers.a b) (disable m.registers.c m) (λ y. selects m.registers.a y.1 y.0) old c old
+          ends_bind (LooksAt m.registers.wptr old m b) (Selects m.registers.wptr old m.registers.a b)
+          (disable m.registers.c m) (λ y. selects m.registers.a y.1 y.0) old c old
           (channel-ends m.registers.wptr m.registers.c m (λ q. h (ap Some q)) c) (λ d y s k.
-          subst (λ (t : Bool). Ends (Selects m.registers.wptr old m.registers.a t) old d s (selects m.registers.a y.1 y.0)) k.found
-          (selects-ends m.registers.wptr m.registers.a y.1 y.0 d s (ap (λ (r : Registers). r.wptr) k.registers) small k.size k.stands))
+          subst (λ (t : Bool). Ends (Selects m.registers.wptr old m.registers.a t) old d s
+          (selects m.registers.a y.1 y.0)) k.found
+          (selects-ends m.registers.wptr m.registers.a y.1 y.0 d s (ap (λ (r : Registers). r.wptr) k.registers) small
+          k.size k.stands))
 
   -- `altwt`: no guard is selected
-  awaits-ends : (process : ℕ) (m : Control) (c : Claims) → m.registers.wptr < 2 ^ 32 → Ends (λ d y s. word_at s m.registers.wptr ≡ none_selected) old c old (awaits_choice process m)
+  awaits-ends : (process : ℕ) (m : Control) (c : Claims) → m.registers.wptr < 2 ^ 32
+      → Ends (λ d y s. word_at s m.registers.wptr ≡ none_selected) old c old (awaits_choice process m)
   awaits-ends process m c small = λ p q t.
-      ends_if (λ d y s. word_at s m.registers.wptr ≡ none_selected) (word_at old (word_below m.registers.wptr state_word) == ready) (goes_on m.registers m)
-      (deschedule m.registers.wptr >> (set_saved_word m.registers.wptr state_word waiting_state >> (set_saved_word m.registers.wptr iptr_word m.registers.iptr >> answer (waiting_for process Chooses m, Instruction))))
+      ends_if (λ d y s. word_at s m.registers.wptr ≡ none_selected)
+      (word_at old (word_below m.registers.wptr state_word) == ready) (goes_on m.registers m)
+      (deschedule m.registers.wptr >>
+      (set_saved_word m.registers.wptr state_word waiting_state >>
+      (set_saved_word m.registers.wptr iptr_word m.registers.iptr >> answer
+      (waiting_for process Chooses m, Instruction))))
       old c (with_word old m.registers.wptr none_selected)
       (λ _. written (lies p)) (λ _ e. stands p e)
     where
       lies : word_break (length old) c Writes m.registers.wptr ≡ None → LiesWord (length old) m.registers.wptr
       lies p = lies_word (length old) m.registers.wptr c Writes p
 
-      written : LiesWord (length old) m.registers.wptr → word_at (with_word old m.registers.wptr none_selected) m.registers.wptr ≡ none_selected
+      written : LiesWord (length old) m.registers.wptr
+          → word_at (with_word old m.registers.wptr none_selected) m.registers.wptr ≡ none_selected
       written l = word_set old m.registers.wptr none_selected l (omega arith)
 
-      below : (k : ℕ) → is_slot k ≡ true → deschedule_break (length old) c m.registers.wptr ≡ None → LiesWord (length old) (word_below m.registers.wptr k)
-      below k s e = lies_word (length old) (word_below m.registers.wptr k) c Writes (deschedule-words (length old) c m.registers.wptr k e s)
+      below : (k : ℕ) → is_slot k ≡ true → deschedule_break (length old) c m.registers.wptr ≡ None
+          → LiesWord (length old) (word_below m.registers.wptr k)
+      below k s e =
+          lies_word (length old) (word_below m.registers.wptr k) c Writes
+          (deschedule-words (length old) c m.registers.wptr k e s)
 
-      stands : word_break (length old) c Writes m.registers.wptr ≡ None → deschedule_break (length old) c m.registers.wptr ≡ None
-          → word_at (with_saved_word (with_saved_word (with_word old m.registers.wptr none_selected) (saving m.registers.wptr c) m.registers.wptr state_word waiting_state) (saving m.registers.wptr c) m.registers.wptr iptr_word m.registers.iptr) m.registers.wptr ≡ none_selected
+      stands : word_break (length old) c Writes m.registers.wptr ≡ None
+          → deschedule_break (length old) c m.registers.wptr ≡ None
+          → word_at
+          (with_saved_word
+          (with_saved_word (with_word old m.registers.wptr none_selected) (saving m.registers.wptr c)
+          m.registers.wptr state_word waiting_state) (saving m.registers.wptr c) m.registers.wptr iptr_word
+          m.registers.iptr) m.registers.wptr ≡ none_selected
       stands p e =
           let t : Store = with_word old m.registers.wptr none_selected in
           let u : Store = with_saved_word t (saving m.registers.wptr c) m.registers.wptr state_word waiting_state in
-          let size : length t ≡ length old = length-with_word old m.registers.wptr none_selected m.registers.wptr (lies p) in
+          let size : length t ≡ length old =
+          length-with_word old m.registers.wptr none_selected m.registers.wptr (lies p) in
           let first : (length u ≡ length t) × (word_at u m.registers.wptr ≡ word_at t m.registers.wptr) =
-          saved_other t (saving m.registers.wptr c) m.registers.wptr state_word waiting_state (rw size (below state_word refl e)) (rw size (lies p)) (below_other m.registers.wptr small).1 in
-          let second : (length (with_saved_word u (saving m.registers.wptr c) m.registers.wptr iptr_word m.registers.iptr) ≡ length u) × (word_at (with_saved_word u (saving m.registers.wptr c) m.registers.wptr iptr_word m.registers.iptr) m.registers.wptr ≡ word_at u m.registers.wptr) =
-          saved_other u (saving m.registers.wptr c) m.registers.wptr iptr_word m.registers.iptr (rw (first.0, size) (below iptr_word refl e)) (rw (first.0, size) (lies p)) (below_other m.registers.wptr small).0 in
+          saved_other t (saving m.registers.wptr c) m.registers.wptr state_word waiting_state
+          (rw size (below state_word refl e)) (rw size (lies p)) (below_other m.registers.wptr small).1 in
+          let second :
+          (length (with_saved_word u (saving m.registers.wptr c) m.registers.wptr iptr_word m.registers.iptr)
+          ≡ length u)
+          × (word_at (with_saved_word u (saving m.registers.wptr c) m.registers.wptr iptr_word m.registers.iptr)
+          m.registers.wptr ≡ word_at u m.registers.wptr) =
+          saved_other u (saving m.registers.wptr c) m.registers.wptr iptr_word m.registers.iptr
+          (rw (first.0, size) (below iptr_word refl e)) (rw (first.0, size) (lies p))
+          (below_other m.registers.wptr small).0 in
           second.1 ∙ first.1 ∙ written (lies p)
 
 -- a step that disables a guard
-disabled_selects : (w : ℕ) (n n' : Machine) (g : Guard) → IsDisabled w n g n' → IsSelected w n.store g.offset g.is_ready n'.control.registers n'.store
+disabled_selects : (w : ℕ) (n n' : Machine) (g : Guard) → IsDisabled w n g n'
+    → IsSelected w n.store g.offset g.is_ready n'.control.registers n'.store
 unfolding operation_step operation_effect
 disabled_selects w n n' g h = by (next_operation n) refl h.guard
   where
@@ -239,32 +314,46 @@ disabled_selects w n n' g h = by (next_operation n) refl h.guard
     as_guard : (x : Guard) → ◌≡◌ {A = Option Guard} (Some x) (Some g) → x ≡ g
     as_guard x e = cc
 
-    at_guard : (x : Guard) → ◌≡◌ {A = Option Guard} (Some x) (Some g) → IsSelected n.control.registers.wptr n.store x.offset x.is_ready n'.control.registers n'.store
+    at_guard : (x : Guard) → ◌≡◌ {A = Option Guard} (Some x) (Some g)
+        → IsSelected n.control.registers.wptr n.store x.offset x.is_ready n'.control.registers n'.store
         → IsSelected w n.store g.offset g.is_ready n'.control.registers n'.store
     at_guard x e k =
         subst (λ (v : ℕ). IsSelected v n.store g.offset g.is_ready n'.control.registers n'.store) h.workspace
-        (subst (λ (y : Guard). IsSelected n.control.registers.wptr n.store y.offset y.is_ready n'.control.registers n'.store) (as_guard x e) k)
+        (subst (λ (y : Guard). IsSelected n.control.registers.wptr n.store y.offset y.is_ready n'.control.registers
+        n'.store) (as_guard x e) k)
 
     channel_of : (x : Guard) → ◌≡◌ {A = Option Guard} (Some x) (Some g) → x.channel ≢ Some n.control.registers.wptr
     channel_of x e k = h.channel (ap (λ (y : Guard). y.channel) (sym (as_guard x e)) ∙ k ∙ ap Some h.workspace)
 
-    by_channel : IsStepOf n n' Instruction Disc (λ r. refl) → guard_of Disc n ≡ Some g → IsSelected w n.store g.offset g.is_ready n'.control.registers n'.store
+    by_channel : IsStepOf n n' Instruction Disc (λ r. refl) → guard_of Disc n ≡ Some g
+        → IsSelected w n.store g.offset g.is_ready n'.control.registers n'.store
     by_channel k f =
         let m : Control = counted_by Disc k.priority (moved_on k.size n.control) in
-        let r : (d : Claims) × IsSelected n.control.registers.wptr n.store n.control.registers.a (not (n.control.registers.b == 0) && is_ready n.control.registers.c n) n'.control.registers n'.store =
-        ends_run (Selects n.control.registers.wptr n.store n.control.registers.a (not (n.control.registers.b == 0) && is_ready n.control.registers.c n)) (disables_channel m) n.store n.store (claims_of n.control) (n'.control, Instruction) n'.store
+        let r : (d : Claims)
+        × IsSelected n.control.registers.wptr n.store n.control.registers.a
+        (not (n.control.registers.b == 0) && is_ready n.control.registers.c n) n'.control.registers n'.store =
+        ends_run (Selects n.control.registers.wptr n.store n.control.registers.a
+        (not (n.control.registers.b == 0) && is_ready n.control.registers.c n)) (disables_channel m) n.store n.store
+        (claims_of n.control) (n'.control, Instruction) n'.store
         (disables-ends n.store m (claims_of n.control) h.placed.words.a (channel_of _ f)) k.ran in
         at_guard _ f r.1
 
-    by_skip : IsStepOf n n' Instruction Diss (λ r. refl) → guard_of Diss n ≡ Some g → IsSelected w n.store g.offset g.is_ready n'.control.registers n'.store
+    by_skip : IsStepOf n n' Instruction Diss (λ r. refl) → guard_of Diss n ≡ Some g
+        → IsSelected w n.store g.offset g.is_ready n'.control.registers n'.store
     by_skip k f =
         let m : Control = counted_by Diss k.priority (moved_on k.size n.control) in
-        let r : (d : Claims) × IsSelected n.control.registers.wptr n.store n.control.registers.a (not (n.control.registers.b == 0)) n'.control.registers n'.store =
-        ends_run (Selects n.control.registers.wptr n.store n.control.registers.a (not (n.control.registers.b == 0))) (selects n.control.registers.a (not (n.control.registers.b == 0)) m) n.store n.store (claims_of n.control) (n'.control, Instruction) n'.store
-        (selects-ends n.store n.control.registers.wptr n.control.registers.a (not (n.control.registers.b == 0)) m (claims_of n.control) n.store refl h.placed.words.a refl (λ l. refl)) k.ran in
+        let r : (d : Claims)
+        × IsSelected n.control.registers.wptr n.store n.control.registers.a (not (n.control.registers.b == 0))
+        n'.control.registers n'.store =
+        ends_run (Selects n.control.registers.wptr n.store n.control.registers.a (not (n.control.registers.b == 0)))
+        (selects n.control.registers.a (not (n.control.registers.b == 0)) m) n.store n.store (claims_of n.control)
+        (n'.control, Instruction) n'.store
+        (selects-ends n.store n.control.registers.wptr n.control.registers.a (not (n.control.registers.b == 0)) m
+        (claims_of n.control) n.store refl h.placed.words.a refl (λ l. refl)) k.ran in
         at_guard _ f r.1
 
-    by : (y : Option Operation) → next_operation n ≡ y → option_and_then (λ o. guard_of o n) y ≡ Some g → IsSelected w n.store g.offset g.is_ready n'.control.registers n'.store
+    by : (y : Option Operation) → next_operation n ≡ y → option_and_then (λ o. guard_of o n) y ≡ Some g
+        → IsSelected w n.store g.offset g.is_ready n'.control.registers n'.store
     by None e f = cc
     by (Some Disc) e f = by_channel (is_step_of n n' Instruction Disc (λ r. refl) e h.done) f
     by (Some Diss) e f = by_skip (is_step_of n n' Instruction Diss (λ r. refl) e h.done) f
@@ -277,7 +366,9 @@ awaited_none w n m turns h =
     let k : IsStepOf n m Instruction Altwt (λ r. refl) = is_step_of n m Instruction Altwt (λ r. refl) h.awaits h.done in
     let c : Control = counted_by Altwt k.priority (moved_on k.size n.control) in
     let r : (d : Claims) × (word_at m.store n.control.registers.wptr ≡ none_selected) =
-    ends_run (λ d y s. word_at s n.control.registers.wptr ≡ none_selected) (awaits_choice (n.control.registers.wptr + k.priority) c) n.store n.store (claims_of n.control) (m.control, Instruction) m.store
+    ends_run (λ d y s. word_at s n.control.registers.wptr ≡ none_selected)
+    (awaits_choice (n.control.registers.wptr + k.priority) c) n.store n.store (claims_of n.control)
+    (m.control, Instruction) m.store
     (awaits-ends n.store (n.control.registers.wptr + k.priority) c (claims_of n.control) h.placed.words.wptr) k.ran in
     rw (← h.workspace) r.1
 
@@ -295,7 +386,8 @@ abbrev Tells : ℕ → Machine → Option ℕ → Type 0
 Tells w n first = (word_at n.store w ≡ unwrap_or first none_selected) × IfSome first (λ x. x ≢ none_selected)
 
 -- word 0, after the turns, where a first one was selected before them or none was
-selected_after : (w : ℕ) (n : Machine) (turns : List Turn) (o : Option ℕ) → AreTurns w n turns → IfSome o (λ x. x ≢ none_selected) → word_at n.store w ≡ unwrap_or o none_selected
+selected_after : (w : ℕ) (n : Machine) (turns : List Turn) (o : Option ℕ) → AreTurns w n turns
+    → IfSome o (λ x. x ≢ none_selected) → word_at n.store w ≡ unwrap_or o none_selected
     → Tells w (left_by n turns) (or_first o (first_of (guards turns)))
 selected_after w n [] (Some x) h k e = (e, k)
 selected_after w n [] None h k e = (e, tt)
@@ -309,7 +401,8 @@ selected_after w n (Disables g n' ∷ turns) (Some x) h k e =
     stands true t q = rw q refl
     stands false t q = refl
 selected_after w n (Disables g n' ∷ turns) None h k e =
-    by g.is_ready refl (selected_after w n' turns (Some g.offset) h.1 h.0.offset) (selected_after w n' turns None h.1 tt)
+    by g.is_ready refl (selected_after w n' turns (Some g.offset) h.1 h.0.offset)
+    (selected_after w n' turns None h.1 tt)
   where
     s : IsSelected w n.store g.offset g.is_ready n'.control.registers n'.store
     s = disabled_selects w n n' g h.0
@@ -317,8 +410,10 @@ selected_after w n (Disables g n' ∷ turns) None h k e =
     none : (word_at n.store w == none_selected) ≡ true
     none = eq-eqb _ _ e
 
-    by : (b : Bool) → g.is_ready ≡ b → (word_at n'.store w ≡ g.offset → Tells w (left_by n' turns) (Some g.offset)) → (word_at n'.store w ≡ none_selected → Tells w (left_by n' turns) (first_of (guards turns)))
-        → Tells w (left_by n' turns) (option_map (λ (g : Guard). g.offset) (cond b (Some g) (find (λ (g : Guard). g.is_ready) (guards turns))))
+    by : (b : Bool) → g.is_ready ≡ b → (word_at n'.store w ≡ g.offset → Tells w (left_by n' turns) (Some g.offset))
+        → (word_at n'.store w ≡ none_selected → Tells w (left_by n' turns) (first_of (guards turns)))
+        → Tells w (left_by n' turns)
+        (option_map (λ (g : Guard). g.offset) (cond b (Some g) (find (λ (g : Guard). g.is_ready) (guards turns))))
     by true q there rest = there (s.held ∙ rw (q, none) refl)
     by false q there rest = rest (s.held ∙ rw (q, e) refl)
 
@@ -327,11 +422,13 @@ first_ready_is_selected w n m turns h = (selected_after w m turns None h.follow 
 
 pub selected_is_told : SelectedIsTold
 selected_is_told w n m turns h g n' k =
-    (disabled_selects w (left_by m turns) n' g k).told ∙ ap (λ (t : Bool). flag (g.is_ready && t)) (by (first_of (guards turns)) a.0 a.1)
+    (disabled_selects w (left_by m turns) n' g k).told
+    ∙ ap (λ (t : Bool). flag (g.is_ready && t)) (by (first_of (guards turns)) a.0 a.1)
   where
     a : Tells w (left_by m turns) (first_of (guards turns))
     a = selected_after w m turns None h.follow tt (awaited_none w n m turns h)
 
-    by : (o : Option ℕ) → word_at (left_by m turns).store w ≡ unwrap_or o none_selected → IfSome o (λ x. x ≢ none_selected) → (word_at (left_by m turns).store w == none_selected) ≡ is_none o
+    by : (o : Option ℕ) → word_at (left_by m turns).store w ≡ unwrap_or o none_selected
+        → IfSome o (λ x. x ≢ none_selected) → (word_at (left_by m turns).store w == none_selected) ≡ is_none o
     by None e q = eq-eqb _ _ e
     by (Some x) e q = rw e (ne_eqb x none_selected q)

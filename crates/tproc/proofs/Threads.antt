@@ -1,14 +1,16 @@
 -- The links lead from the front of each queue through it, after each move too.
-use Rattle.std.proofs.Common.{◌≡◌, ℕ, zero, suc, ◌-◌, refl, ap, subst, ◌∙◌, List, [], ◌∷◌, ◌++◌, length, take, Some, inl, inr, arith}
+use Rattle.std.proofs.Common.{◌≡◌, ℕ, zero, suc, ◌-◌, refl, ap, subst, ◌∙◌, List, [], ◌∷◌, ◌++◌, length, take, Some}
+use Rattle.std.proofs.Common.{inl, inr, arith}
 use Rattle.std.specs.Prelude.{slice_get}
 use Rattle.std.proofs.lemmas.List.Elements.{All-head, All-tail, All-take}
 use Rattle.tword.specs.Words.{word_below}
 use Rattle.tword.specs.Stores.{Store, word_at}
 use Rattle.tproc.specs.Machine.{Machine}
-use Rattle.tproc.specs.Standing.{queue}
+use Rattle.tproc.specs.ProcessStatus.{queue}
 use Rattle.tproc.specs.Queues.{link_word, last_of}
 use Rattle.tproc.specs.Opening.{empty_machine}
-use Rattle.tproc.specs.SavedWords.{WordStands, LinksStand, IsJoined, QueueGoesOn, SavedStand, OfEachMove, linked_from, IsThreaded, AreThreaded, QueuesStayThreaded}
+use Rattle.tproc.specs.SavedWords.{WordStands, LinksStand, IsJoined, QueueGoesOn, SavedStand, OfEachMove, linked_from}
+use Rattle.tproc.specs.SavedWords.{IsThreaded, AreThreaded, QueuesStayThreaded}
 use Rattle.tproc.proofs.SavedWords.{saved_words_stand}
 
 -- the link of a workspace is the next one, and so on to the last
@@ -21,13 +23,15 @@ same_front : (v w : ℕ) (vs ws : List ℕ) → v ∷ vs ≡ w ∷ ws → (v ≡
 same_front v w vs ws e = (cc, cc)
 
 -- what is found is a chain, and the other way round
-chain_from : (s : Store) (w : ℕ) (ws : List ℕ) → linked_from s (length ws) (word_at s (word_below w link_word)) ≡ ws → Chain s w ws
+chain_from : (s : Store) (w : ℕ) (ws : List ℕ) → linked_from s (length ws) (word_at s (word_below w link_word)) ≡ ws
+    → Chain s w ws
 chain_from s w [] e = tt
 chain_from s w (v ∷ vs) e =
     let h : (word_at s (word_below w link_word) ≡ v) × (_ ≡ vs) = same_front _ v _ vs e in
     (h.0, chain_from s v vs (subst (λ u. linked_from s (length vs) (word_at s (word_below u link_word)) ≡ vs) h.0 h.1))
 
-chain_found : (s : Store) (w : ℕ) (ws : List ℕ) → Chain s w ws → linked_from s (length ws) (word_at s (word_below w link_word)) ≡ ws
+chain_found : (s : Store) (w : ℕ) (ws : List ℕ) → Chain s w ws
+    → linked_from s (length ws) (word_at s (word_below w link_word)) ≡ ws
 chain_found s w [] h = refl
 chain_found s w (v ∷ vs) h = rw h.0 (ap (λ xs. v ∷ xs) (chain_found s v vs h.1))
 
@@ -52,7 +56,8 @@ last_is w ws = let e : length (w ∷ ws) - 1 ≡ length ws = omega arith in rw e
 
 module _ (n n' : Machine) where
   -- a chain whose links stand, but for that of the last
-  chain_stands : (w : ℕ) (ws : List ℕ) → LinksStand (take (length ws) (w ∷ ws)) n n' → Chain n.store w ws → Chain n'.store w ws
+  chain_stands : (w : ℕ) (ws : List ℕ) → LinksStand (take (length ws) (w ∷ ws)) n n' → Chain n.store w ws
+      → Chain n'.store w ws
   chain_stands w [] h c = tt
   chain_stands w (v ∷ vs) h c = (
     All-head (λ u. WordStands link_word u n n') w (take (length vs) (v ∷ vs)) h ∙ c.0,
@@ -60,7 +65,8 @@ module _ (n n' : Machine) where
   )
 
   -- one more at its end
-  chain_joined : (w : ℕ) (ws : List ℕ) (new : ℕ) → Chain n'.store w ws → word_at n'.store (word_below (last_from w ws) link_word) ≡ new → Chain n'.store w (ws ++ new ∷ [])
+  chain_joined : (w : ℕ) (ws : List ℕ) (new : ℕ) → Chain n'.store w ws
+      → word_at n'.store (word_below (last_from w ws) link_word) ≡ new → Chain n'.store w (ws ++ new ∷ [])
   unfolding last_from
   chain_joined w [] new c e = (e, tt)
   chain_joined w (v ∷ vs) new c e = (c.0, chain_joined v vs new c.1 e)
@@ -71,7 +77,8 @@ module _ (n n' : Machine) where
 
   queue_stands : (q : List ℕ) → LinksStand q n n' → IsThreaded n.store q → IsThreaded n'.store q
   queue_stands [] h t = refl
-  queue_stands (w ∷ ws) h t = threaded_by n'.store w ws (chain_stands w ws (before_last w ws h) (chain_of n.store w ws t))
+  queue_stands (w ∷ ws) h t =
+      threaded_by n'.store w ws (chain_stands w ws (before_last w ws h) (chain_of n.store w ws t))
 
   queue_rests : (w : ℕ) (ws : List ℕ) → IsThreaded n'.store (w ∷ ws) → IsThreaded n'.store ws
   queue_rests w [] t = refl

@@ -1,5 +1,7 @@
 -- A word that is set is there, and each other word stands.
-use Rattle.std.proofs.Common.{◌≡◌, ◌≢◌, ℕ, ◌+◌, ◌-◌, ◌<◌, ◌≤◌, ◌%◌, ◌^◌, refl, ap, cond, ◌∙◌, [], ◌∷◌, length, drop, Bool, true, false, ◌&&◌, Some, None, ◌⊎◌, inl, inr, arith, length-take, length-drop, get_or-take, get_or-drop}
+use Rattle.std.proofs.Common.{◌≡◌, ◌≢◌, ℕ, ◌+◌, ◌-◌, ◌<◌, ◌≤◌, ◌%◌, ◌^◌, refl, ap, cond, ◌∙◌, [], ◌∷◌, length, drop}
+use Rattle.std.proofs.Common.{Bool, true, false, ◌&&◌, Some, None, ◌⊎◌, inl, inr, arith, length-take, length-drop}
+use Rattle.std.proofs.Common.{get_or-take, get_or-drop}
 use Rattle.std.specs.Int.{w32, from_le_bytes, to_le_bytes}
 use Rattle.std.proofs.lemmas.Bool.{eqb-true}
 use Rattle.std.proofs.lemmas.List.{ext_get_or}
@@ -51,7 +53,10 @@ module _ (s : Store) (a v w : ℕ) where
   -- the other word stands
   pub other_word : LiesWord (length s) a → LiesWord (length s) w → a ≢ w → word_at (with_word s a v) w ≡ word_at s w
   other_word l k h =
-      let b : SameBytes s (with_word s a v) w 4 = stands_bytes s (with_word s a v) w 4 (with_cells-stands (Some (word_span w) ∷ []) s s a 4 (as_cells (to_le_bytes w32 v)) (stands_self (Some (word_span w) ∷ []) s) refl clear) k.above k.within in
+      let b : SameBytes s (with_word s a v) w 4 =
+      stands_bytes s (with_word s a v) w 4
+      (with_cells-stands (Some (word_span w) ∷ []) s s a 4 (as_cells (to_le_bytes w32 v))
+      (stands_self (Some (word_span w) ∷ []) s) refl clear) k.above k.within in
       ap (from_le_bytes w32) (b.bytes 4 (omega arith))
     where
       clear : Clear (length s) (Some (word_span w) ∷ []) (word_span a)
@@ -85,10 +90,12 @@ pub below_other : (w : ℕ) → w < 2 ^ 32 → (word_below w 1 ≢ w) × (word_b
 below_other w h = ((λ e. omega (arith, e)), (λ e. omega (arith, e)))
 
 -- a saved word that is set leaves the word at another address, whether or not the words of the workspace are saved
-pub saved_other : (s : Store) (c : Claims) (w k v : ℕ) → LiesWord (length s) (word_below w k) → LiesWord (length s) w → word_below w k ≢ w
+pub saved_other : (s : Store) (c : Claims) (w k v : ℕ) → LiesWord (length s) (word_below w k) → LiesWord (length s) w
+    → word_below w k ≢ w
     → (length (with_saved_word s c w k v) ≡ length s) × (word_at (with_saved_word s c w k v) w ≡ word_at s w)
 saved_other s c w k v l h apart = by (is_slot k && has_saved c w)
   where
-    by : (b : Bool) → (length (cond b (with_word s (word_below w k) v) s) ≡ length s) × (word_at (cond b (with_word s (word_below w k) v) s) w ≡ word_at s w)
+    by : (b : Bool) → (length (cond b (with_word s (word_below w k) v) s) ≡ length s)
+        × (word_at (cond b (with_word s (word_below w k) v) s) w ≡ word_at s w)
     by true = (length-with_word s (word_below w k) v w l, other_word s (word_below w k) v w l h apart)
     by false = (refl, refl)

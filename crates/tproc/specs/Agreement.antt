@@ -1,10 +1,11 @@
 -- How the claims that a memory keeps agree with a control, and what the code of a step needs to know of a control.
 -- Source: own choice, words for contracts.
-use Rattle.std.specs.Prelude.{◌≡◌, ◌≢◌, ◌<◌, ◌≤◌, ◌%◌, ◌+◌, ℕ, zero, suc, Bool, ◌&&◌, nat_le, nat_lt, true, false, [], ◌∷◌, ◌++◌, AllPairs, List, map, length, IfSome, IsSome, option_map}
+use Rattle.std.specs.Prelude.{◌≡◌, ◌≢◌, ◌<◌, ◌≤◌, ◌%◌, ◌+◌, ℕ, zero, suc, Bool, ◌&&◌, nat_le, nat_lt, true, false, []}
+use Rattle.std.specs.Prelude.{◌∷◌, ◌++◌, AllPairs, List, map, length, IfSome, IsSome, option_map}
 use Rattle.tword.specs.Claims.{Claims, has_saved}
 use Rattle.tproc.specs.Machine.{Control, workspace_of, descheduled, buffer_of}
-use Rattle.tproc.specs.Standing.{is_among, live, most_processes}
-use Rattle.tproc.specs.declared.waiting.LinkEnd.{LinkEnd}
+use Rattle.tproc.specs.ProcessStatus.{is_among, live, most_processes}
+use Rattle.tproc.specs.declared.waiter.LinkEnd.{LinkEnd}
 
 -- the claims that a memory keeps are those of these workspaces, in any order, and of these links
 pub record AgreesOn (claims : Claims) (workspaces : List ℕ) (links : List LinkEnd) : Type 0 where
@@ -13,7 +14,8 @@ pub record AgreesOn (claims : Claims) (workspaces : List ℕ) (links : List Link
   pub inputs : claims.inputs ≡ map (λ e. option_map buffer_of e.input) links
   pub outputs : claims.outputs ≡ map (λ e. option_map buffer_of e.output) links
 
--- and those of a control, where the words of these further workspaces are saved: of a process that is about to be queued or to wait, or that has just left its queue
+-- and those of a control, where the words of these further workspaces are saved: of a process that is about to be
+-- queued or to wait, or that has just left its queue
 pub record AgreesWith (others : List ℕ) (claims : Claims) (m : Control) : Type 0 where
   pub on : AgreesOn claims (others ++ descheduled m) m.links
 
@@ -53,6 +55,11 @@ pub record IsPlain (m : Control) : Type 0 where
   pub few : length (live m) ≤ most_processes
   pub links : length m.links ≡ 4
   pub distinct : AllPairs (λ v w. v ≢ w) (descheduled m)
+
+-- a control in which the claims and what waits fit: what each step starts from
+pub record IsReady (claims : Claims) (m : Control) : Type 0 where
+  pub plain : IsPlain m
+  pub agrees : Agrees claims m
 
 -- how many are queued or wait
 abbrev pub taken : Control → ℕ

@@ -21,7 +21,8 @@ use Rattle.tproc.specs.Channels.{StepAction}
 use Rattle.tproc.specs.Steps.{after, step, step_left_by, step_answered}
 
 -- an action is done: control and store are what it gives; or its break is named, and both are as they were
-abbrev pub Does : {A : Type 0} → Result ((Control × A) × Store) Break → Control → Store → Result A Break → Control → Store → Type 0
+abbrev pub Does : {A : Type 0} → Result ((Control × A) × Store) Break → Control → Store → Result A Break → Control
+    → Store → Type 0
 Does (Ok ((m, x), s)) old cells result new cells' = (result ≡ Ok x) × (new ≡ m) × (cells' ≡ s)
 Does (Err b) old cells result new cells' = (result ≡ Err b) × (new ≡ old) × (cells' ≡ cells)
 
@@ -36,7 +37,9 @@ in_turn x y z = x >>= (λ _. y >>= (λ _. z))
 -- a process from outside is let in, as a step
 abbrev pub adding : ℕ → ℕ → Control → StepAction
 adding process iptr m =
-    admit process m >>= (λ _. set_saved_word (workspace_of process) iptr_word iptr >>= (λ _. enqueue process m >>= (λ m'. answer (m', ran.Instruction))))
+    admit process m >>=
+    (λ _. set_saved_word (workspace_of process) iptr_word iptr >>=
+    (λ _. enqueue process m >>= (λ m'. answer (m', ran.Instruction))))
 
 -- what follows a part of an action: the rest from where the part ended, or the part's break
 abbrev pub onward : {A B : Type 0} → Result A Break → (A → Result B Break) → Result B Break
@@ -63,19 +66,23 @@ Refuses {A} x claims cells b =
 -- and so does one that comes right after a part
 abbrev pub RefusesAfter : {A B : Type 0} → Action A → Action B → Claims → Store → Break → Type 0
 RefusesAfter {A} {B} x y claims cells b =
-    (f : B → StepAction) (old new : Store) → length old ≡ length cells → run_from (x >>= (λ _. y >>= f)) old claims new ≡ Err b
+    (f : B → StepAction) (old new : Store) → length old ≡ length cells
+    → run_from (x >>= (λ _. y >>= f)) old claims new ≡ Err b
 
--- the first part of a step is done, which may read the store: the rest goes on from the same claims and this store; or its break is named
+-- the first part of a step is done, which may read the store: the rest goes on from the same claims and this store; or
+-- its break is named
 abbrev pub Begins : {A : Type 0} → Action A → Claims → Store → Result A Break → Store → Type 0
 Begins {A} x claims cells result cells' =
-    (f : A → StepAction) → run_from (x >>= f) cells claims cells ≡ onward result (λ a. run_from (f a) cells claims cells')
+    (f : A → StepAction) → run_from (x >>= f) cells claims cells
+    ≡ onward result (λ a. run_from (f a) cells claims cells')
 
 -- what a call answered, with the registers that it left
 abbrev pub with_registers : Result Next Break → Registers → Result Outcome Break
 with_registers (Ok next) r = Ok (r, next)
 with_registers (Err b) r = Err b
 
--- an instruction that would jump reaches the jump with the claims as they are, in its own workspace; one that would break a rule breaks it whatever follows
+-- an instruction that would jump reaches the jump with the claims as they are, in its own workspace; one that would
+-- break a rule breaks it whatever follows
 abbrev pub Foresees : Action Outcome → Claims → Store → Registers → Result Bool Break → Type 0
 Foresees x claims cells r (Err b) = (f : Outcome → StepAction) → run_from (x >>= f) cells claims cells ≡ Err b
 Foresees x claims cells r (Ok false) = Unit {0}

@@ -1,9 +1,10 @@
 -- The entries of the processes that wait, of which some are empty.
 -- Source: own choice, how the code keeps the processes that wait.
-use Rattle.std.specs.Prelude.{ℕ, ◌≢◌, ◌<◌, ◌==◌, IsTrue, List, map, length, Bool, false, Option, Some, None, AllPairs, slice_index_or}
+use Rattle.std.specs.Prelude.{ℕ, ◌≢◌, ◌<◌, ◌==◌, IsTrue, List, map, length, Bool, false, Option, Some, None, AllPairs}
+use Rattle.std.specs.Prelude.{slice_index_or}
 use Rattle.std.specs.List.{filter_map}
 use Rattle.tproc.specs.Machine.{workspace_of}
-use Rattle.tproc.specs.declared.waiting.Waiter.{Waiter}
+use Rattle.tproc.specs.declared.waiter.Waiter.{Waiter}
 
 -- the processes of the entries that are not empty
 abbrev pub present : List (Option Waiter) → List Waiter

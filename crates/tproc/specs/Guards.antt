@@ -46,4 +46,5 @@ kept_after x r = x >>= (λ m. goes_on (all_to r.a r) m)
 abbrev pub Disables : Action (Control × Bool) → Claims → Store → Control → Result Guard Break → Type 0
 Disables x claims cells m result =
     (f : Control × Bool → StepAction)
-    → run_from (x >>= f) cells claims cells ≡ onward result (λ g. run_from (f (control_after g m, ready_as g)) cells claims (store_after g cells))
+    → run_from (x >>= f) cells claims cells ≡ onward result
+    (λ g. run_from (f (control_after g m, ready_as g)) cells claims (store_after g cells))

@@ -1,6 +1,6 @@
 -- Requests, and where a process stands, as the machine sees them.
 -- Source: own choice, words for contracts.
-use Rattle.std.specs.Prelude.{◌≡◌, ℕ, Bool, ◌||◌, ◌==◌, Option, Some, None}
+use Rattle.std.specs.Prelude.{◌≡◌, ℕ, Bool, ◌||◌, ◌==◌, Option, Some, None, IfSome}
 use Rattle.tword.specs.declared.breaks.Break.{Break}
 use Rattle.tword.specs.declared.breaks.Break.TheVariants.{Unaligned, WrongEnd}
 use Rattle.tword.specs.Words.{word_below}
@@ -11,13 +11,13 @@ use Rattle.tproc.specs.Channels as channels
 use Rattle.tproc.specs.LinkChannels.{is_right_end, message}
 use Rattle.tcpu.specs.Outcomes.{pop}
 use Rattle.tproc.specs.Machine.{Control}
-use Rattle.tproc.specs.Standing as standing
-use Rattle.tproc.specs.declared.waiting.Reason.{Reason}
+use Rattle.tproc.specs.ProcessStatus as standing
+use Rattle.tproc.specs.declared.waiter.Reason.{Reason}
 use Rattle.tproc.specs.declared.channels.Side.{Side}
 use Rattle.tproc.specs.declared.channels.Side.TheVariants as side
 use Rattle.tproc.specs.declared.channels.Request.{Request}
-use Rattle.tproc.specs.declared.standing.Standing.{Standing}
-use Rattle.tproc.specs.declared.standing.Standing.TheVariants as stands
+use Rattle.tproc.specs.declared.process_status.ProcessStatus.{ProcessStatus}
+use Rattle.tproc.specs.declared.process_status.ProcessStatus.TheVariants as stands
 
 -- the side of a request
 abbrev pub side_of : Side → channels.Side
@@ -26,21 +26,33 @@ side_of side.Output = channels.Output
 
 -- a request, without the registers that go on and the word that is laid down
 abbrev pub request : Request → channels.Request
-request q = record { process = q.process; side = side_of q.side; channel = q.channel; buffer = q.buffer; length = q.length }
+request q = record {
+  process = q.process;
+  side = side_of q.side;
+  channel = q.channel;
+  buffer = q.buffer;
+  length =
+      q.length;
+}
 
 -- where a process stands
-abbrev pub standing_of : Standing → standing.Standing
+abbrev pub standing_of : ProcessStatus → standing.ProcessStatus
 standing_of (stands.Waits reason) = standing.Waits reason
 standing_of stands.Queued = standing.Queued
 standing_of stands.Runs = standing.Runs
 standing_of stands.Interrupted = standing.Interrupted
 standing_of stands.Unknown = standing.Unknown
 
+-- the first word, if there is one, may be laid into the workspace of the process that asks
+abbrev pub MayLay : (size : ℕ) (claims : Claims) (workspace : ℕ) (first : Option ℕ) → Type 0
+MayLay size claims workspace first = IfSome first (λ _. word_break size claims Writes workspace ≡ None)
+
 -- what the checks of a process found that leaves its side of a message at a channel
 pub record MayLeave (size : ℕ) (claims : Claims) (workspace : ℕ) (q : channels.Request) : Type 0 where
   pub workspace_free : deschedule_break size claims workspace ≡ None
   pub channel_free : word_break size (saving workspace claims) Writes q.channel ≡ None
-  pub buffer_free : span_break size (saving workspace claims) (channels.mode_of q.side) (record { start = q.buffer; size = q.length }) ≡ None
+  pub buffer_free : span_break size (saving workspace claims) (channels.mode_of q.side)
+      (record { start = q.buffer; size = q.length }) ≡ None
 
 -- the address is that of a saved word of the workspace
 abbrev pub is_own_word : (workspace address : ℕ) → Bool
@@ -50,15 +62,16 @@ is_own_word w address = (address == word_below w 1) || (address == word_below w 
 abbrev pub offers_at_workspace : ℕ → ℕ → Control → channels.StepAction
 offers_at_workspace length process m =
     let r = m.registers in
-    message (pop (pop r)) (record { process = process; side = channels.Output; channel = r.b; buffer = r.wptr; length = length }) m
+    message (pop (pop r))
+    (record { process = process; side = channels.Output; channel = r.b; buffer = r.wptr; length = length }) m
 
 -- what a process waits for that stands so
-abbrev pub reason_in : Standing → Option Reason
+abbrev pub reason_in : ProcessStatus → Option Reason
 reason_in (stands.Waits reason) = Some reason
 reason_in _ = None
 
 -- a process that stands so is queued, if that is said
-abbrev pub IfQueued : Standing → Type 0 → Type 0
+abbrev pub IfQueued : ProcessStatus → Type 0 → Type 0
 IfQueued stands.Queued fact = fact
 IfQueued _ fact = Unit {0}
 

@@ -1,6 +1,9 @@
--- Words -1 and -2 of the processes that are queued or wait: what each move of a processor leaves of them, and that the queue links lead through each queue.
--- Source: the Compiler Writer's Guide (1988): word -1 is the saved Iptr, word -2 the link of a queue. What a move leaves of them: own choice, laws of the machine.
-use Rattle.std.specs.Prelude.{ℕ, zero, suc, ◌-◌, ◌≡◌, ◌⊎◌, List, [], ◌∷◌, ◌++◌, length, map, take, All, Ok, IfSome, IsTrue, false, slice_index_or}
+-- Words -1 and -2 of the processes that are queued or wait: what each move of a processor leaves of them, and that the
+-- queue links lead through each queue.
+-- Source: the Compiler Writer's Guide (1988): word -1 is the saved Iptr, word -2 the link of a queue. What a move
+-- leaves of them: own choice, laws of the machine.
+use Rattle.std.specs.Prelude.{ℕ, zero, suc, ◌-◌, ◌≡◌, ◌⊎◌, List, [], ◌∷◌, ◌++◌, length, map, take, All, Ok, IfSome}
+use Rattle.std.specs.Prelude.{IsTrue, false, slice_index_or}
 use Rattle.tword.specs.Words.{word_below}
 use Rattle.tword.specs.Stores.{Store, word_at}
 use Rattle.tword.specs.declared.span.Span.{Span}
@@ -8,7 +11,7 @@ use Rattle.tword.specs.Claims.{is_saved}
 use Rattle.tword.specs.Touches.{is_inside}
 use Rattle.tproc.specs.declared.offer.Ran.{Ran}
 use Rattle.tproc.specs.Machine.{Machine, workspace_of, descheduled, claims_of}
-use Rattle.tproc.specs.Standing.{queue}
+use Rattle.tproc.specs.ProcessStatus.{queue}
 use Rattle.tproc.specs.Queues.{iptr_word, link_word, last_of}
 use Rattle.tproc.specs.Placement.{IsWord, IsPlaced}
 use Rattle.tproc.specs.Links.{notice, finish_output, finish_input}
@@ -28,7 +31,8 @@ LinksStand ws n n' = All (λ w. WordStands link_word w n n') ws
 abbrev pub IsRestOf : (before after : List ℕ) → Type 0
 IsRestOf before after = (after ≡ before) ⊎ ((w : ℕ) × (before ≡ w ∷ after))
 
--- a process has joined a queue: the last one that was there is linked to it, and the links before that one are what they were
+-- a process has joined a queue: the last one that was there is linked to it, and the links before that one are what
+-- they were
 pub record IsJoined (before after : List ℕ) (n n' : Machine) : Type 0 where
   pub new : ℕ
   pub order : after ≡ before ++ new ∷ []
@@ -39,13 +43,15 @@ pub record IsJoined (before after : List ℕ) (n n' : Machine) : Type 0 where
 abbrev pub QueueGoesOn : (before after : List ℕ) → Machine → Machine → Type 0
 QueueGoesOn before after n n' = (IsRestOf before after × LinksStand before n n') ⊎ IsJoined before after n n'
 
--- what a move leaves of the saved words: each saved Iptr, the link of each process that waits, and those of the queues but for the last one of a queue that another process joins
+-- what a move leaves of the saved words: each saved Iptr, the link of each process that waits, and those of the queues
+-- but for the last one of a queue that another process joins
 pub record SavedStand (n n' : Machine) : Type 0 where
   pub iptrs : All (λ w. WordStands iptr_word w n n') (descheduled n.control)
   pub waiting : LinksStand (map (λ w. workspace_of w.process) n.control.waiting) n n'
   pub queues : (priority : ℕ) → QueueGoesOn (queue n.control priority) (queue n'.control priority) n n'
 
--- a fact about a processor before and after each of its moves: a step, a notice, the end of an output or an input, a byte that comes in, a process that is added; and after bytes are loaded where no saved word is
+-- a fact about a processor before and after each of its moves: a step, a notice, the end of an output or an input, a
+-- byte that comes in, a process that is added; and after bytes are loaded where no saved word is
 pub record OfEachMove (P : Machine → Machine → Type 0) (n : Machine) : Type 0 where
   pub steps : (n' : Machine) (r : Ran) → step n ≡ Ok (n', r) → P n n'
   pub notices : (l : ℕ) → P n (notice l n)
@@ -54,7 +60,8 @@ pub record OfEachMove (P : Machine → Machine → Type 0) (n : Machine) : Type 
   pub bytes : (l k byte : ℕ) → HasByte (input_of n l) k → P n (with_byte (input_of n l) k byte n)
   pub additions : (process iptr : ℕ) (n' : Machine) → IsWord process → added process iptr n ≡ Ok n' → P n n'
   pub loads : (start : ℕ) (bytes : List ℕ) → let span : Span = record { start = start; size = length bytes } in
-      IsTrue (is_inside (length n.store) span) → is_saved (claims_of n.control) span ≡ false → P n (loaded start bytes n)
+      IsTrue (is_inside (length n.store) span) → is_saved (claims_of n.control) span ≡ false
+      → P n (loaded start bytes n)
 
 -- the first two saved words of a process that is queued or waits stand until the scheduler sets them
 abbrev pub SavedWordsStand : Type 0

@@ -1,6 +1,9 @@
--- Which guard of an alternative is selected: told of the guards in the order in which they are disabled, without the word in which the machine notes the one selected.
--- Source: the Compiler Writer's Guide (1988): of the ready guards the first that is disabled is selected. Told of a list of guards: own choice.
-use Rattle.std.specs.Prelude.{ℕ, zero, suc, ◌≡◌, ◌≢◌, List, [], ◌∷◌, Bool, false, not, ◌&&◌, ◌==◌, is_none, Option, Some, None, option_map, option_and_then, unwrap_or, find, Result, Ok, if◌then◌else◌}
+-- Which guard of an alternative is selected: told of the guards in the order in which they are disabled, without the
+-- word in which the machine notes the one selected.
+-- Source: the Compiler Writer's Guide (1988): of the ready guards the first that is disabled is selected. Told of a
+-- list of guards: own choice.
+use Rattle.std.specs.Prelude.{ℕ, zero, suc, ◌≡◌, ◌≢◌, List, [], ◌∷◌, Bool, false, not, ◌&&◌, ◌==◌, is_none, Option}
+use Rattle.std.specs.Prelude.{Some, None, option_map, option_and_then, unwrap_or, find, Result, Ok, if◌then◌else◌}
 use Rattle.tword.specs.declared.breaks.Break.{Break}
 use Rattle.tword.specs.Stores.{word_at}
 use Rattle.tword.specs.Actions.{run, value_of}
@@ -13,9 +16,9 @@ use Rattle.tcode.specs.Table.{operation_at}
 use Rattle.tcode.specs.Decoding.{decode}
 use Rattle.tcpu.specs.Outcomes.{flag}
 use Rattle.tproc.specs.declared.offer.Ran.TheVariants.{Instruction}
-use Rattle.tproc.specs.declared.waiting.Reason.TheVariants.{Sends}
+use Rattle.tproc.specs.declared.waiter.Reason.TheVariants.{Sends}
 use Rattle.tproc.specs.Machine.{Machine, claims_of}
-use Rattle.tproc.specs.Standing.{Standing, Waits, standing}
+use Rattle.tproc.specs.ProcessStatus.{ProcessStatus, Waits, standing}
 use Rattle.tproc.specs.Queues.{not_process}
 use Rattle.tproc.specs.Channels.{Input}
 use Rattle.tproc.specs.LinkChannels.{is_link, link_of, link_end}
@@ -38,10 +41,11 @@ operation_by _ _ _ = None
 abbrev pub next_operation : Machine → Option Operation
 next_operation n =
     if n.control.halted then None
-    else operation_by n.control.current n.control.high (value_of (run (decode n.control.registers.iptr) n.store (claims_of n.control)))
+    else operation_by n.control.current n.control.high
+    (value_of (run (decode n.control.registers.iptr) n.store (claims_of n.control)))
 
 -- a process that waits to output on this channel
-abbrev pub outputs_on : ℕ → Standing → Bool
+abbrev pub outputs_on : ℕ → ProcessStatus → Bool
 outputs_on channel (Waits (Sends other buffer length)) = other == channel
 outputs_on channel _ = false
 
@@ -49,7 +53,8 @@ outputs_on channel _ = false
 abbrev pub is_ready : ℕ → Machine → Bool
 is_ready channel n =
     if is_link channel then (link_end n.control (link_of Input channel)).noticed
-    else not (word_at n.store channel == not_process) && outputs_on channel (standing n.control (word_at n.store channel))
+    else not (word_at n.store channel == not_process) && outputs_on channel
+    (standing n.control (word_at n.store channel))
 
 -- a guard at the moment when it is disabled: its offset, the channel that it looks at, and whether it is true and ready
 pub record Guard : Type 0 where
@@ -57,19 +62,27 @@ pub record Guard : Type 0 where
   pub channel : Option ℕ
   pub is_ready : Bool
 
--- the guard that an operation disables: a false one looks at no channel, and one without a channel is ready where it is true
+-- the guard that an operation disables: a false one looks at no channel, and one without a channel is ready where it is
+-- true
 abbrev pub guard_of : Operation → Machine → Option Guard
 guard_of Disc n =
     let r = n.control.registers in
-    Some (record { offset = r.a; channel = (if r.b == 0 then None else Some r.c); is_ready = not (r.b == 0) && is_ready r.c n })
-guard_of Diss n = let r = n.control.registers in Some (record { offset = r.a; channel = None; is_ready = not (r.b == 0) })
+    Some (record {
+      offset = r.a;
+      channel = (if r.b == 0 then None else Some r.c);
+      is_ready =
+          not (r.b == 0) && is_ready r.c n;
+    })
+guard_of Diss n = let r = n.control.registers in
+    Some (record { offset = r.a; channel = None; is_ready = not (r.b == 0) })
 guard_of _ n = None
 
 -- the guard that the next step disables, if it does so
 abbrev pub next_guard : Machine → Option Guard
 next_guard n = option_and_then (λ o. guard_of o n) (next_operation n)
 
--- a guard of the alternative at workspace w is disabled by a step. Its offset is one, and its channel is not word 0 of the workspace
+-- a guard of the alternative at workspace w is disabled by a step. Its offset is one, and its channel is not word 0 of
+-- the workspace
 pub record IsDisabled (w : ℕ) (n : Machine) (g : Guard) (n' : Machine) : Type 0 where
   pub placed : IsPlaced n
   pub workspace : n.control.registers.wptr ≡ w
@@ -85,7 +98,8 @@ pub data Turn : Type 0 where
   -- anything else happens
   Passes : Machine → Turn
 
--- the turns follow one another from a processor on: the alternative at workspace w disables its guards, and nothing else writes word 0 of the workspace
+-- the turns follow one another from a processor on: the alternative at workspace w disables its guards, and nothing
+-- else writes word 0 of the workspace
 abbrev pub AreTurns : ℕ → Machine → List Turn → Type 0
 AreTurns w n [] = Unit {0}
 AreTurns w n (Disables g n' ∷ turns) = IsDisabled w n g n' × AreTurns w n' turns
@@ -115,7 +129,8 @@ pub record IsChoice (w : ℕ) (n m : Machine) (turns : List Turn) : Type 0 where
   pub done : step n ≡ Ok (m, Instruction)
   pub follow : AreTurns w m turns
 
--- the first guard that is true and ready when it is disabled is selected: word 0 holds its offset, and where there is none no offset
+-- the first guard that is true and ready when it is disabled is selected: word 0 holds its offset, and where there is
+-- none no offset
 abbrev pub FirstReadyIsSelected : Type 0
 FirstReadyIsSelected = (w : ℕ) (n m : Machine) (turns : List Turn) → IsChoice w n m turns
     → word_at (left_by m turns).store w ≡ unwrap_or (first_ready turns) none_selected
@@ -123,4 +138,5 @@ FirstReadyIsSelected = (w : ℕ) (n m : Machine) (turns : List Turn) → IsChoic
 -- each disable answers 1 exactly where its guard is the one selected, else 0
 abbrev pub SelectedIsTold : Type 0
 SelectedIsTold = (w : ℕ) (n m : Machine) (turns : List Turn) → IsChoice w n m turns
-    → (g : Guard) (n' : Machine) → IsDisabled w (left_by m turns) g n' → n'.control.registers.a ≡ flag (g.is_ready && is_none (first_ready turns))
+    → (g : Guard) (n' : Machine) → IsDisabled w (left_by m turns) g n'
+    → n'.control.registers.a ≡ flag (g.is_ready && is_none (first_ready turns))

@@ -1,24 +1,25 @@
 //! Messages on internal channels: each is one step, at the arrival of the second process.
 
-ghost use Rattle.std.specs.Prelude.{◌≡◌, ◌<◌, ◌∷◌, ℕ, Ok, Some, None, true, IfErr, IfSome, OnOk, length};
+ghost use Rattle.std.specs.Prelude.{◌≡◌, ◌<◌, ◌∷◌, ℕ, Ok, Some, true, IfErr, OnOk, length};
 ghost use Rattle.tword.specs.Claims.{has_saved, saving};
-ghost use Rattle.tword.specs.Actions.{run_from};
-ghost use Rattle.tword.specs.Touches.{Writes, word_break};
-ghost use Rattle.tproc.specs.Channels.{own_side, reason_for, waits_on_channel, is_choosing as choosing};
-ghost use Rattle.tproc.specs.Agreement.{Agrees, IsOwn, IsPlain};
+ghost use Rattle.tword.specs.Actions.{or_break, run_from};
+ghost use Rattle.tword.specs.Touches.{span_break};
+ghost use Rattle.tproc.specs.Channels.{mode_of, own_side, reason_for, waits_on_channel, is_choosing as choosing};
+ghost use Rattle.tproc.specs.Agreement.{Agrees, IsOwn, IsReady};
 ghost use Rattle.tproc.specs.Doing.{Does, PartFrom, Refuses, laid};
-ghost use Rattle.tproc.specs.Requests.{request, MayLeave};
+ghost use Rattle.tproc.specs.Requests.{request, MayLeave, MayLay};
 
+use crate::claimed_memory::ClaimedMemory;
 use crate::offer::Ran;
 use crate::queues::{IPTR_WORD, STATE_WORD, wait};
-use crate::ram::Ram;
 use crate::state::State;
-use crate::waiting::Reason;
+use crate::waiter::Reason;
 use tcpu::Registers;
+use tword::limits::MOST_NEG;
 use tword::{Break, Word};
 
 /// The word of a channel in which no process waits.
-pub const NOT_PROCESS: u32 = 0x8000_0000;
+pub const NOT_PROCESS: u32 = MOST_NEG;
 
 /// The state of an alternative whose guards are being enabled.
 pub const ENABLING: u32 = 0x8000_0001;
@@ -79,63 +80,82 @@ pub fn is_choosing(state: Word) -> bool
 }
 
 /// Lays the first word of a row down at the workspace, if the row has one.
-pub fn lay(ram: &mut Ram, workspace: Word, first: Option<Word>)
-    requires free { IfSome first (λ _. word_break (length ram.old.memory) ram.old.marks Writes workspace ≡ None) }
-    ensures cells { ram.new.memory ≡ laid first workspace ram.old.memory }
-    ensures size { length ram.new.memory ≡ length ram.old.memory }
-    ensures claims { ram.new.marks ≡ ram.old.marks }
+pub fn lay(claimed: &mut ClaimedMemory, workspace: Word, first: Option<Word>)
+    requires free { MayLay (length claimed.old.memory) claimed.old.marks workspace first }
+    ensures cells { claimed.new.memory ≡ laid first workspace claimed.old.memory }
+    ensures size { length claimed.new.memory ≡ length claimed.old.memory }
+    ensures claims { claimed.new.marks ≡ claimed.old.marks }
 {
     if let Some(word) = first {
-        ram.set_word(workspace, word);
+        claimed.set_word(workspace, word);
+    }
+}
+
+/// Whether the buffer of a request may be touched, once the words of a workspace are saved.
+pub fn may_touch_beside(claimed: &ClaimedMemory, workspace: Word, q: &Request) -> Result<(), Break>
+    ensures { result
+        ≡ or_break
+        (span_break (length claimed.now.memory) (saving workspace claimed.now.marks) (mode_of (request q.now).side)
+        (record { start = q.now.buffer; size = q.now.length })) tt }
+{
+    match q.side {
+        Side::Input => claimed.may_write_beside(workspace, q.buffer, q.length),
+        Side::Output => claimed.may_read_beside(workspace, q.buffer, q.length),
     }
 }
 
 /// The checks of a process that leaves its side of a message at a channel and waits.
 #[tactic(auto, unfolding(crate::specs::Channels::own_side))]
-pub fn may_leave(state: &State, ram: &Ram, q: &Request) -> Result<(), Break>
-    ensures refused { IfErr result (λ b. Refuses (own_side (request q.now) state.now) ram.now.marks ram.now.memory b) }
-    ensures free { OnOk result (MayLeave (length ram.now.memory) ram.now.marks state.now.registers.wptr (request q.now)) }
+pub fn may_leave(state: &State, claimed: &ClaimedMemory, q: &Request) -> Result<(), Break>
+    ensures refused { IfErr result
+        (λ b. Refuses (own_side (request q.now) state.now) claimed.now.marks claimed.now.memory b) }
+    ensures free { OnOk result
+        (MayLeave (length claimed.now.memory) claimed.now.marks state.now.registers.wptr (request q.now)) }
 {
     let own = state.registers.wptr;
-    ram.may_deschedule(own)?;
-    ram.may_write_word_beside(own, q.channel)?;
-    match q.side {
-        Side::Input => ram.may_write_beside(own, q.buffer, q.length),
-        Side::Output => ram.may_read_beside(own, q.buffer, q.length),
-    }
+    claimed.may_deschedule(own)?;
+    claimed.may_write_word_beside(own, q.channel)?;
+    may_touch_beside(claimed, own, q)
 }
 
 /// The first of two processes leaves its descriptor in the channel and its buffer in its workspace.
 #[tactic(auto, using(crate::proofs::Agreeing::saved_itself, crate::proofs::Saved::saved_beside), unfolding(crate::specs::Channels::own_side))]
-pub fn leave(state: &State, ram: &mut Ram, q: &Request)
-    requires first { IfSome q.now.first (λ _. word_break (length ram.old.memory) ram.old.marks Writes state.now.registers.wptr ≡ None) }
-    requires free { MayLeave (length ram.old.memory) ram.old.marks state.now.registers.wptr (request q.now) }
-    requires room { length ram.old.marks.saved < 512 }
-    ensures done { PartFrom (own_side (request q.now) state.now) ram.old.marks ram.old.memory (laid q.now.first state.now.registers.wptr ram.old.memory) (Ok tt) ram.new.marks ram.new.memory }
-    ensures claims { ram.new.marks ≡ saving state.now.registers.wptr ram.old.marks }
-    ensures keeps { (v : ℕ) → has_saved ram.old.marks v ≡ true → has_saved ram.new.marks v ≡ true }
-    ensures size { length ram.new.memory ≡ length ram.old.memory }
+pub fn leave(state: &State, claimed: &mut ClaimedMemory, q: &Request)
+    requires first { MayLay (length claimed.old.memory) claimed.old.marks state.now.registers.wptr q.now.first }
+    requires free { MayLeave (length claimed.old.memory) claimed.old.marks state.now.registers.wptr (request q.now) }
+    requires room { length claimed.old.marks.saved < 512 }
+    ensures done { PartFrom (own_side (request q.now) state.now) claimed.old.marks claimed.old.memory
+        (laid q.now.first state.now.registers.wptr claimed.old.memory) (Ok tt) claimed.new.marks
+        claimed.new.memory }
+    ensures claims { claimed.new.marks ≡ saving state.now.registers.wptr claimed.old.marks }
+    ensures keeps { (v : ℕ) → has_saved claimed.old.marks v ≡ true → has_saved claimed.new.marks v ≡ true }
+    ensures size { length claimed.new.memory ≡ length claimed.old.memory }
 {
     let own = state.registers.wptr;
-    lay(ram, own, q.first);
-    ram.deschedule(own);
-    ram.set_word(q.channel, q.process);
-    ram.set_saved_word(own, STATE_WORD, q.buffer);
-    ram.set_saved_word(own, IPTR_WORD, state.registers.iptr);
+    lay(claimed, own, q.first);
+    claimed.deschedule(own);
+    claimed.set_word(q.channel, q.process);
+    claimed.set_saved_word(own, STATE_WORD, q.buffer);
+    claimed.set_saved_word(own, IPTR_WORD, state.registers.iptr);
 }
 
 /// The first of two processes waits on the channel.
 #[tactic(auto, using(crate::proofs::Places::place_own, crate::proofs::Places::room_own, crate::proofs::Agreeing::agrees_but))]
-pub fn wait_on_channel(state: &mut State, ram: &mut Ram, q: &Request) -> Result<Ran, Break>
+pub fn wait_on_channel(
+    state: &mut State,
+    claimed: &mut ClaimedMemory,
+    q: &Request,
+) -> Result<Ran, Break>
     requires own { IsOwn q.now.process state.old }
-    requires plain { IsPlain state.old }
-    requires agrees { Agrees ram.old.marks state.old }
-    requires free { IfSome q.now.first (λ _. word_break (length ram.old.memory) ram.old.marks Writes state.old.registers.wptr ≡ None) }
-    ensures done { Does (run_from (waits_on_channel (request q.now) state.old) ram.old.memory ram.old.marks (laid q.now.first state.old.registers.wptr ram.old.memory)) state.old ram.old.memory result state.new ram.new.memory }
-    ensures agrees { Agrees ram.new.marks state.new }
+    requires ready { IsReady claimed.old.marks state.old }
+    requires free { MayLay (length claimed.old.memory) claimed.old.marks state.old.registers.wptr q.now.first }
+    ensures done { Does (run_from (waits_on_channel (request q.now) state.old) claimed.old.memory claimed.old.marks
+        (laid q.now.first state.old.registers.wptr claimed.old.memory)) state.old claimed.old.memory result
+        state.new claimed.new.memory }
+    ensures agrees { Agrees claimed.new.marks state.new }
 {
-    may_leave(state, ram, q)?;
-    leave(state, ram, q);
-    wait(state, ram, q.process, q.reason());
+    may_leave(state, claimed, q)?;
+    leave(state, claimed, q);
+    wait(state, claimed, q.process, q.reason());
     Ok(Ran::Instruction)
 }

@@ -5,20 +5,21 @@ ghost use Rattle.tword.specs.Actions.{answer, run, run_from};
 ghost use Rattle.tword.specs.Touches.{Writes, word_break};
 ghost use Rattle.tword.specs.Stores.{with_word};
 ghost use Rattle.tproc.specs.LinkChannels.{is_link as names_link};
-ghost use Rattle.tproc.specs.Alternatives.{disable as disabling, disable_internal as disabling_internal, disables_channel, disables_skip, selects};
-ghost use Rattle.tproc.specs.Agreement.{Agrees, IsPlain, StillAgrees};
+ghost use Rattle.tproc.specs.Alternatives.{disable as disabling, disable_internal as disabling_internal};
+ghost use Rattle.tproc.specs.Alternatives.{disables_channel, disables_skip, selects};
+ghost use Rattle.tproc.specs.Agreement.{Agrees, IsPlain, IsReady, StillAgrees};
 ghost use Rattle.tproc.specs.Doing.{Does};
 ghost use Rattle.tproc.specs.Guards.{Disables, MayDisable, control_after, store_after, ready_as};
 
 use crate::alternatives::NONE_SELECTED;
 use crate::channels::{NOT_PROCESS, Side};
+use crate::claimed_memory::ClaimedMemory;
 use crate::link_channels::{is_link, link_at};
 use crate::offer::Ran;
+use crate::process_status::ProcessStatus;
 use crate::queues::require;
-use crate::ram::Ram;
-use crate::standing::Standing;
 use crate::state::State;
-use crate::waiting::{LinkEnd, Reason};
+use crate::waiter::{LinkEnd, Reason};
 use tcpu::Registers;
 use tword::{Break, Word};
 
@@ -34,71 +35,74 @@ pub enum Guard {
 }
 
 /// The guard of a link channel.
-fn link_guard(state: &State, ram: &Ram, channel: Word) -> Result<Guard, Break>
+fn link_guard(state: &State, claimed: &ClaimedMemory, channel: Word) -> Result<Guard, Break>
     requires link { names_link channel ≡ true }
     requires plain { IsPlain state.now }
-    ensures done { Disables (disabling channel state.now) ram.now.marks ram.now.memory state.now result }
-    ensures may { IfOk result (λ g. MayDisable (length ram.now.memory) ram.now.marks g) }
+    ensures done { Disables (disabling channel state.now) claimed.now.marks claimed.now.memory state.now result }
+    ensures may { IfOk result (λ g. MayDisable (length claimed.now.memory) claimed.now.marks g) }
 {
-    let _claims = ram;
+    let _claims = claimed;
     let link = link_at(Side::Input, channel)?;
     require(state.is_free(Side::Input, link), Break::LinkBusy)?;
     Ok(Guard::Link(link, state.link(link).noticed))
 }
 
 /// The guard of an internal channel.
-fn internal_guard(state: &State, ram: &Ram, channel: Word) -> Result<Guard, Break>
+fn internal_guard(state: &State, claimed: &ClaimedMemory, channel: Word) -> Result<Guard, Break>
     requires plain { IsPlain state.now }
-    ensures done { Disables (disabling_internal channel state.now) ram.now.marks ram.now.memory state.now result }
-    ensures may { IfOk result (λ g. MayDisable (length ram.now.memory) ram.now.marks g) }
+    ensures done { Disables (disabling_internal channel state.now) claimed.now.marks claimed.now.memory state.now
+        result }
+    ensures may { IfOk result (λ g. MayDisable (length claimed.now.memory) claimed.now.marks g) }
 {
-    let found = ram.take_word(channel)?;
+    let found = claimed.take_word(channel)?;
     if found.get() == NOT_PROCESS {
         return Ok(Guard::NotReady);
     }
     match &state.standing(found) {
-        Standing::Waits(Reason::Sends { channel: other, .. }) => {
+        ProcessStatus::Waits(Reason::Sends { channel: other, .. }) => {
             require(*other == channel, Break::ChannelMisuse)?;
             Ok(Guard::Ready)
         }
-        Standing::Runs => Ok(Guard::Enabled(channel)),
+        ProcessStatus::Runs => Ok(Guard::Enabled(channel)),
         _ => Err(Break::ChannelMisuse),
     }
 }
 
 /// The guard of a channel.
-fn channel_guard(state: &State, ram: &Ram, channel: Word) -> Result<Guard, Break>
+fn channel_guard(state: &State, claimed: &ClaimedMemory, channel: Word) -> Result<Guard, Break>
     requires plain { IsPlain state.now }
-    ensures done { Disables (disabling channel state.now) ram.now.marks ram.now.memory state.now result }
-    ensures may { IfOk result (λ g. MayDisable (length ram.now.memory) ram.now.marks g) }
+    ensures done { Disables (disabling channel state.now) claimed.now.marks claimed.now.memory state.now result }
+    ensures may { IfOk result (λ g. MayDisable (length claimed.now.memory) claimed.now.marks g) }
 {
     if is_link(channel) {
-        link_guard(state, ram, channel)
+        link_guard(state, claimed, channel)
     } else {
-        internal_guard(state, ram, channel)
+        internal_guard(state, claimed, channel)
     }
 }
 
 /// The guard that `disc` names: one that is false is not ready.
-fn guard_of(state: &State, ram: &Ram) -> Result<Guard, Break>
+fn guard_of(state: &State, claimed: &ClaimedMemory) -> Result<Guard, Break>
     requires plain { IsPlain state.now }
-    ensures done { Disables (if state.now.registers.b == 0 then answer (state.now, false) else disabling state.now.registers.c state.now) ram.now.marks ram.now.memory state.now result }
-    ensures may { IfOk result (λ g. MayDisable (length ram.now.memory) ram.now.marks g) }
+    ensures done { Disables
+        (if state.now.registers.b == 0 then answer (state.now, false) else disabling state.now.registers.c
+        state.now) claimed.now.marks claimed.now.memory state.now result }
+    ensures may { IfOk result (λ g. MayDisable (length claimed.now.memory) claimed.now.marks g) }
 {
     if state.registers.b.get() == 0 {
         Ok(Guard::NotReady)
     } else {
-        channel_guard(state, ram, state.registers.c)
+        channel_guard(state, claimed, state.registers.c)
     }
 }
 
 /// A guard is disabled.
-fn disable(state: &mut State, ram: &mut Ram, guard: &Guard)
-    requires may { MayDisable (length ram.old.memory) ram.old.marks guard.now }
+fn disable(state: &mut State, claimed: &mut ClaimedMemory, guard: &Guard)
+    requires may { MayDisable (length claimed.old.memory) claimed.old.marks guard.now }
     ensures control { state.new ≡ control_after guard.now state.old }
-    ensures cells { ram.new.memory ≡ store_after guard.now ram.old.memory }
-    ensures size { length ram.new.memory ≡ length ram.old.memory }
-    ensures claims { ram.new.marks ≡ ram.old.marks }
+    ensures cells { claimed.new.memory ≡ store_after guard.now claimed.old.memory }
+    ensures size { length claimed.new.memory ≡ length claimed.old.memory }
+    ensures claims { claimed.new.marks ≡ claimed.old.marks }
     ensures agrees { StillAgrees state.old state.new }
 {
     match guard {
@@ -112,7 +116,7 @@ fn disable(state: &mut State, ram: &mut Ram, guard: &Guard)
                 },
             );
         }
-        Guard::Enabled(channel) => ram.set_word(*channel, Word::new(NOT_PROCESS)),
+        Guard::Enabled(channel) => claimed.set_word(*channel, Word::new(NOT_PROCESS)),
         Guard::Ready | Guard::NotReady => {}
     }
 }
@@ -129,28 +133,32 @@ fn is_ready(guard: &Guard) -> bool
 }
 
 /// Sets a word where a test says so.
-fn store_if(test: bool, ram: &mut Ram, address: Word, value: Word)
-    requires { word_break (length ram.old.memory) ram.old.marks Writes address ≡ None }
-    ensures cells { ram.new.memory ≡ (if test then with_word ram.old.memory address value else ram.old.memory) }
-    ensures claims { ram.new.marks ≡ ram.old.marks }
+fn store_if(test: bool, claimed: &mut ClaimedMemory, address: Word, value: Word)
+    requires { word_break (length claimed.old.memory) claimed.old.marks Writes address ≡ None }
+    ensures cells { claimed.new.memory
+        ≡ (if test then with_word claimed.old.memory address value else claimed.old.memory) }
+    ensures claims { claimed.new.marks ≡ claimed.old.marks }
 {
     if test {
-        ram.set_word(address, value);
+        claimed.set_word(address, value);
     }
 }
 
 /// A guard is disabled, and selected where it is ready and none was before it.
-fn select(state: &mut State, ram: &mut Ram, guard: &Guard) -> Result<Ran, Break>
-    requires agrees { Agrees ram.old.marks state.old }
-    requires may { MayDisable (length ram.old.memory) ram.old.marks guard.now }
-    ensures done { Does (run_from (selects state.old.registers.a (ready_as guard.now) (control_after guard.now state.old)) ram.old.memory ram.old.marks (store_after guard.now ram.old.memory)) state.old ram.old.memory result state.new ram.new.memory }
-    ensures agrees { Agrees ram.new.marks state.new }
+fn select(state: &mut State, claimed: &mut ClaimedMemory, guard: &Guard) -> Result<Ran, Break>
+    requires agrees { Agrees claimed.old.marks state.old }
+    requires may { MayDisable (length claimed.old.memory) claimed.old.marks guard.now }
+    ensures done { Does (run_from
+        (selects state.old.registers.a (ready_as guard.now) (control_after guard.now state.old))
+        claimed.old.memory claimed.old.marks (store_after guard.now claimed.old.memory)) state.old
+        claimed.old.memory result state.new claimed.new.memory }
+    ensures agrees { Agrees claimed.new.marks state.new }
 {
     let r = state.registers;
-    let selected = ram.take_word(r.wptr)?;
+    let selected = claimed.take_word(r.wptr)?;
     let chosen = is_ready(guard) && selected.get() == NONE_SELECTED;
-    disable(state, ram, guard);
-    store_if(chosen, ram, r.wptr, r.a);
+    disable(state, claimed, guard);
+    store_if(chosen, claimed, r.wptr, r.a);
     state.go(Registers {
         a: Word::new(u32::from(chosen)),
         b: r.c,
@@ -160,25 +168,28 @@ fn select(state: &mut State, ram: &mut Ram, guard: &Guard) -> Result<Ran, Break>
 }
 
 /// A guard on a channel is disabled.
-pub fn disable_channel(state: &mut State, ram: &mut Ram) -> Result<Ran, Break>
-    requires plain { IsPlain state.old }
-    requires agrees { Agrees ram.old.marks state.old }
-    ensures done { Does (run (disables_channel state.old) ram.old.memory ram.old.marks) state.old ram.old.memory result state.new ram.new.memory }
-    ensures agrees { Agrees ram.new.marks state.new }
+pub fn disable_channel(state: &mut State, claimed: &mut ClaimedMemory) -> Result<Ran, Break>
+    requires ready { IsReady claimed.old.marks state.old }
+    ensures done { Does (run (disables_channel state.old) claimed.old.memory claimed.old.marks) state.old
+        claimed.old.memory
+        result state.new claimed.new.memory }
+    ensures agrees { Agrees claimed.new.marks state.new }
 {
-    let guard = guard_of(state, ram)?;
-    select(state, ram, &guard)
+    let guard = guard_of(state, claimed)?;
+    select(state, claimed, &guard)
 }
 
 /// A guard without a channel is disabled.
-pub fn disable_skip(state: &mut State, ram: &mut Ram) -> Result<Ran, Break>
-    requires agrees { Agrees ram.old.marks state.old }
-    ensures done { Does (run (disables_skip state.old) ram.old.memory ram.old.marks) state.old ram.old.memory result state.new ram.new.memory }
-    ensures agrees { Agrees ram.new.marks state.new }
+pub fn disable_skip(state: &mut State, claimed: &mut ClaimedMemory) -> Result<Ran, Break>
+    requires agrees { Agrees claimed.old.marks state.old }
+    ensures done { Does (run (disables_skip state.old) claimed.old.memory claimed.old.marks) state.old
+        claimed.old.memory
+        result state.new claimed.new.memory }
+    ensures agrees { Agrees claimed.new.marks state.new }
 {
     if state.registers.b.get() == 0 {
-        select(state, ram, &Guard::NotReady)
+        select(state, claimed, &Guard::NotReady)
     } else {
-        select(state, ram, &Guard::Ready)
+        select(state, claimed, &Guard::Ready)
     }
 }

@@ -5,10 +5,12 @@ ghost use Rattle.std.specs.Prelude.{◌≡◌, ◌<◌, vec_len};
 use std::alloc::{AllocError, Global};
 use tword::Word;
 
-/// How many slots the workspaces share. Two processes that are queued or wait have workspaces three words apart or more, so in a memory of 256 kilobytes no two of them share a slot.
+/// How many slots the workspaces share. Two processes that are queued or wait have workspaces three words apart or
+/// more, so in a memory of 256 kilobytes no two of them share a slot.
 const SLOTS: usize = 32_768;
 
-/// For each process that is queued or waits, where it was put. It is a hint alone, which whoever takes it has to check: the process may have gone, and another may have taken its slot.
+/// For each process that is queued or waits, where it was put. It is a hint alone, which whoever takes it has to
+/// check: the process may have gone, and another may have taken its slot.
 #[derive(Drop)]
 pub struct Hints {
     slots: Vec<u16>,

@@ -13,7 +13,8 @@ pub fn pending_inputs_are_unseen()
     ensures ends { FinishOutputIsBlind }
 {}
 
-/// There is a step exactly where the processor has not halted and is not idle, where there is none nothing changes, and after an instruction that halts it has halted.
+/// There is a step exactly where the processor has not halted and is not idle, where there is none nothing changes,
+/// and after an instruction that halts it has halted.
 pub fn rest_is_told()
     ensures there { StepIsThere }
     ensures rests { RestChangesNothing }
@@ -31,18 +32,21 @@ pub fn claimed_bytes_stand()
     ensures { ClaimedBytesStand }
 {}
 
-/// An alternative selects the first of its guards, in the order in which they are disabled, that is true and ready when it is disabled, and `disc` and `diss` tell which one that is.
+/// An alternative selects the first of its guards, in the order in which they are disabled, that is true and ready
+/// when it is disabled, and `disc` and `diss` tell which one that is.
 pub fn first_ready_guard_is_selected()
     ensures selected { FirstReadyIsSelected }
     ensures told { SelectedIsTold }
 {}
 
-/// The saved Iptr of each process that is queued or waits stands in each move, and so does its queue link, but for that of the last of a queue that another process joins.
+/// The saved Iptr of each process that is queued or waits stands in each move, and so does its queue link, but for
+/// that of the last of a queue that another process joins.
 pub fn saved_words_stand()
     ensures { SavedWordsStand }
 {}
 
-/// Whoever follows the queue links from the front of a queue finds the queue: so it is before there is a process, and after each move.
+/// Whoever follows the queue links from the front of a queue finds the queue: so it is before there is a process,
+/// and after each move.
 pub fn queues_stay_threaded()
     ensures first { EmptyIsThreaded }
     ensures moves { QueuesStayThreaded }

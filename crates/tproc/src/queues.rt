@@ -1,17 +1,21 @@
 //! Queueing and admission.
 
-ghost use Rattle.std.specs.Prelude.{◌≡◌, ◌<◌, ◌+◌, ◌∷◌, ◌++◌, [], true, None, Some, Ok, IfOk, IfNone, IfSome, IsSome, OnErr, length, option_to_list};
+ghost use Rattle.std.specs.Prelude.{◌≡◌, ◌<◌, ◌+◌, ◌∷◌, ◌++◌, [], true, None, Some, Ok, IfOk, IfNone, IfSome};
+ghost use Rattle.std.specs.Prelude.{IsSome, OnErr, length, option_to_list};
 ghost use Rattle.tword.specs.Actions.{or_break, unmet};
 ghost use Rattle.tword.specs.Claims.{has_saved};
 ghost use Rattle.tproc.specs.Machine.{workspace_of as the_workspace, priority_of};
-ghost use Rattle.tproc.specs.Standing.{queue, reason_of, has_room};
-ghost use Rattle.tproc.specs.Queues.{admit as admission, enqueue as queueing, release as releasing, last_of, appended, waiting_for, without_waiter};
-ghost use Rattle.tproc.specs.Agreement.{Agrees, AgreesWith, AreSaved, HasPlace, IsPlain, Leaves, Settles, StillAgrees, StillSaved, Unsettles, taken};
+ghost use Rattle.tproc.specs.ProcessStatus.{queue, reason_of, has_room};
+ghost use Rattle.tproc.specs.Queues.{admit as admission, enqueue as queueing, release as releasing, last_of};
+ghost use Rattle.tproc.specs.Queues.{appended, waiting_for, without_waiter};
+ghost use Rattle.tproc.specs.Agreement.{Agrees, AgreesWith, AreSaved, HasPlace, IsPlain, IsReady, Leaves, Settles};
+ghost use Rattle.tproc.specs.Agreement.{StillAgrees, StillSaved, Unsettles, taken};
 ghost use Rattle.tproc.specs.Doing.{Part};
 
-use crate::ram::Ram;
-use crate::state::{MOST_PROCESSES, State, workspace_of};
-use crate::waiting::Reason;
+use crate::claimed_memory::ClaimedMemory;
+use crate::state::{State, workspace_of};
+use crate::waiter::Reason;
+use tword::limits::MOST_PROCESSES;
 use tword::{Break, Word};
 
 /// The word below a workspace that keeps Iptr.
@@ -92,12 +96,12 @@ impl State {
     }
 
     /// The last of the queue of a process, whose words are saved.
-    fn last_saved(&self, ram: &Ram, process: Word) -> Option<Word>
-        requires saved { AreSaved ram.now.marks self.now }
+    fn last_saved(&self, claimed: &ClaimedMemory, process: Word) -> Option<Word>
+        requires saved { AreSaved claimed.now.marks self.now }
         ensures last { result ≡ last_of (queue self.now (priority_of process)) }
-        ensures saved { IfSome result (λ last. has_saved ram.now.marks last ≡ true) }
+        ensures saved { IfSome result (λ last. has_saved claimed.now.marks last ≡ true) }
     {
-        let _claims = ram;
+        let _claims = claimed;
         self.last(process)
     }
 
@@ -132,65 +136,69 @@ impl State {
 /// # Errors
 /// `Unaligned`, `AlreadyLive`, `TooManyProcesses`, or the first failing check of the words below the workspace.
 #[tactic(auto, using(crate::proofs::Places::place_admitted, crate::proofs::Places::room_admitted, crate::proofs::Agreeing::agrees_but), unfolding(crate::specs::Queues::admit))]
-pub fn admit(state: &State, ram: &mut Ram, process: Word) -> Result<(), Break>
-    requires plain { IsPlain state.now }
-    requires agrees { Agrees ram.old.marks state.now }
-    ensures done { Part (admission process state.now) ram.old.marks ram.old.memory result ram.new.marks ram.new.memory }
-    ensures agrees { IfOk result (λ _. AgreesWith (the_workspace process ∷ []) ram.new.marks state.now) }
-    ensures kept { OnErr result (ram.new.marks ≡ ram.old.marks) }
+pub fn admit(state: &State, claimed: &mut ClaimedMemory, process: Word) -> Result<(), Break>
+    requires ready { IsReady claimed.old.marks state.now }
+    ensures done { Part (admission process state.now) claimed.old.marks claimed.old.memory result claimed.new.marks
+        claimed.new.memory }
+    ensures agrees { IfOk result (λ _. AgreesWith (the_workspace process ∷ []) claimed.new.marks state.now) }
+    ensures kept { OnErr result (claimed.new.marks ≡ claimed.old.marks) }
     ensures place { IfOk result (λ _. HasPlace state.now) }
-    ensures cells { ram.new.memory ≡ ram.old.memory }
+    ensures cells { claimed.new.memory ≡ claimed.old.memory }
 {
     let workspace = workspace_of(process);
     require(workspace.get() % 4 == 0, Break::Unaligned)?;
-    require(!state.is_live(ram, workspace), Break::AlreadyLive)?;
+    require(!state.is_live(claimed, workspace), Break::AlreadyLive)?;
     require(state.has_room(), Break::TooManyProcesses)?;
-    ram.may_deschedule(workspace)?;
-    ram.deschedule(workspace);
+    claimed.may_deschedule(workspace)?;
+    claimed.deschedule(workspace);
     Ok(())
 }
 
 /// Puts a process whose words are saved behind the others of its queue, and links the one before it.
 #[tactic(auto, unfolding(crate::specs::Queues::enqueue))]
-pub fn enqueue(state: &mut State, ram: &mut Ram, process: Word)
+pub fn enqueue(state: &mut State, claimed: &mut ClaimedMemory, process: Word)
     requires place { HasPlace state.old }
-    requires saved { AreSaved ram.old.marks state.old }
-    ensures done { Part (queueing process state.old) ram.old.marks ram.old.memory (Ok state.new) ram.new.marks ram.new.memory }
+    requires saved { AreSaved claimed.old.marks state.old }
+    ensures done { Part (queueing process state.old) claimed.old.marks claimed.old.memory (Ok state.new)
+        claimed.new.marks
+        claimed.new.memory }
     ensures settles { Settles (the_workspace process) state.old state.new }
     ensures more { taken state.new ≡ taken state.old + 1 }
-    ensures claims { ram.new.marks ≡ ram.old.marks }
-    ensures size { length ram.new.memory ≡ length ram.old.memory }
+    ensures claims { claimed.new.marks ≡ claimed.old.marks }
+    ensures size { length claimed.new.memory ≡ length claimed.old.memory }
 {
     let workspace = workspace_of(process);
-    if let Some(last) = state.last_saved(ram, process) {
-        ram.set_saved_word(last, LINK_WORD, workspace);
+    if let Some(last) = state.last_saved(claimed, process) {
+        claimed.set_saved_word(last, LINK_WORD, workspace);
     }
     state.append(workspace, if process.get() % 2 == 0 { 0 } else { 1 });
 }
 
 /// A process whose words are saved waits from now on, and none runs.
-pub fn wait(state: &mut State, ram: &Ram, process: Word, reason: Reason)
+pub fn wait(state: &mut State, claimed: &ClaimedMemory, process: Word, reason: Reason)
     requires place { HasPlace state.old }
-    requires agrees { AgreesWith (the_workspace process ∷ []) ram.now.marks state.old }
+    requires agrees { AgreesWith (the_workspace process ∷ []) claimed.now.marks state.old }
     ensures done { state.new ≡ waiting_for process reason state.old }
-    ensures agrees { Agrees ram.now.marks state.new }
+    ensures agrees { Agrees claimed.now.marks state.new }
 {
-    let _claims = ram;
+    let _claims = claimed;
     state.begin_waiting(process, reason);
 }
 
 /// A process that waits is queued.
 #[tactic(auto, unfolding(crate::specs::Queues::release))]
-pub fn release(state: &mut State, ram: &mut Ram, process: Word)
+pub fn release(state: &mut State, claimed: &mut ClaimedMemory, process: Word)
     requires plain { IsPlain state.old }
     requires waits { IsSome (reason_of state.old process) }
-    requires saved { AreSaved ram.old.marks state.old }
-    ensures done { Part (releasing process state.old) ram.old.marks ram.old.memory (Ok state.new) ram.new.marks ram.new.memory }
+    requires saved { AreSaved claimed.old.marks state.old }
+    ensures done { Part (releasing process state.old) claimed.old.marks claimed.old.memory (Ok state.new)
+        claimed.new.marks
+        claimed.new.memory }
     ensures agrees { StillAgrees state.old state.new }
     ensures same { taken state.new ≡ taken state.old }
-    ensures claims { ram.new.marks ≡ ram.old.marks }
-    ensures size { length ram.new.memory ≡ length ram.old.memory }
+    ensures claims { claimed.new.marks ≡ claimed.old.marks }
+    ensures size { length claimed.new.memory ≡ length claimed.old.memory }
 {
     state.forget(process);
-    enqueue(state, ram, process);
+    enqueue(state, claimed, process);
 }

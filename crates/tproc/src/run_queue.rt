@@ -1,18 +1,20 @@
 //! A queue of processes of one priority.
 
 ghost use Rattle.std.specs.Prelude.{◌≡◌, ◌<◌, ◌≤◌, ◌++◌, ◌∷◌, [], ◌==◌, true, length, option_to_list, IfNone, IfOk};
-ghost use Rattle.tproc.specs.Standing.{is_among};
+ghost use Rattle.tproc.specs.ProcessStatus.{is_among};
 ghost use Rattle.tproc.specs.Queues.{last_of};
 
-use crate::state::MOST_PROCESSES;
 use std::alloc::{AllocError, Global};
 use std::collections::VecDeque;
 use std::marker::Model;
 use tword::Word;
+use tword::limits::MOST_PROCESSES;
 
-/// The workspaces of the processes that are queued. Contracts see them as a list, the one that runs next at its head.
+/// The workspaces of the processes that are queued. Contracts see them as a list, the one that runs next at its
+/// head.
 ///
-/// Each has a number, which stays as long as it is queued: that of its place and of those that have left, modulo 2 ^ 16.
+/// Each has a number, which stays as long as it is queued: that of its place and of those that have left, modulo 2
+/// ^ 16.
 #[derive(Drop)]
 pub struct RunQueue {
     workspaces: VecDeque<Word>,

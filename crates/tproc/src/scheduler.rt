@@ -1,48 +1,52 @@
 //! The operations of the scheduler, and the end of a timeslice.
 
-ghost use Rattle.std.specs.Prelude.{◌≡◌, ◌<◌, ◌+◌, ◌∷◌, [], if◌then◌else◌, true, None, Some, Ok, IfSome, length};
+ghost use Rattle.std.specs.Prelude.{◌≡◌, ◌<◌, ◌+◌, ◌∷◌, [], if◌then◌else◌, true, None, Some, Ok, length};
 ghost use Rattle.tword.specs.Stores.{Store, with_word};
 ghost use Rattle.tword.specs.Touches.{Writes, deschedule_break, word_break};
 ghost use Rattle.tword.specs.Actions.{run, run_from};
 ghost use Rattle.tcpu.specs.Outcomes.{push};
 ghost use Rattle.tproc.specs.Channels.{goes_on};
 ghost use Rattle.tproc.specs.LinkChannels.{message as messaging};
-ghost use Rattle.tproc.specs.Scheduler.{stops, starts, runs, ends, yields, jumped as jumping, communicates, sends_from_workspace};
+ghost use Rattle.tproc.specs.Scheduler.{stops, starts, runs, ends, yields, jumped as jumping, communicates};
+ghost use Rattle.tproc.specs.Scheduler.{sends_from_workspace};
 ghost use Rattle.tproc.specs.declared.offer.Ran.TheVariants as ran;
-ghost use Rattle.tproc.specs.Agreement.{Agrees, AgreesWith, IsOwn, IsPlain, StillAgrees, is_over};
+ghost use Rattle.tproc.specs.Agreement.{Agrees, IsOwn, IsReady, StillAgrees, is_over};
 ghost use Rattle.tproc.specs.Doing.{Does, laid};
-ghost use Rattle.tproc.specs.Requests.{offers_at_workspace, request, side_of};
+ghost use Rattle.tproc.specs.Requests.{offers_at_workspace, request, side_of, MayLay};
 
 use crate::channels::{Request, Side};
+use crate::claimed_memory::ClaimedMemory;
 use crate::link_channels::{is_link, link_message};
-use crate::meetings::internal_message;
 use crate::offer::Ran;
 use crate::queues::{IPTR_WORD, admit, enqueue, require};
-use crate::ram::Ram;
+use crate::rendezvous::internal_message;
 use crate::state::State;
-use crate::words::below;
+use crate::workspace::below;
 use tcpu::Registers;
 use tword::{Break, Word};
 
 /// The current process is no longer live.
-pub fn stop(state: &mut State, ram: &mut Ram) -> Result<Ran, Break>
-    requires agrees { Agrees ram.old.marks state.old }
-    ensures done { Does (run (stops state.old) ram.old.memory ram.old.marks) state.old ram.old.memory result state.new ram.new.memory }
-    ensures agrees { Agrees ram.new.marks state.new }
+pub fn stop(state: &mut State, claimed: &mut ClaimedMemory) -> Result<Ran, Break>
+    requires agrees { Agrees claimed.old.marks state.old }
+    ensures done { Does (run (stops state.old) claimed.old.memory claimed.old.marks) state.old claimed.old.memory result
+        state.new claimed.new.memory }
+    ensures agrees { Agrees claimed.new.marks state.new }
 {
-    ram.write_word(below(state.registers.wptr, IPTR_WORD), state.registers.iptr)?;
+    claimed.write_word(below(state.registers.wptr, IPTR_WORD), state.registers.iptr)?;
     state.rest();
     Ok(Ran::Instruction)
 }
 
 /// The current process ends if Error is set.
-pub fn stop_on_error(state: &mut State, ram: &mut Ram) -> Result<Ran, Break>
-    requires agrees { Agrees ram.old.marks state.old }
-    ensures done { Does (run (if state.old.registers.error then stops state.old else goes_on state.old.registers state.old) ram.old.memory ram.old.marks) state.old ram.old.memory result state.new ram.new.memory }
-    ensures agrees { Agrees ram.new.marks state.new }
+pub fn stop_on_error(state: &mut State, claimed: &mut ClaimedMemory) -> Result<Ran, Break>
+    requires agrees { Agrees claimed.old.marks state.old }
+    ensures done { Does (run
+        (if state.old.registers.error then stops state.old else goes_on state.old.registers state.old)
+        claimed.old.memory claimed.old.marks) state.old claimed.old.memory result state.new claimed.new.memory }
+    ensures agrees { Agrees claimed.new.marks state.new }
 {
     if state.registers.error {
-        return stop(state, ram);
+        return stop(state, claimed);
     }
     Ok(Ran::Instruction)
 }
@@ -65,19 +69,20 @@ pub fn load_priority(state: &mut State, priority: u8) -> Ran
 
 /// A new process starts, at an address relative to the next instruction.
 #[tactic(auto, using(crate::proofs::Saved::itself_saved, crate::proofs::Saved::are_saved, crate::proofs::Agreeing::own_workspace))]
-pub fn start(state: &mut State, ram: &mut Ram, priority: u8) -> Result<Ran, Break>
+pub fn start(state: &mut State, claimed: &mut ClaimedMemory, priority: u8) -> Result<Ran, Break>
     requires priority { priority < 2 }
-    requires plain { IsPlain state.old }
-    requires agrees { Agrees ram.old.marks state.old }
-    ensures done { Does (run (starts priority state.old) ram.old.memory ram.old.marks) state.old ram.old.memory result state.new ram.new.memory }
-    ensures agrees { Agrees ram.new.marks state.new }
+    requires ready { IsReady claimed.old.marks state.old }
+    ensures done { Does (run (starts priority state.old) claimed.old.memory claimed.old.marks) state.old
+        claimed.old.memory
+        result state.new claimed.new.memory }
+    ensures agrees { Agrees claimed.new.marks state.new }
 {
     let r = state.registers;
     require(r.a.get() % 4 == 0, Break::Unaligned)?;
     let process = Word::new(r.a.get() + u32::from(priority));
-    admit(state, ram, process)?;
-    ram.set_saved_word(r.a, IPTR_WORD, r.iptr.plus(r.b));
-    enqueue(state, ram, process);
+    admit(state, claimed, process)?;
+    claimed.set_saved_word(r.a, IPTR_WORD, r.iptr.plus(r.b));
+    enqueue(state, claimed, process);
     state.go(Registers {
         a: r.c,
         b: r.c,
@@ -88,15 +93,15 @@ pub fn start(state: &mut State, ram: &mut Ram, priority: u8) -> Result<Ran, Brea
 
 /// A process that was stopped runs again.
 #[tactic(auto, using(crate::proofs::Saved::are_saved))]
-pub fn run_process(state: &mut State, ram: &mut Ram) -> Result<Ran, Break>
-    requires plain { IsPlain state.old }
-    requires agrees { Agrees ram.old.marks state.old }
-    ensures done { Does (run (runs state.old) ram.old.memory ram.old.marks) state.old ram.old.memory result state.new ram.new.memory }
-    ensures agrees { Agrees ram.new.marks state.new }
+pub fn run_process(state: &mut State, claimed: &mut ClaimedMemory) -> Result<Ran, Break>
+    requires ready { IsReady claimed.old.marks state.old }
+    ensures done { Does (run (runs state.old) claimed.old.memory claimed.old.marks) state.old claimed.old.memory result
+        state.new claimed.new.memory }
+    ensures agrees { Agrees claimed.new.marks state.new }
 {
     let r = state.registers;
-    admit(state, ram, r.a)?;
-    enqueue(state, ram, r.a);
+    admit(state, claimed, r.a)?;
+    enqueue(state, claimed, r.a);
     state.go(Registers {
         a: r.b,
         b: r.c,
@@ -106,23 +111,23 @@ pub fn run_process(state: &mut State, ram: &mut Ram) -> Result<Ran, Break>
 }
 
 /// One of several processes ends, and the last one goes on as their successor.
-pub fn end(state: &mut State, ram: &mut Ram) -> Result<Ran, Break>
-    requires plain { IsPlain state.old }
-    requires agrees { Agrees ram.old.marks state.old }
-    ensures done { Does (run (ends state.old) ram.old.memory ram.old.marks) state.old ram.old.memory result state.new ram.new.memory }
-    ensures agrees { Agrees ram.new.marks state.new }
+pub fn end(state: &mut State, claimed: &mut ClaimedMemory) -> Result<Ran, Break>
+    requires ready { IsReady claimed.old.marks state.old }
+    ensures done { Does (run (ends state.old) claimed.old.memory claimed.old.marks) state.old claimed.old.memory result
+        state.new claimed.new.memory }
+    ensures agrees { Agrees claimed.new.marks state.new }
 {
     let r = state.registers;
     let zero = Word::new(0);
-    let successor = ram.read_word(r.a)?;
+    let successor = claimed.read_word(r.a)?;
     let count = r.a.plus(Word::new(4));
-    let left = ram.take_word(count)?;
+    let left = claimed.take_word(count)?;
     if left.get() == 1 {
         require(
-            r.a == r.wptr || !state.is_live(ram, r.a),
+            r.a == r.wptr || !state.is_live(claimed, r.a),
             Break::AlreadyLive,
         )?;
-        ram.set_word(count, zero);
+        claimed.set_word(count, zero);
         state.go(Registers {
             a: zero,
             b: zero,
@@ -132,7 +137,7 @@ pub fn end(state: &mut State, ram: &mut Ram) -> Result<Ran, Break>
             ..r
         });
     } else {
-        ram.set_word(count, Word::new(left.get().wrapping_sub(1)));
+        claimed.set_word(count, Word::new(left.get().wrapping_sub(1)));
         state.rest();
     }
     Ok(Ran::Instruction)
@@ -141,31 +146,34 @@ pub fn end(state: &mut State, ram: &mut Ram) -> Result<Ran, Break>
 /// The low process that runs goes behind the others of its queue.
 #[tactic(auto, using(crate::proofs::Places::place_running, crate::proofs::Places::room_running, crate::proofs::Agreeing::agrees_but, crate::proofs::Agreeing::saved_itself, crate::proofs::Agreeing::own_workspace, crate::proofs::Saved::are_saved))]
 #[inline(never)]
-fn yield_now(state: &mut State, ram: &mut Ram)
+fn yield_now(state: &mut State, claimed: &mut ClaimedMemory)
     requires running { state.old.current ≡ Some 1 }
-    requires plain { IsPlain state.old }
-    requires agrees { Agrees ram.old.marks state.old }
-    requires free { deschedule_break (length ram.old.memory) ram.old.marks state.old.registers.wptr ≡ None }
-    ensures done { (old : Store) → length old ≡ length ram.old.memory → run_from (yields (state.old.registers.wptr + 1) state.old) old ram.old.marks ram.old.memory ≡ Ok ((state.new, ran.Instruction), ram.new.memory) }
-    ensures agrees { Agrees ram.new.marks state.new }
+    requires ready { IsReady claimed.old.marks state.old }
+    requires free { deschedule_break (length claimed.old.memory) claimed.old.marks state.old.registers.wptr ≡ None }
+    ensures done { (old : Store) → length old ≡ length claimed.old.memory
+        → run_from (yields (state.old.registers.wptr + 1) state.old) old claimed.old.marks claimed.old.memory
+        ≡ Ok ((state.new, ran.Instruction), claimed.new.memory) }
+    ensures agrees { Agrees claimed.new.marks state.new }
 {
     let r = state.registers;
     let process = state.own(1);
-    ram.deschedule(r.wptr);
-    ram.set_saved_word(r.wptr, IPTR_WORD, r.iptr);
+    claimed.deschedule(r.wptr);
+    claimed.set_saved_word(r.wptr, IPTR_WORD, r.iptr);
     state.rest();
-    enqueue(state, ram, process);
+    enqueue(state, claimed, process);
 }
 
 /// What follows a jump: a low process whose timeslice is over yields, or its timeslice begins again.
 #[inline]
-pub fn jumped(state: &mut State, ram: &mut Ram, priority: u8)
+pub fn jumped(state: &mut State, claimed: &mut ClaimedMemory, priority: u8)
     requires running { state.old.current ≡ Some priority }
-    requires plain { IsPlain state.old }
-    requires agrees { Agrees ram.old.marks state.old }
-    requires free { is_over priority state.old ≡ true → deschedule_break (length ram.old.memory) ram.old.marks state.old.registers.wptr ≡ None }
-    ensures done { (old : Store) → length old ≡ length ram.old.memory → run_from (jumping priority state.old) old ram.old.marks ram.old.memory ≡ Ok ((state.new, ran.Instruction), ram.new.memory) }
-    ensures agrees { Agrees ram.new.marks state.new }
+    requires ready { IsReady claimed.old.marks state.old }
+    requires free { is_over priority state.old ≡ true
+        → deschedule_break (length claimed.old.memory) claimed.old.marks state.old.registers.wptr ≡ None }
+    ensures done { (old : Store) → length old ≡ length claimed.old.memory
+        → run_from (jumping priority state.old) old claimed.old.marks claimed.old.memory
+        ≡ Ok ((state.new, ran.Instruction), claimed.new.memory) }
+    ensures agrees { Agrees claimed.new.marks state.new }
 {
     if priority == 0 {
         return;
@@ -174,34 +182,41 @@ pub fn jumped(state: &mut State, ram: &mut Ram, priority: u8)
         if state.low.is_empty() {
             state.count = 0;
         } else {
-            yield_now(state, ram);
+            yield_now(state, claimed);
         }
     }
 }
 
 /// A message on any channel.
-fn message(state: &mut State, ram: &mut Ram, q: &Request) -> Result<Ran, Break>
+fn message(state: &mut State, claimed: &mut ClaimedMemory, q: &Request) -> Result<Ran, Break>
     requires own { IsOwn q.now.process state.old }
-    requires plain { IsPlain state.old }
-    requires agrees { Agrees ram.old.marks state.old }
-    requires free { IfSome q.now.first (λ _. word_break (length ram.old.memory) ram.old.marks Writes state.old.registers.wptr ≡ None) }
-    ensures done { Does (run_from (messaging q.now.after (request q.now) state.old) ram.old.memory ram.old.marks (laid q.now.first state.old.registers.wptr ram.old.memory)) state.old ram.old.memory result state.new ram.new.memory }
-    ensures agrees { Agrees ram.new.marks state.new }
+    requires ready { IsReady claimed.old.marks state.old }
+    requires free { MayLay (length claimed.old.memory) claimed.old.marks state.old.registers.wptr q.now.first }
+    ensures done { Does (run_from (messaging q.now.after (request q.now) state.old) claimed.old.memory claimed.old.marks
+        (laid q.now.first state.old.registers.wptr claimed.old.memory)) state.old claimed.old.memory result
+        state.new claimed.new.memory }
+    ensures agrees { Agrees claimed.new.marks state.new }
 {
     if is_link(q.channel) {
-        link_message(state, ram, q)
+        link_message(state, claimed, q)
     } else {
-        internal_message(state, ram, q)
+        internal_message(state, claimed, q)
     }
 }
 
 /// A process asks for a message, or offers one, with length, channel and buffer on its stack.
-pub fn communicate(state: &mut State, ram: &mut Ram, side: Side, priority: u8) -> Result<Ran, Break>
+pub fn communicate(
+    state: &mut State,
+    claimed: &mut ClaimedMemory,
+    side: Side,
+    priority: u8,
+) -> Result<Ran, Break>
     requires running { state.old.current ≡ Some priority }
-    requires plain { IsPlain state.old }
-    requires agrees { Agrees ram.old.marks state.old }
-    ensures done { Does (run (communicates (side_of side) (state.old.registers.wptr + priority) state.old) ram.old.memory ram.old.marks) state.old ram.old.memory result state.new ram.new.memory }
-    ensures agrees { Agrees ram.new.marks state.new }
+    requires ready { IsReady claimed.old.marks state.old }
+    ensures done { Does (run (communicates (side_of side) (state.old.registers.wptr + priority) state.old)
+        claimed.old.memory
+        claimed.old.marks) state.old claimed.old.memory result state.new claimed.new.memory }
+    ensures agrees { Agrees claimed.new.marks state.new }
 {
     let r = state.registers;
     let q = Request {
@@ -217,17 +232,25 @@ pub fn communicate(state: &mut State, ram: &mut Ram, side: Side, priority: u8) -
             ..r
         },
     };
-    message(state, ram, &q)
+    message(state, claimed, &q)
 }
 
 /// A process offers the message of this length that it lays down at its workspace, which it may write.
-fn send_laid(state: &mut State, ram: &mut Ram, size: u32, priority: u8) -> Result<Ran, Break>
+fn send_laid(
+    state: &mut State,
+    claimed: &mut ClaimedMemory,
+    size: u32,
+    priority: u8,
+) -> Result<Ran, Break>
     requires running { state.old.current ≡ Some priority }
-    requires plain { IsPlain state.old }
-    requires agrees { Agrees ram.old.marks state.old }
-    requires free { word_break (length ram.old.memory) ram.old.marks Writes state.old.registers.wptr ≡ None }
-    ensures done { Does (run_from (offers_at_workspace size (state.old.registers.wptr + priority) state.old) ram.old.memory ram.old.marks (with_word ram.old.memory state.old.registers.wptr state.old.registers.a)) state.old ram.old.memory result state.new ram.new.memory }
-    ensures agrees { Agrees ram.new.marks state.new }
+    requires ready { IsReady claimed.old.marks state.old }
+    requires free { word_break (length claimed.old.memory) claimed.old.marks Writes state.old.registers.wptr
+        ≡ None }
+    ensures done { Does (run_from (offers_at_workspace size (state.old.registers.wptr + priority) state.old)
+        claimed.old.memory claimed.old.marks
+        (with_word claimed.old.memory state.old.registers.wptr state.old.registers.a)) state.old claimed.old.memory
+        result state.new claimed.new.memory }
+    ensures agrees { Agrees claimed.new.marks state.new }
 {
     let r = state.registers;
     let q = Request {
@@ -243,22 +266,23 @@ fn send_laid(state: &mut State, ram: &mut Ram, size: u32, priority: u8) -> Resul
             ..r
         },
     };
-    message(state, ram, &q)
+    message(state, claimed, &q)
 }
 
 /// A process lays a message of this length down at its workspace and offers it.
 pub fn send_from_workspace(
     state: &mut State,
-    ram: &mut Ram,
+    claimed: &mut ClaimedMemory,
     size: u32,
     priority: u8,
 ) -> Result<Ran, Break>
     requires running { state.old.current ≡ Some priority }
-    requires plain { IsPlain state.old }
-    requires agrees { Agrees ram.old.marks state.old }
-    ensures done { Does (run (sends_from_workspace size (state.old.registers.wptr + priority) state.old) ram.old.memory ram.old.marks) state.old ram.old.memory result state.new ram.new.memory }
-    ensures agrees { Agrees ram.new.marks state.new }
+    requires ready { IsReady claimed.old.marks state.old }
+    ensures done { Does (run (sends_from_workspace size (state.old.registers.wptr + priority) state.old)
+        claimed.old.memory
+        claimed.old.marks) state.old claimed.old.memory result state.new claimed.new.memory }
+    ensures agrees { Agrees claimed.new.marks state.new }
 {
-    ram.may_write_word(state.registers.wptr)?;
-    send_laid(state, ram, size, priority)
+    claimed.may_write_word(state.registers.wptr)?;
+    send_laid(state, claimed, size, priority)
 }

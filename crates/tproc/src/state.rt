@@ -12,7 +12,7 @@ ghost use Rattle.tproc.specs.Agreement.{IsPlain, IsOwn, StillAgrees, is_over};
 use crate::hints::Hints;
 use crate::offer::Offer;
 use crate::run_queue::RunQueue;
-use crate::waiting::{LinkEnd, Suspended};
+use crate::waiter::{LinkEnd, Suspended};
 use crate::waiting_list::WaitingList;
 use std::alloc::{AllocError, Global};
 use std::marker::Model;
@@ -20,10 +20,8 @@ use tcode::Operation;
 use tcpu::Registers;
 use tword::Word;
 
-/// How many processes may live.
-pub const MOST_PROCESSES: usize = 512;
-
-/// A processor without its memory. A priority is 0 where it is high and 1 where it is low, as in a descriptor's lowest bit.
+/// A processor without its memory. A priority is 0 where it is high and 1 where it is low, as in a descriptor's
+/// lowest bit.
 #[derive(Drop)]
 pub struct State {
     pub registers: Registers,
@@ -163,7 +161,13 @@ impl State {
 
     /// A process runs from its beginning on, with the flags as they are.
     pub fn begin(&mut self, workspace: Word, iptr: Word, priority: u8)
-        ensures done { self.new ≡ record self.old { registers = record self.old.registers { a = 0; b = 0; c = 0; iptr = iptr; wptr = workspace }; current = Some priority; count = 0 } }
+        ensures done { self.new ≡ record self.old {
+          registers =
+              record self.old.registers { a = 0; b = 0; c = 0; iptr = iptr; wptr = workspace };
+          current =
+              Some priority;
+          count = 0;
+        } }
         ensures agrees { StillAgrees self.old self.new }
     {
         let zero = Word::new(0);

@@ -1,10 +1,11 @@
 //! The processes that wait.
 
-ghost use Rattle.std.specs.Prelude.{◌≡◌, ◌<◌, ◌≤◌, ◌==◌, ◌++◌, ◌∷◌, [], not, find, filter, option_map, length, vec_len, vec_capacity, IfOk, IfSome, None};
+ghost use Rattle.std.specs.Prelude.{◌≡◌, ◌<◌, ◌≤◌, ◌==◌, ◌++◌, ◌∷◌, [], not, find, filter, option_map, length};
+ghost use Rattle.std.specs.Prelude.{vec_len, vec_capacity, IfOk, IfSome, None};
 ghost use Rattle.tproc.specs.Entries.{present, is_entry_of, IsEntryAt, ShareNoWorkspace};
 
 use crate::hints::Hints;
-use crate::waiting::{Reason, Waiter};
+use crate::waiter::{Reason, Waiter};
 use std::alloc::{AllocError, Global};
 use std::marker::Model;
 use tword::Word;
@@ -14,7 +15,8 @@ const ENTRIES: usize = 1_024;
 
 /// The processes that wait. Contracts see them as a list, in the order in which they began to.
 ///
-/// A process that waits no longer leaves its entry empty, so that the others stay where they are. When all entries are taken, those that are empty are closed up: at least half of them are.
+/// A process that waits no longer leaves its entry empty, so that the others stay where they are. When all entries
+/// are taken, those that are empty are closed up: at least half of them are.
 #[derive(Drop)]
 pub struct WaitingList {
     entries: Vec<Option<Waiter>>,
@@ -23,14 +25,15 @@ pub struct WaitingList {
 
 impl Model for WaitingList {
     ghost use Rattle.std.specs.Prelude.{◌≡◌, ◌≤◌, List, length, vec_capacity};
-    ghost use Rattle.tproc.specs.declared.waiting.Waiter.{Waiter};
+    ghost use Rattle.tproc.specs.declared.waiter.Waiter.{Waiter};
     ghost use Rattle.tproc.specs.Entries.{present};
 
     ghost Value = { List Waiter };
 
     ghost view = { λ w. present w.entries.items };
 
-    ghost invariant = { λ w. (1024 ≤ vec_capacity w.entries) × (length w.entries.items ≤ 1024) × (w.count ≡ length (present w.entries.items)) × (w.count ≤ 512) };
+    ghost invariant = { λ w. (1024 ≤ vec_capacity w.entries) × (length w.entries.items ≤ 1024)
+        × (w.count ≡ length (present w.entries.items)) × (w.count ≤ 512) };
 }
 
 impl WaitingList {

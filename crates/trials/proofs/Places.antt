@@ -16,7 +16,9 @@ module _ {X : Type 0} (xs : List X) (i : ℕ) (x : X) (there : i < length xs) (h
   before = subst (λ (k : ℕ). take k (remove xs i) ≡ take i xs) long (take-append_seam (take i xs) (drop (suc i) xs))
 
   behind : drop i (remove xs i) ≡ drop (suc i) xs
-  behind = subst (λ (k : ℕ). drop k (remove xs i) ≡ drop (suc i) xs) long (drop-append_seam (take i xs) (drop (suc i) xs))
+  behind = subst (λ (k : ℕ). drop k (remove xs i) ≡ drop (suc i) xs) long
+      (drop-append_seam (take i xs) (drop (suc i) xs))
 
   pub back_again : insert (remove xs i) i x ≡ xs
-  back_again = ap (λ (l : List X). l ++ x ∷ drop i (remove xs i)) before ∙ (ap (λ (l : List X). take i xs ++ x ∷ l) behind ∙ around)
+  back_again = ap (λ (l : List X). l ++ x ∷ drop i (remove xs i)) before
+      ∙ (ap (λ (l : List X). take i xs ++ x ∷ l) behind ∙ around)

@@ -16,9 +16,12 @@ use tnet::Net;
 use tplan::Act;
 use trounds::{Ending, run_rounds};
 
-/// How many events the turns of the message do, in rotation. One worker of both nodes: both run until they wait, and the
-/// first byte comes in; it is taken; then twice an acknowledge, the next byte, its arrival and its taking; then the same with
-/// the end of the receiver; then the last acknowledge with that of the sender. Two workers do the same, each its part.
+/// How many events the turns of the message do, in rotation. One worker of both nodes: both run until they wait,
+/// and the
+/// first byte comes in; it is taken; then twice an acknowledge, the next byte, its arrival and its taking; then the
+/// same with
+/// the end of the receiver; then the last acknowledge with that of the sender. Two workers do the same, each its
+/// part.
 const TURNS: [(usize, &[u64]); 2] = [
     (1, &[14, 1, 4, 4, 6, 3, 0]),
     (2, &[7, 7, 0, 1, 2, 2, 2, 2, 2, 4, 3, 0, 0, 0]),
@@ -44,7 +47,8 @@ fn turns_of_a_message(rt: HostRuntime) -> Result<(), Fail> {
     Ok(())
 }
 
-/// The ring went round 100 times, and the history of its workers comes to the same on the net that was opened for them.
+/// The ring went round 100 times, and the history of its workers comes to the same on the net that was opened for
+/// them.
 fn assert_ring(rt: &impl Abort, alloc: Global, opened: Net, done: &Gathered) -> Result<(), Fail> {
     let lines = shown_of(alloc, done)?;
     assert!(rt; lines.as_slice() == ring_lines(alloc)?.as_bytes());

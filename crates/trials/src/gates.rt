@@ -60,7 +60,8 @@ fn two_workers_overlap(rt: HostRuntime) -> Result<(), Fail> {
     Ok(())
 }
 
-/// Which worker entered which round, a bit for each pair: worker 1 in round 2 is bit 10. Workers and rounds are below 8.
+/// Which worker entered which round, a bit for each pair: worker 1 in round 2 is bit 10. Workers and rounds are
+/// below 8.
 #[derive(Drop)]
 struct Entries {
     entered: AtomicU64,
@@ -92,7 +93,8 @@ fn runners(alloc: Global, count: usize) -> Result<Plan, AllocError> {
     plan(alloc, 1_024, nodes, &[])
 }
 
-/// Nodes, workers, and the pairs that are due in five rounds: each worker has as many nodes as the others, the last fewer, and
+/// Nodes, workers, and the pairs that are due in five rounds: each worker has as many nodes as the others, the last
+/// fewer, and
 /// one that would have none does not start.
 const ENTRIES: [(usize, usize, u64); 8] = [
     (6, 1, 0x1f),

@@ -17,7 +17,8 @@ node 1 ok
 80000100: 00 00 00 00 01 02 03 04 00 00 00 00 00 00 00 00
 ";
 
-/// The trace and the dumps after lengths that differ: three bytes came over and are hidden, and the break came with the fourth.
+/// The trace and the dumps after lengths that differ: three bytes came over and are hidden, and the break came with
+/// the fourth.
 pub const LENGTHS_LINES: &str = "freeze 1 LengthMismatch
 node 0 ok
 80000080: 11 24 f2 51 48 fb 21 f5 00 00 00 00 00 00 00 00

@@ -25,7 +25,8 @@ impl Promise<Back> for SameShare {
     ghost kept_by = { λ promise back. back.worker.share ≡ promise.0.value.share };
 }
 
-/// A worker makes 100,000 turns, unless one stops for a fault. After one that did nothing it lets other threads go first.
+/// A worker makes 100,000 turns, unless one stops for a fault. After one that did nothing it lets other threads go
+/// first.
 fn make_turns(mut worker: Worker) -> Back
     ensures { result.worker.share ≡ worker.share }
 {
@@ -51,13 +52,15 @@ fn on_threads<R: Threads + Wait + Sync>(
     second: Worker,
     third: Worker,
 ) -> Option<(Back, Back, Back)>
-    ensures { IfSome result (λ back. (back.0.worker.share ≡ first.share) × (back.1.worker.share ≡ second.share) × (back.2.worker.share ≡ third.share)) }
+    ensures { IfSome result (λ back. (back.0.worker.share ≡ first.share) × (back.1.worker.share ≡ second.share)
+        × (back.2.worker.share ≡ third.share)) }
 {
     thread::scope(
         thread::scope_env(),
         rt,
         |scope| -> Option<(Back, Back, Back)>
-            ensures { IfSome result (λ back. (back.0.worker.share ≡ first.share) × (back.1.worker.share ≡ second.share) × (back.2.worker.share ≡ third.share)) }
+            ensures { IfSome result (λ back. (back.0.worker.share ≡ first.share)
+                × (back.1.worker.share ≡ second.share) × (back.2.worker.share ≡ third.share)) }
         {
             let one = scope
                 .spawn_with(SameShare(Snapshot::of(&first)), move || make_turns(first))
@@ -118,7 +121,8 @@ fn once_on_threads<R: Threads + Wait + Sync>(
     Some((workers, events))
 }
 
-/// Three workers on three threads, again and again until they do nothing there: so all is done, however the threads are
+/// Three workers on three threads, again and again until they do nothing there: so all is done, however the threads
+/// are
 /// timed. None where a thread cannot be started.
 pub fn on_threads_until_idle<R: Threads + Wait + Sync>(
     rt: &R,

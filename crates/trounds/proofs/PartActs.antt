@@ -1,5 +1,7 @@
--- What an act does to a node of a round: how much it writes down, after which run there is none, and which room for messages stands.
-use Rattle.std.proofs.Common.{◌≡◌, ◌≢◌, ℕ, ◌≤◌, refl, sym, ap, ◌∙◌, subst, List, length, get_or, set, map, Bool, true, false, Option, Some, None, Err, IfSome, ◌⊎◌, inl, inr, arith}
+-- What an act does to a node of a round: how much it writes down, after which run there is none, and which room for
+-- messages stands.
+use Rattle.std.proofs.Common.{◌≡◌, ◌≢◌, ℕ, ◌≤◌, refl, sym, ap, ◌∙◌, subst, List, length, get_or, set, map, Bool, true}
+use Rattle.std.proofs.Common.{false, Option, Some, None, Err, IfSome, ◌⊎◌, inl, inr, arith}
 use Rattle.std.specs.Prelude.{is_none, if◌then◌else◌}
 use Rattle.std.proofs.lemmas.Bool.{cases_eq}
 use Rattle.std.proofs.lemmas.List.{set-get_or}
@@ -34,11 +36,15 @@ some_sendings row None = omega arith
 some_sendings row (Some (l, p)) = one_sending p (far_in_row row l)
 
 -- how many sendings an act sends
-pub few_sendings : (a : Act) (boxes : List Inbox) (e : NodeEvent) (n : ℕ) (far : ℕ → Option End) (row : List (Option End)) (node : NodeState) (d : Done)
+pub few_sendings : (a : Act) (boxes : List Inbox) (e : NodeEvent) (n : ℕ) (far : ℕ → Option End)
+    (row : List (Option End)) (node : NodeState) (d : Done)
     → asked a boxes ≡ Some e → done_of n far e node ≡ Some d → length (sendings row d.packet) ≤ sendings_of a
 few_sendings Run boxes e n far row node d is did =
     let q : at_node.Run ≡ e = same_Some _ _ is in
-    let h : d.packet ≡ None = rw did at (subst (λ (x : NodeEvent). IfSome (done_of n far x node) (λ (d : Done). d.packet ≡ None)) q (run_emits_none n far node)) in
+    let h : d.packet ≡ None =
+    rw did at
+    (subst (λ (x : NodeEvent). IfSome (done_of n far x node) (λ (d : Done). d.packet ≡ None)) q
+    (run_emits_none n far node)) in
     rw h (omega arith)
 few_sendings (Send l) boxes e n far row node d is did = some_sendings row d.packet
 few_sendings (Data l) boxes e n far row node d is did = some_sendings row d.packet
@@ -46,24 +52,31 @@ few_sendings (Take l) boxes e n far row node d is did = some_sendings row d.pack
 few_sendings (Ack l) boxes e n far row node d is did = some_sendings row d.packet
 
 -- after a run that told something there is none
-pub run_rests : (p : Part) (a : Act) (boxes : List Inbox) (e : NodeEvent) (n : ℕ) (far : ℕ → Option End) (node : NodeState) (d : Done)
-    → a ≡ Run → asked a boxes ≡ Some e → done_of n far e node ≡ Some d → is_none d.note ≡ false → p.station.node ≡ node_left_by node (happens e node) → part_does Run p ≡ p
+pub run_rests : (p : Part) (a : Act) (boxes : List Inbox) (e : NodeEvent) (n : ℕ) (far : ℕ → Option End)
+    (node : NodeState) (d : Done)
+    → a ≡ Run → asked a boxes ≡ Some e → done_of n far e node ≡ Some d → is_none d.note ≡ false
+    → p.station.node ≡ node_left_by node (happens e node) → part_does Run p ≡ p
 run_rests p a boxes e n far node d run is did told left = by (run_ends n far node)
   where
     e_is : at_node.Run ≡ e
     e_is = same_Some _ _ (rw run at is)
 
-    by : IfSome (done_of n far at_node.Run node) (λ (d : Done). d.note ≡ None) ⊎ (happens at_node.Run (node_left_by node (happens at_node.Run node)) ≡ Err NotEnabled) → part_does Run p ≡ p
+    by : IfSome (done_of n far at_node.Run node) (λ (d : Done). d.note ≡ None)
+        ⊎ (happens at_node.Run (node_left_by node (happens at_node.Run node)) ≡ Err NotEnabled) → part_does Run p ≡ p
     by (inl q) =
-        let h : d.note ≡ None = rw did at (subst (λ (x : NodeEvent). IfSome (done_of n far x node) (λ (d : Done). d.note ≡ None)) e_is q) in
+        let h : d.note ≡ None =
+        rw did at (subst (λ (x : NodeEvent). IfSome (done_of n far x node) (λ (d : Done). d.note ≡ None)) e_is q) in
         let z : true ≡ false = rw h at told in
         cc
     by (inr q) =
-        let h : happens at_node.Run p.station.node ≡ Err NotEnabled = ap (happens at_node.Run) (left ∙ ap (λ (x : NodeEvent). node_left_by node (happens x node)) (sym e_is)) ∙ q in
+        let h : happens at_node.Run p.station.node ≡ Err NotEnabled =
+        ap (happens at_node.Run) (left ∙ ap (λ (x : NodeEvent). node_left_by node (happens x node)) (sym e_is))
+        ∙ q in
         rw h refl
 
 -- an act at this link that keeps its input takes no byte for one
-no_input : (a : Act) (boxes : List Inbox) (e : NodeEvent) (node : NodeState) (l : ℕ) → asked a boxes ≡ Some e → KeepsInput a l → l ≡ link_of a → input_of e node ≡ None
+no_input : (a : Act) (boxes : List Inbox) (e : NodeEvent) (node : NodeState) (l : ℕ) → asked a boxes ≡ Some e
+    → KeepsInput a l → l ≡ link_of a → input_of e node ≡ None
 no_input Run boxes e node l is k same = absurd k
 no_input (Send m) boxes e node l is k same = absurd k
 no_input (Take m) boxes e node l is k same = absurd (k same)
@@ -79,9 +92,12 @@ no_input (Ack m) boxes e node l is k same = by (box_at boxes m).acknowledged is
     by true q = let f : at_node.Ack m ≡ e = same_Some _ _ q in rw (← f) refl
 
 -- the room for a message whose input stands
-pub room_stands : {A : Type 0} (f : A → ℕ) (a : Act) (boxes : List Inbox) (e : NodeEvent) (node node' : NodeState) (vs : List A) (k l : ℕ) (v d : A)
-    → asked a boxes ≡ Some e → node' ≡ node_left_by node (happens e node) → k ≡ link_of a → (input_of e node ≡ None → v ≡ get_or vs k d) → KeepsInput a l
-    → IfSome (input_at node l) (λ (o : Offer). o.length ≤ get_or (map f vs) l 0) → IfSome (input_at node' l) (λ (o : Offer). o.length ≤ get_or (map f (set vs k v)) l 0)
+pub room_stands : {A : Type 0} (f : A → ℕ) (a : Act) (boxes : List Inbox) (e : NodeEvent) (node node' : NodeState)
+    (vs : List A) (k l : ℕ) (v d : A)
+    → asked a boxes ≡ Some e → node' ≡ node_left_by node (happens e node) → k ≡ link_of a
+    → (input_of e node ≡ None → v ≡ get_or vs k d) → KeepsInput a l
+    → IfSome (input_at node l) (λ (o : Offer). o.length ≤ get_or (map f vs) l 0)
+    → IfSome (input_at node' l) (λ (o : Offer). o.length ≤ get_or (map f (set vs k v)) l 0)
 room_stands {A} f a boxes e node node' vs k l v d is left link kept keeps fits = rw (input, by (cases_eq l k)) fits
   where
     input : input_at node' l ≡ input_at node l

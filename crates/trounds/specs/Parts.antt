@@ -1,6 +1,8 @@
--- A node's part of a round, done by itself: it sees only what lay at its own links, and what it sends goes into its outbox.
+-- A node's part of a round, done by itself: it sees only what lay at its own links, and what it sends goes into its
+-- outbox.
 -- Source: own choice, how rounds are shared out.
-use Rattle.std.specs.Prelude.{◌≡◌, ℕ, zero, suc, Bool, false, not, ◌&&◌, List, [], ◌∷◌, ◌++◌, map, fold, Option, Some, None, is_some, slice_get, slice_set, slice_index_or, if◌then◌else◌}
+use Rattle.std.specs.Prelude.{◌≡◌, ℕ, zero, suc, Bool, false, not, ◌&&◌, List, [], ◌∷◌, ◌++◌, map, fold, Option, Some}
+use Rattle.std.specs.Prelude.{None, is_some, slice_get, slice_set, slice_index_or, if◌then◌else◌}
 use Rattle.std.specs.List.{flat_map}
 use Rattle.tlink.specs.declared.event.Packet.{Packet}
 use Rattle.tlink.specs.declared.event.NodeEvent.{NodeEvent}
@@ -83,7 +85,9 @@ part_done act p node (Some d) = written act d (record p { station = station_afte
 -- the part after an event of its node, if there is one
 abbrev pub part_asked : Act → Part → Option NodeEvent → Part
 part_asked act p None = p
-part_asked act p (Some e) = part_done act p (node_left_by p.station.node (happens e p.station.node)) (done_of p.station.number (far_at p.station) e p.station.node)
+part_asked act p (Some e) =
+    part_done act p (node_left_by p.station.node (happens e p.station.node))
+    (done_of p.station.number (far_at p.station) e p.station.node)
 
 -- an act is done if it is enabled
 abbrev pub part_does : Act → Part → Part
@@ -151,15 +155,24 @@ is_station_enabled s act = is_asked_enabled s.node (asked act s.inboxes)
 
 -- no event of a link of a station is enabled
 abbrev pub is_link_quiet : Station → ℕ → Bool
-is_link_quiet s l = not (is_station_enabled s (Send l)) && not (is_station_enabled s (Data l)) && not (is_station_enabled s (Take l)) && not (is_station_enabled s (Ack l))
+is_link_quiet s l =
+    not (is_station_enabled s (Send l)) && not (is_station_enabled s (Data l)) && not (is_station_enabled s (Take l))
+    && not (is_station_enabled s (Ack l))
 
 -- no event of a station is enabled
 abbrev pub is_station_quiet : Station → Bool
-is_station_quiet s = not (is_station_enabled s Run) && is_link_quiet s 0 && is_link_quiet s 1 && is_link_quiet s 2 && is_link_quiet s 3
+is_station_quiet s =
+    not (is_station_enabled s Run) && is_link_quiet s 0 && is_link_quiet s 1 && is_link_quiet s 2 && is_link_quiet s 3
 
 -- the net of stations
 abbrev pub net_of : List Wire → List Station → NetState
-net_of wires stations = record { nodes = map (λ (s : Station). s.node) stations; wires = wires; inboxes = map (λ (s : Station). s.inboxes) stations }
+net_of wires stations =
+    record {
+      nodes = map (λ (s : Station). s.node) stations;
+      wires = wires;
+      inboxes =
+          map (λ (s : Station). s.inboxes) stations;
+    }
 
 -- each station is at its number, and its far ends are those of the wires
 pub record ArePlaced (wires : List Wire) (stations : List Station) : Type 0 where

@@ -19,7 +19,14 @@ refusal workers holds net =
 
 -- an outcome as it is reported
 abbrev pub reported : Rounds → Report
-reported r = record { «end» = r.ending; rounds = r.count; events = r.progress.events; notes = r.progress.notes; net = r.progress.net }
+reported r = record {
+  «end» = r.ending;
+  rounds = r.count;
+  events = r.progress.events;
+  notes = r.progress.notes;
+  net =
+      r.progress.net;
+}
 
 -- the report of at most so many rounds of a net, by the plain definition
 abbrev pub report : List Hold → ℕ → ℕ → NetState → Report

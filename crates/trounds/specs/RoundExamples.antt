@@ -21,15 +21,19 @@ use Rattle.trounds.specs.Rounds.{Rounds, rounds, bad_hold}
 abbrev told : Rounds → Ending × ℕ × ℕ × List Note
 told r = (r.ending, r.count, length r.progress.events, r.progress.notes)
 
-rounds_of_pair : told (rounds [] 64 20 (pair 4)) ≡ (ending.Quiet, 9, 32, Msg (end_at 0 1) (end_at 1 2) (1 ∷ 2 ∷ 3 ∷ 4 ∷ []) ∷ [])
+rounds_of_pair : told (rounds [] 64 20 (pair 4))
+    ≡ (ending.Quiet, 9, 32, Msg (end_at 0 1) (end_at 1 2) (1 ∷ 2 ∷ 3 ∷ 4 ∷ []) ∷ [])
 unfolding computes pair sender receiver node_plan machines_of net_happens happens notice finish_input finish_output
 rounds_of_pair = refl
 
-rounds_of_held : told (rounds (record { «end» = end_at 1 2; kind = kind.Data; from = 1; until = 5 } ∷ []) 64 20 (pair 4)) ≡ (ending.Quiet, 13, 32, Msg (end_at 0 1) (end_at 1 2) (1 ∷ 2 ∷ 3 ∷ 4 ∷ []) ∷ [])
+rounds_of_held : told
+    (rounds (record { «end» = end_at 1 2; kind = kind.Data; from = 1; until = 5 } ∷ []) 64 20 (pair 4))
+    ≡ (ending.Quiet, 13, 32, Msg (end_at 0 1) (end_at 1 2) (1 ∷ 2 ∷ 3 ∷ 4 ∷ []) ∷ [])
 unfolding computes pair sender receiver node_plan machines_of net_happens happens notice finish_input finish_output
 rounds_of_held = refl
 
-rounds_of_few : told (rounds [] 64 8 (pair 4)) ≡ (ending.Rounds, 8, 29, Msg (end_at 0 1) (end_at 1 2) (1 ∷ 2 ∷ 3 ∷ 4 ∷ []) ∷ [])
+rounds_of_few : told (rounds [] 64 8 (pair 4))
+    ≡ (ending.Rounds, 8, 29, Msg (end_at 0 1) (end_at 1 2) (1 ∷ 2 ∷ 3 ∷ 4 ∷ []) ∷ [])
 unfolding computes pair sender receiver node_plan machines_of net_happens happens notice finish_input finish_output
 rounds_of_few = refl
 
@@ -47,8 +51,10 @@ loop =
         memory = 2048;
         image = record {
           segments = record { address = 0x8000_0080; bytes = 0x24 ∷ 0xf2 ∷ 0x22 ∷ 0x4a ∷ 0xfe ∷ 0x21 ∷ 0xf5 ∷ [] }
-              ∷ record { address = 0x8000_0090; bytes = 0x11 ∷ 0x24 ∷ 0xf2 ∷ 0x55 ∷ 0x41 ∷ 0xf7 ∷ 0x21 ∷ 0xf5 ∷ [] } ∷ [];
-          processes = record { wdesc = 0x8000_0101; iptr = 0x8000_0080 } ∷ record { wdesc = 0x8000_0201; iptr = 0x8000_0090 } ∷ [];
+              ∷ record { address = 0x8000_0090; bytes = 0x11 ∷ 0x24 ∷ 0xf2 ∷ 0x55 ∷ 0x41 ∷ 0xf7 ∷ 0x21 ∷ 0xf5 ∷ [] }
+              ∷ [];
+          processes = record { wdesc = 0x8000_0101; iptr = 0x8000_0080 }
+              ∷ record { wdesc = 0x8000_0201; iptr = 0x8000_0090 } ∷ [];
         };
       } ∷ [];
       wires = record { a = end_at 0 0; b = end_at 0 1 } ∷ [];

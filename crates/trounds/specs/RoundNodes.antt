@@ -1,6 +1,7 @@
 -- A node of a round as the part of a round that it does, and the room that it has.
 -- Source: own choice, how rounds are shared out.
-use Rattle.std.specs.Prelude.{◌≡◌, ℕ, ◌+◌, ◌<◌, ◌≤◌, ◌++◌, length, List, [], map, vec_len, vec_capacity, slice_index_or, IfSome}
+use Rattle.std.specs.Prelude.{◌≡◌, ℕ, ◌+◌, ◌<◌, ◌≤◌, ◌++◌, length, List, [], map, vec_len, vec_capacity, slice_index_or}
+use Rattle.std.specs.Prelude.{IfSome}
 use Rattle.tproc.specs.declared.offer.Offer.{Offer}
 use Rattle.tlink.specs.Node.{input_at}
 use Rattle.tplan.specs.declared.event.Act.{Act}
@@ -88,7 +89,8 @@ pub record IsReady (slice : ℕ) (c : RoundNode) : Type 0 where
   pub no_notes : c.notes.items ≡ []
 
 -- a round is done: the parts by themselves, then their sendings; what was done and told is behind what was before
-pub record Advances (holds : List Hold) (slice r : ℕ) (stations : List Station) (events : List Event) (notes : List Note) (stations' : List Station) (events' : List Event) (notes' : List Note) : Type 0 where
+pub record Advances (holds : List Hold) (slice r : ℕ) (stations : List Station) (events : List Event)
+    (notes : List Note) (stations' : List Station) (events' : List Event) (notes' : List Note) : Type 0 where
   pub stations_are : stations' ≡ stations_after (parts holds slice r stations)
   pub events_are : events' ≡ events ++ flat_map (λ (p : Part). p.events) (parts holds slice r stations)
   pub notes_are : notes' ≡ notes ++ flat_map (λ (p : Part). p.notes) (parts holds slice r stations)

@@ -1,6 +1,7 @@
 -- Rounds on one list of nodes: the plain definition.
 -- Source: own choice.
-use Rattle.std.specs.Prelude.{ℕ, ◌≡◌, zero, suc, Bool, true, false, not, ◌&&◌, nat_lt, nat_le, List, [], ◌∷◌, ◌++◌, length, fold, position, Option, Some, None, is_some, if◌then◌else◌}
+use Rattle.std.specs.Prelude.{ℕ, ◌≡◌, zero, suc, Bool, true, false, not, ◌&&◌, nat_lt, nat_le, List, [], ◌∷◌, ◌++◌}
+use Rattle.std.specs.Prelude.{length, fold, position, Option, Some, None, is_some, if◌then◌else◌}
 use Rattle.std.specs.List.{list_any}
 use Rattle.tplan.specs.declared.event.Act.{Act}
 use Rattle.tplan.specs.declared.event.Act.TheVariants.{Run, Send, Data, Take, Ack}
@@ -78,7 +79,8 @@ run_some (suc k) n p = run_some k n (try_act n Run p)
 -- the four phases of a node in round r. before: the net before the round
 abbrev pub node_round : NetState → List Hold → ℕ → ℕ → ℕ → Progress → Progress
 node_round before holds slice r n p =
-    let arrived = each_link (λ l q. try_packet before holds r n kind.Data l (try_packet before holds r n kind.Ack l q)) p in
+    let arrived =
+    each_link (λ l q. try_packet before holds r n kind.Data l (try_packet before holds r n kind.Ack l q)) p in
     let given = each_link (λ l q. try_act n (Take l) q) arrived in
     let ran = run_some slice n given in
     each_link (λ l q. try_act n (Send l) q) ran
@@ -86,7 +88,8 @@ node_round before holds slice r n p =
 -- round r over the nodes from a number on
 abbrev pub nodes_round : NetState → List Hold → ℕ → ℕ → ℕ → ℕ → Progress → Progress
 nodes_round before holds slice r n zero p = p
-nodes_round before holds slice r n (suc k) p = nodes_round before holds slice r (suc n) k (node_round before holds slice r n p)
+nodes_round before holds slice r n (suc k) p =
+    nodes_round before holds slice r (suc n) k (node_round before holds slice r n p)
 
 -- one round over all nodes
 abbrev pub round : List Hold → ℕ → ℕ → Progress → Progress
@@ -103,7 +106,11 @@ abbrev pub rounds_from : List Hold → ℕ → ℕ → ℕ → Progress → Roun
 rounds_from holds slice zero r p =
     record { ending = (if is_quiet p.net then ending.Quiet else ending.Rounds); count = r; progress = p }
 rounds_from holds slice (suc k) r p =
-    elim (is_quiet p.net) [ true ↦ record { ending = ending.Quiet; count = r; progress = p } | false ↦ rounds_from holds slice k (suc r) (round holds slice r p) ]
+    elim (is_quiet p.net) [
+      | true ↦ record { ending = ending.Quiet; count = r; progress = p }
+      | false ↦ rounds_from holds slice k (suc r)
+          (round holds slice r p)
+    ]
 
 -- at most this many rounds of a net
 abbrev pub rounds : List Hold → ℕ → ℕ → NetState → Rounds

@@ -6,6 +6,7 @@ ghost use Rattle.trounds.specs.Reports.{refusal};
 use crate::report::NetFault;
 use tnet::Net;
 use tplan::{End, Hold, PacketKind};
+use tword::limits::MOST_WORKERS;
 
 fn same_kind(a: PacketKind, b: PacketKind) -> bool
     ensures { result ≡ plain.same_kind a b }
@@ -34,9 +35,6 @@ pub fn is_held(holds: &[Hold], round: u32, end: End, kind: PacketKind) -> bool
 {
     holds.iter().any(|hold| covers(hold, round, end, kind))
 }
-
-/// How many workers there may be.
-const MOST_WORKERS: usize = 64;
 
 /// How many holds there may be.
 const MOST_HOLDS: usize = 256;

@@ -1,3 +1,4 @@
+//! What a run of rounds did, and how it ended.
 ghost use Rattle.std.specs.Prelude.{ℕ};
 
 use tnet::Net;
@@ -6,7 +7,8 @@ use tword::Items;
 
 /// What each worker calls, once before its part of a round.
 pub trait Gate {
-    /// A worker has entered a round. It says nothing by itself: only a call of `enter` gives it, and each part asks for it.
+    /// A worker has entered a round. It says nothing by itself: only a call of `enter` gives it, and each part asks
+    /// for it.
     ghost has_entered: { Self → ℕ → ℕ → Type 0 };
 
     /// A worker, from 0 on, begins its part of a round, from 0 on.

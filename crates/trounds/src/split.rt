@@ -37,7 +37,8 @@ fn half_of(len: usize, size: usize) -> usize
     len.div_ceil(size) / 2
 }
 
-/// One round of each node. The nodes are split down to parts of `size` nodes, each done by a thread of its own where one can
+/// One round of each node. The nodes are split down to parts of `size` nodes, each done by a thread of its own
+/// where one can
 /// be started; with one part none is.
 #[cycle(split)]
 pub fn do_parts<R: Threads + Sync, G: Gate + Sync>(
@@ -101,11 +102,13 @@ fn do_both<R: Threads + Sync, G: Gate + Sync>(
     ensures back { parts_of back.new ≡ parts holds.now slice round (stations_of back.old) }
 {
     let mut first = ||
-        requires { IsSync R.row × IsSync G.row × (0 < size) × (worker + length front.now < 2 ^ 64) × All (IsReady slice) front.now }
+        requires { IsSync R.row × IsSync G.row × (0 < size) × (worker + length front.now < 2 ^ 64)
+            × All (IsReady slice) front.now }
         ensures { parts_of front.exit.now ≡ parts holds.entry.now slice round (stations_of front.entry.now) }
     { do_parts(rt, gate, holds, slice, round, size, worker, front) };
     let mut second = ||
-        requires { IsSync R.row × IsSync G.row × (0 < size) × (next + length back.now < 2 ^ 64) × All (IsReady slice) back.now }
+        requires { IsSync R.row × IsSync G.row × (0 < size) × (next + length back.now < 2 ^ 64)
+            × All (IsReady slice) back.now }
         ensures { parts_of back.exit.now ≡ parts holds.entry.now slice round (stations_of back.entry.now) }
     { do_parts(rt, gate, holds, slice, round, size, next, back) };
     join_mut(rt, &mut first, &mut second);

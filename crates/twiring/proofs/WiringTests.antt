@@ -1,18 +1,26 @@
 -- What a part of a wiring stands for, by the tests of the definition of a wiring.
-use Rattle.std.proofs.Common.{◌≡◌, ℕ, pos, negsuc, ◌^◌, ◌==◌, nat_lt, refl, sym, ap, ap₂, ◌∙◌, Bool, true, false, not, ◌||◌, List, [], ◌∷◌, ◌++◌, map, Option, Some, None, Ok, Err, is_none, codes, bytes_eq, append_assoc, append-nil, if◌then◌else◌}
+use Rattle.std.proofs.Common.{◌≡◌, ℕ, pos, negsuc, ◌^◌, ◌==◌, nat_lt, refl, sym, ap, ap₂, ◌∙◌, Bool, true, false, not}
+use Rattle.std.proofs.Common.{◌||◌, List, [], ◌∷◌, ◌++◌, map, Option, Some, None, Ok, Err, is_none, codes, bytes_eq}
+use Rattle.std.proofs.Common.{append_assoc, append-nil, if◌then◌else◌}
 use Rattle.std.specs.List.{list_any}
 use mathlib.Core.Bool.{or_assoc, or-false, or-true}
-use Rattle.toml.specs.Data.{Data, string, integer, float, boolean, datetime, array, table, Items, no_items, item, Members}
+use Rattle.toml.specs.Data.{Data, string, integer, float, boolean, datetime, array, table, Items, no_items, item}
+use Rattle.toml.specs.Data.{Members}
 use Rattle.tplan.specs.declared.plan.End.{End}
 use Rattle.tplan.specs.declared.event.PacketKind.TheVariants as kind
-use Rattle.tplan.specs.declared.wiring.WiringFault.TheVariants.{UnknownKey, MissingKey, WrongType, BadVersion, BadNumber}
-use Rattle.twiring.specs.Wirings.{Names, has_unknown, tables_in, tables_of, is_integer, is_text, is_end, is_kind, are_tables, is_tables, fails, is_bad_number, is_version, number_of, text_of, end_of, kind_of}
-use Rattle.twiring.specs.WiringParts.{Part, both, made, known, value_or, number, number_in, text_in, end_in, kind_in, version, version_in, one_more, more_in, array_in}
+use Rattle.tplan.specs.declared.wiring.WiringFault.TheVariants.{UnknownKey, MissingKey, WrongType, BadVersion}
+use Rattle.tplan.specs.declared.wiring.WiringFault.TheVariants.{BadNumber}
+use Rattle.twiring.specs.Wirings.{Names, has_unknown, tables_in, tables_of, is_integer, is_text, is_end, is_kind}
+use Rattle.twiring.specs.Wirings.{are_tables, is_tables, fails, is_bad_number, is_version, number_of, text_of, end_of}
+use Rattle.twiring.specs.Wirings.{kind_of}
+use Rattle.twiring.specs.WiringParts.{Part, both, made, known, value_or, number, number_in, text_in, end_in, kind_in}
+use Rattle.twiring.specs.WiringParts.{version, version_in, one_more, more_in, array_in}
 
 -- the first test that holds names the fault; where none holds, there is a value
 abbrev pub judged : {A : Type 0} → Bool → Bool → Bool → Bool → Bool → A → Part A
 judged unknown missing wrong version number x =
-    if unknown then Err UnknownKey else if missing then Err MissingKey else if wrong then Err WrongType else if version then Err BadVersion
+    if unknown then Err UnknownKey else if missing then Err MissingKey else if wrong then Err WrongType else if version
+    then Err BadVersion
     else if number then Err BadNumber else Ok x
 
 pub both-judged : {A B : Type 0} (u m w v n p q r s t : Bool) (x : A) (y : B)
@@ -54,7 +62,8 @@ both-judged false false false false false false false false true t x y = refl
 both-judged false false false false false false false false false true x y = refl
 both-judged false false false false false false false false false false x y = refl
 
-pub made-judged : {A B : Type 0} (f : A → B) (u m w v n : Bool) (x : A) → made f (judged u m w v n x) ≡ judged u m w v n (f x)
+pub made-judged : {A B : Type 0} (f : A → B) (u m w v n : Bool) (x : A)
+    → made f (judged u m w v n x) ≡ judged u m w v n (f x)
 made-judged f true m w v n x = refl
 made-judged f false true w v n x = refl
 made-judged f false false true v n x = refl
@@ -70,14 +79,18 @@ known-judged names t u m w v n x = by (has_unknown names t)
     by true = refl
     by false = refl
 
-pub same_judged : {A : Type 0} (u p m q w r v s n t : Bool) (x y : A) → u ≡ p → m ≡ q → w ≡ r → v ≡ s → n ≡ t → x ≡ y → judged u m w v n x ≡ judged p q r s t y
+pub same_judged : {A : Type 0} (u p m q w r v s n t : Bool) (x y : A) → u ≡ p → m ≡ q → w ≡ r → v ≡ s → n ≡ t → x ≡ y
+    → judged u m w v n x ≡ judged p q r s t y
 same_judged u p m q w r v s n t x y a b c d e f =
-    ap (λ u. judged u m w v n x) a ∙ ap (λ m. judged p m w v n x) b ∙ ap (λ w. judged p q w v n x) c ∙ ap (λ v. judged p q r v n x) d ∙ ap (λ n. judged p q r s n x) e
+    ap (λ u. judged u m w v n x) a ∙ ap (λ m. judged p m w v n x) b ∙ ap (λ w. judged p q w v n x) c
+    ∙ ap (λ v. judged p q r v n x) d ∙ ap (λ n. judged p q r s n x) e
     ∙ ap (judged p q r s t) f
 
 -- a value that has to be there, by the tests of a value
-pub required-judged : {A : Type 0} (f : Data → Part A) (wrong version number : Option Data → Bool) (value : Option Data → A)
-    → ((d : Data) → f d ≡ judged false false (wrong (Some d)) (version (Some d)) (number (Some d)) (value (Some d))) → (o : Option Data)
+pub required-judged : {A : Type 0} (f : Data → Part A) (wrong version number : Option Data → Bool) (value : Option Data
+    → A)
+    → ((d : Data) → f d ≡ judged false false (wrong (Some d)) (version (Some d)) (number (Some d)) (value (Some d)))
+    → (o : Option Data)
     → value_or (Err MissingKey) f o ≡ judged false (is_none o) (wrong o) (version o) (number o) (value o)
 required-judged f wrong version number value h None = refl
 required-judged f wrong version number value h (Some d) = h d
@@ -89,11 +102,14 @@ abbrev pub is_good_number : Data → Bool
 is_good_number d = not (is_bad_number d)
 
 -- numbers
-number-judged : (b : Bool) (n : ℕ) → (if b then Ok n else Err BadNumber) ≡ judged false false false false (not (not (not b))) n
+number-judged : (b : Bool) (n : ℕ)
+    → (if b then Ok n else Err BadNumber) ≡ judged false false false false (not (not (not b))) n
 number-judged true n = refl
 number-judged false n = refl
 
-pub number_in-judged : (otherwise : ℕ) (d : Data) → number_in d ≡ judged false false (not (is_integer d)) false (not (is_good_number d)) (number_of (Some d) otherwise)
+pub number_in-judged : (otherwise : ℕ) (d : Data)
+    → number_in d ≡ judged false false (not (is_integer d)) false (not (is_good_number d))
+    (number_of (Some d) otherwise)
 number_in-judged k (integer (pos n)) = number-judged (nat_lt n (2 ^ 32)) n
 number_in-judged k (integer (negsuc n)) = refl
 number_in-judged k (string s) = refl
@@ -103,7 +119,9 @@ number_in-judged k (datetime t) = refl
 number_in-judged k (array a) = refl
 number_in-judged k (table t) = refl
 
-pub timeslice-judged : (k : ℕ) (o : Option Data) → value_or (Ok k) number_in o ≡ judged false false (fails is_integer o) false (fails is_good_number o) (number_of o k)
+pub timeslice-judged : (k : ℕ) (o : Option Data)
+    → value_or (Ok k) number_in o ≡ judged false false (fails is_integer o) false (fails is_good_number o)
+    (number_of o k)
 timeslice-judged k None = refl
 timeslice-judged k (Some d) = number_in-judged k d
 
@@ -135,11 +153,13 @@ kind_in-judged (array a) = refl
 kind_in-judged (table t) = refl
 
 -- the version
-version-judged : (b : Bool) (x : Unit {0}) → (if b then Ok x else Err BadVersion) ≡ judged false false false (not b) false x
+version-judged : (b : Bool) (x : Unit {0})
+    → (if b then Ok x else Err BadVersion) ≡ judged false false false (not b) false x
 version-judged true x = refl
 version-judged false x = refl
 
-pub version_in-judged : (d : Data) → version_in d ≡ judged false false (not (is_integer d)) (not (is_version d)) false tt
+pub version_in-judged : (d : Data)
+    → version_in d ≡ judged false false (not (is_integer d)) (not (is_version d)) false tt
 version_in-judged (integer (pos n)) = version-judged (n == 1) tt
 version_in-judged (integer (negsuc n)) = refl
 version_in-judged (string s) = refl
@@ -158,18 +178,23 @@ pair_of n l = array (item n (item l no_items))
 
 abbrev pair_tests : Data → Data → Part End
 pair_tests n l =
-    judged false false (not (is_integer n) || not (is_integer l)) false (not (is_good_number n) || not (is_good_number l))
+    judged false false (not (is_integer n) || not (is_integer l)) false
+    (not (is_good_number n) || not (is_good_number l))
     (end_from (number_of (Some n) 0, number_of (Some l) 0))
 
 abbrev end_tests : Data → Part End
 end_tests d = judged false false (not (is_end d)) false (not (is_good_number d)) (end_of (Some d))
 
-pos_pair : (b c : Bool) (e : End) → judged false false false false (not (not (not b)) || not (not (not c))) e ≡ judged false false false false (not (not (not b || not c))) e
+pos_pair : (b c : Bool) (e : End)
+    → judged false false false false (not (not (not b)) || not (not (not c))) e
+    ≡ judged false false false false (not (not (not b || not c))) e
 pos_pair true true e = refl
 pos_pair true false e = refl
 pos_pair false c e = refl
 
-pos_other : (b : Bool) (e f : End) → judged false false false false (not (not (not b)) || true) e ≡ judged false false false false (not (not (not b || true))) f
+pos_other : (b : Bool) (e f : End)
+    → judged false false false false (not (not (not b)) || true) e
+    ≡ judged false false false false (not (not (not b || true))) f
 pos_other true e f = refl
 pos_other false e f = refl
 
@@ -217,8 +242,10 @@ many-tests (table t) l d rest = refl
 pub end_in-judged : (d : Data) → end_in d ≡ end_tests d
 end_in-judged (array (item n (item l no_items))) =
     ap (made end_from) (ap₂ both (number_in-judged 0 n) (number_in-judged 0 l)
-    ∙ both-judged false false (not (is_integer n)) false (not (is_good_number n)) false false (not (is_integer l)) false (not (is_good_number l)) (number_of (Some n) 0) (number_of (Some l) 0))
-    ∙ made-judged end_from false false (not (is_integer n) || not (is_integer l)) false (not (is_good_number n) || not (is_good_number l)) (number_of (Some n) 0, number_of (Some l) 0)
+    ∙ both-judged false false (not (is_integer n)) false (not (is_good_number n)) false false (not (is_integer l)) false
+    (not (is_good_number l)) (number_of (Some n) 0) (number_of (Some l) 0))
+    ∙ made-judged end_from false false (not (is_integer n) || not (is_integer l)) false
+    (not (is_good_number n) || not (is_good_number l)) (number_of (Some n) 0, number_of (Some l) 0)
     ∙ pair-tests n l
 end_in-judged (array no_items) = refl
 end_in-judged (array (item n no_items)) = one-tests n
@@ -239,18 +266,23 @@ module _ {A : Type 0} (part : Members → Part A) (unknown missing wrong number 
   -- what was found before an array, and the array
   abbrev more_tests : (u m w n : Bool) → List A → Items → Part (List A)
   more_tests u m w n xs items =
-      judged (u || seen unknown items) (m || seen missing items) (w || (not (are_tables items) || seen wrong items)) false (n || seen number items)
+      judged (u || seen unknown items) (m || seen missing items) (w || (not (are_tables items) || seen wrong items))
+      false (n || seen number items)
       (xs ++ map value (tables_in items))
 
   one_table : (u m w n : Bool) (xs : List A) (t : Members)
-      → one_more (judged u m w false n xs) (part t) ≡ judged (u || unknown t) (m || missing t) (w || wrong t) false (n || number t) (xs ++ value t ∷ [])
+      → one_more (judged u m w false n xs) (part t)
+      ≡ judged (u || unknown t) (m || missing t) (w || wrong t) false (n || number t) (xs ++ value t ∷ [])
   one_table u m w n xs t =
       ap (one_more (judged u m w false n xs)) (parts t)
-      ∙ ap (made (λ p. p.0 ++ p.1 ∷ [])) (both-judged u m w false n (unknown t) (missing t) (wrong t) false (number t) xs (value t))
-      ∙ made-judged (λ p. p.0 ++ p.1 ∷ []) (u || unknown t) (m || missing t) (w || wrong t) false (n || number t) (xs, value t)
+      ∙ ap (made (λ p. p.0 ++ p.1 ∷ []))
+      (both-judged u m w false n (unknown t) (missing t) (wrong t) false (number t) xs (value t))
+      ∙ made-judged (λ p. p.0 ++ p.1 ∷ []) (u || unknown t) (m || missing t) (w || wrong t) false (n || number t)
+      (xs, value t)
 
   -- no table
-  no_table : (u m w n : Bool) (xs : List A) → one_more (judged u m w false n xs) (Err WrongType) ≡ judged u m true false n xs
+  no_table : (u m w n : Bool) (xs : List A)
+      → one_more (judged u m w false n xs) (Err WrongType) ≡ judged u m true false n xs
   no_table true m w n xs = refl
   no_table false true w n xs = refl
   no_table false false true n xs = refl
@@ -263,21 +295,28 @@ module _ {A : Type 0} (part : Members → Part A) (unknown missing wrong number 
   wrong_more false true false d = refl
   wrong_more false false c d = refl
 
-  other-judged : (u m w n : Bool) (xs : List A) (rest : Items) → more_in part (judged u m true false n xs) rest ≡ more_tests u m true n xs rest
+  other-judged : (u m w n : Bool) (xs : List A) (rest : Items)
+      → more_in part (judged u m true false n xs) rest ≡ more_tests u m true n xs rest
       → more_in part (one_more (judged u m w false n xs) (Err WrongType)) rest
-      ≡ judged (u || seen unknown rest) (m || seen missing rest) (w || true) false (n || seen number rest) (xs ++ map value (tables_in rest))
+      ≡ judged (u || seen unknown rest) (m || seen missing rest) (w || true) false (n || seen number rest)
+      (xs ++ map value (tables_in rest))
   other-judged u m w n xs rest h =
       ap (λ found. more_in part found rest) (no_table u m w n xs) ∙ h
-      ∙ ap (λ w. judged (u || seen unknown rest) (m || seen missing rest) w false (n || seen number rest) (xs ++ map value (tables_in rest))) (sym (or-true w))
+      ∙ ap (λ w. judged (u || seen unknown rest) (m || seen missing rest) w false (n || seen number rest)
+      (xs ++ map value (tables_in rest))) (sym (or-true w))
 
-  more-judged : (u m w n : Bool) (xs : List A) (items : Items) → more_in part (judged u m w false n xs) items ≡ more_tests u m w n xs items
+  more-judged : (u m w n : Bool) (xs : List A) (items : Items)
+      → more_in part (judged u m w false n xs) items ≡ more_tests u m w n xs items
   more-judged u m w n xs no_items =
-      same_judged u (u || false) m (m || false) w (w || false) false false n (n || false) xs (xs ++ []) (sym (or-false u)) (sym (or-false m)) (sym (or-false w)) refl (sym (or-false n)) (sym (append-nil xs))
+      same_judged u (u || false) m (m || false) w (w || false) false false n (n || false) xs (xs ++ [])
+      (sym (or-false u)) (sym (or-false m)) (sym (or-false w)) refl (sym (or-false n)) (sym (append-nil xs))
   more-judged u m w n xs (item (table t) rest) =
       ap (λ found. more_in part found rest) (one_table u m w n xs t)
       ∙ more-judged (u || unknown t) (m || missing t) (w || wrong t) (n || number t) (xs ++ value t ∷ []) rest
-      ∙ same_judged _ _ _ _ _ _ false false _ _ _ _ (or_assoc u (unknown t) (seen unknown rest)) (or_assoc m (missing t) (seen missing rest))
-      (wrong_more w (wrong t) (not (are_tables rest)) (seen wrong rest)) refl (or_assoc n (number t) (seen number rest)) (append_assoc xs (value t ∷ []) (map value (tables_in rest)))
+      ∙ same_judged _ _ _ _ _ _ false false _ _ _ _ (or_assoc u (unknown t) (seen unknown rest))
+      (or_assoc m (missing t) (seen missing rest))
+      (wrong_more w (wrong t) (not (are_tables rest)) (seen wrong rest)) refl (or_assoc n (number t) (seen number rest))
+      (append_assoc xs (value t ∷ []) (map value (tables_in rest)))
   more-judged u m w n xs (item (string s) rest) = other-judged u m w n xs rest (more-judged u m true n xs rest)
   more-judged u m w n xs (item (integer z) rest) = other-judged u m w n xs rest (more-judged u m true n xs rest)
   more-judged u m w n xs (item (float x) rest) = other-judged u m w n xs rest (more-judged u m true n xs rest)
@@ -287,7 +326,9 @@ module _ {A : Type 0} (part : Members → Part A) (unknown missing wrong number 
 
   -- the tables at a key
   pub array-judged : (o : Option Data) → value_or (Ok []) (array_in part) o
-      ≡ judged (list_any unknown (tables_of o)) (list_any missing (tables_of o)) (fails is_tables o || list_any wrong (tables_of o)) false (list_any number (tables_of o)) (map value (tables_of o))
+      ≡ judged (list_any unknown (tables_of o)) (list_any missing (tables_of o))
+      (fails is_tables o || list_any wrong (tables_of o)) false (list_any number (tables_of o))
+      (map value (tables_of o))
   array-judged None = refl
   array-judged (Some (array items)) = more-judged false false false false [] items
   array-judged (Some (string s)) = refl

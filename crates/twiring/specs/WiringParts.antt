@@ -1,6 +1,7 @@
 -- A wiring by its parts: what a key or a table stands for, or the lowest fault in it.
 -- Source: own choice.
-use Rattle.std.specs.Prelude.{ℕ, ℤ, pos, negsuc, ◌^◌, ◌==◌, nat_lt, List, [], ◌∷◌, ◌++◌, Option, Some, None, Result, Ok, Err, codes, bytes_eq, if◌then◌else◌}
+use Rattle.std.specs.Prelude.{ℕ, ℤ, pos, negsuc, ◌^◌, ◌==◌, nat_lt, List, [], ◌∷◌, ◌++◌, Option, Some, None, Result, Ok}
+use Rattle.std.specs.Prelude.{Err, codes, bytes_eq, if◌then◌else◌}
 use Rattle.toml.specs.Data.{Data, string, integer, array, table, Items, no_items, item, Members, get_member}
 use Rattle.tplan.specs.declared.plan.End.{End}
 use Rattle.tplan.specs.declared.plan.Wire.{Wire}
@@ -8,7 +9,8 @@ use Rattle.tplan.specs.declared.event.PacketKind.{PacketKind}
 use Rattle.tplan.specs.declared.event.PacketKind.TheVariants as kind
 use Rattle.tplan.specs.declared.event.Hold.{Hold}
 use Rattle.tplan.specs.declared.wiring.WiringFault.{WiringFault}
-use Rattle.tplan.specs.declared.wiring.WiringFault.TheVariants.{OutOfMemory, Syntax, UnknownKey, MissingKey, WrongType, BadVersion, BadNumber}
+use Rattle.tplan.specs.declared.wiring.WiringFault.TheVariants.{OutOfMemory, Syntax, UnknownKey, MissingKey, WrongType}
+use Rattle.tplan.specs.declared.wiring.WiringFault.TheVariants.{BadVersion, BadNumber}
 use Rattle.tplan.specs.declared.wiring.Wiring.{Wiring}
 use Rattle.tplan.specs.declared.wiring.WiringNode.{WiringNode}
 use Rattle.twiring.specs.Wirings.{Names, has_unknown, root_keys, node_keys, wire_keys, hold_keys, default_timeslice}
@@ -72,12 +74,14 @@ text_in _ = Err WrongType
 
 -- an end: its node and its link
 abbrev pub end_in : Data → Part End
-end_in (array (item n (item l no_items))) = made (λ p. record { node = p.0; link = p.1 }) (both (number_in n) (number_in l))
+end_in (array (item n (item l no_items))) =
+    made (λ p. record { node = p.0; link = p.1 }) (both (number_in n) (number_in l))
 end_in _ = Err WrongType
 
 -- a kind of packet
 abbrev pub kind_of_text : List ℕ → Part PacketKind
-kind_of_text s = if bytes_eq s (codes "ack") then Ok kind.Ack else if bytes_eq s (codes "data") then Ok kind.Data else Err WrongType
+kind_of_text s =
+    if bytes_eq s (codes "ack") then Ok kind.Ack else if bytes_eq s (codes "data") then Ok kind.Data else Err WrongType
 
 abbrev pub kind_in : Data → Part PacketKind
 kind_in (string s) = kind_of_text s
@@ -143,7 +147,8 @@ array_at part key t = value_or (Ok []) (array_in part) (get_member key t)
 abbrev pub head_in : Members → Part ℕ
 head_in t =
     made (λ p. p.1)
-    (both (required version_in (codes "version") t) (value_or (Ok default_timeslice) number_in (get_member (codes "timeslice") t)))
+    (both (required version_in (codes "version") t)
+    (value_or (Ok default_timeslice) number_in (get_member (codes "timeslice") t)))
 
 -- nodes, wires and holds
 abbrev pub arrays_in : Members → Part (List WiringNode × (List Wire × List Hold))
@@ -155,4 +160,5 @@ arrays_in t =
 abbrev pub wiring_in : Members → Part Wiring
 wiring_in t =
     known root_keys t
-    (made (λ p. record { timeslice = p.0; nodes = p.1.0; wires = p.1.1.0; holds = p.1.1.1 }) (both (head_in t) (arrays_in t)))
+    (made (λ p. record { timeslice = p.0; nodes = p.1.0; wires = p.1.1.0; holds = p.1.1.1 })
+    (both (head_in t) (arrays_in t)))

@@ -1,14 +1,17 @@
 -- Which TOML tables stand for which wiring.
 -- Source: own choice, a format of this program; TOML 1.0 for its syntax.
-use Rattle.std.specs.Prelude.{ℕ, ◌≡◌, ◌⊎◌, ℤ, pos, negsuc, ◌^◌, Bool, true, false, not, ◌||◌, ◌==◌, nat_lt, List, [], ◌∷◌, map, Option, Some, None, Result, Ok, Err, is_none, codes, bytes_eq, if◌then◌else◌}
+use Rattle.std.specs.Prelude.{ℕ, ◌≡◌, ◌⊎◌, ℤ, pos, negsuc, ◌^◌, Bool, true, false, not, ◌||◌, ◌==◌, nat_lt, List, []}
+use Rattle.std.specs.Prelude.{◌∷◌, map, Option, Some, None, Result, Ok, Err, is_none, codes, bytes_eq, if◌then◌else◌}
 use Rattle.std.specs.List.{list_any}
-use Rattle.toml.specs.Data.{Data, string, integer, array, table, Items, no_items, item, Members, no_members, member, get_member}
+use Rattle.toml.specs.Data.{Data, string, integer, array, table, Items, no_items, item, Members, no_members, member}
+use Rattle.toml.specs.Data.{get_member}
 use Rattle.toml.specs.Parse.{parse_document}
 use Rattle.tplan.specs.declared.plan.End.{End}
 use Rattle.tplan.specs.declared.event.PacketKind.{PacketKind}
 use Rattle.tplan.specs.declared.event.PacketKind.TheVariants as kind
 use Rattle.tplan.specs.declared.wiring.WiringFault.{WiringFault}
-use Rattle.tplan.specs.declared.wiring.WiringFault.TheVariants.{OutOfMemory, Syntax, UnknownKey, MissingKey, WrongType, BadVersion, BadNumber}
+use Rattle.tplan.specs.declared.wiring.WiringFault.TheVariants.{OutOfMemory, Syntax, UnknownKey, MissingKey, WrongType}
+use Rattle.tplan.specs.declared.wiring.WiringFault.TheVariants.{BadVersion, BadNumber}
 use Rattle.tplan.specs.declared.wiring.Wiring.{Wiring}
 
 -- the names of some keys
@@ -62,7 +65,8 @@ lacks_one names t = list_any (λ name. is_none (get_member name t)) names
 -- a test of the whole, and of each node, wire and hold
 abbrev pub somewhere : (Members → Bool) → (Members → Bool) → (Members → Bool) → (Members → Bool) → Members → Bool
 somewhere root node wire hold t =
-    root t || list_any node (tables_at (codes "node") t) || list_any wire (tables_at (codes "wire") t) || list_any hold (tables_at (codes "hold") t)
+    root t || list_any node (tables_at (codes "node") t) || list_any wire (tables_at (codes "wire") t) || list_any hold
+    (tables_at (codes "hold") t)
 
 -- a value is an integer
 abbrev pub is_integer : Data → Bool
@@ -108,10 +112,12 @@ is_wrong right key t = fails right (get_member key t)
 abbrev pub has_wrong_type : Members → Bool
 has_wrong_type t =
     somewhere
-    (λ t. is_wrong is_integer (codes "version") t || is_wrong is_integer (codes "timeslice") t || is_wrong is_tables (codes "node") t || is_wrong is_tables (codes "wire") t || is_wrong is_tables (codes "hold") t)
+    (λ t. is_wrong is_integer (codes "version") t || is_wrong is_integer (codes "timeslice") t || is_wrong is_tables
+    (codes "node") t || is_wrong is_tables (codes "wire") t || is_wrong is_tables (codes "hold") t)
     (λ t. is_wrong is_integer (codes "memory") t || is_wrong is_text (codes "image") t)
     (λ t. is_wrong is_end (codes "a") t || is_wrong is_end (codes "b") t)
-    (λ t. is_wrong is_end (codes "end") t || is_wrong is_kind (codes "kind") t || is_wrong is_integer (codes "from") t || is_wrong is_integer (codes "until") t)
+    (λ t. is_wrong is_end (codes "end") t || is_wrong is_kind (codes "kind") t || is_wrong is_integer (codes "from") t
+    || is_wrong is_integer (codes "until") t)
     t
 
 -- an integer is no number of 32 bits
@@ -176,16 +182,27 @@ abbrev pub wiring_value : Members → Wiring
 wiring_value t =
     record {
       timeslice = number_of (get_member (codes "timeslice") t) default_timeslice;
-      nodes = map (λ n. record { memory = number_at (codes "memory") n; image = text_of (get_member (codes "image") n) }) (tables_at (codes "node") t);
-      wires = map (λ w. record { a = end_of (get_member (codes "a") w); b = end_of (get_member (codes "b") w) }) (tables_at (codes "wire") t);
-      holds = map (λ h. record { «end» = end_of (get_member (codes "end") h); kind = kind_of (get_member (codes "kind") h); from = number_at (codes "from") h; until = number_at (codes "until") h }) (tables_at (codes "hold") t);
+      nodes = map
+          (λ n. record { memory = number_at (codes "memory") n; image = text_of (get_member (codes "image") n) })
+          (tables_at (codes "node") t);
+      wires = map (λ w. record { a = end_of (get_member (codes "a") w); b = end_of (get_member (codes "b") w) })
+          (tables_at (codes "wire") t);
+      holds = map
+          (λ h. record {
+            «end» = end_of (get_member (codes "end") h);
+            kind = kind_of (get_member (codes "kind") h);
+            from = number_at (codes "from") h;
+            until = number_at (codes "until") h;
+          }) (tables_at (codes "hold") t);
     }
 
 -- the wiring that a table stands for, or the lowest fault
 unfoldable pub wiring_of : Members → Result Wiring WiringFault
 wiring_of t =
-    if somewhere (has_unknown root_keys) (has_unknown node_keys) (has_unknown wire_keys) (has_unknown hold_keys) t then Err UnknownKey
-    else if somewhere (lacks_one (codes "version" ∷ [])) (lacks_one node_keys) (lacks_one wire_keys) (lacks_one hold_keys) t then Err MissingKey
+    if somewhere (has_unknown root_keys) (has_unknown node_keys) (has_unknown wire_keys) (has_unknown hold_keys) t
+    then Err UnknownKey
+    else if somewhere (lacks_one (codes "version" ∷ [])) (lacks_one node_keys) (lacks_one wire_keys)
+    (lacks_one hold_keys) t then Err MissingKey
     else if has_wrong_type t then Err WrongType
     else if is_wrong is_version (codes "version") t then Err BadVersion
     else if has_bad_number t then Err BadNumber

@@ -17,12 +17,14 @@ pub const DEFAULT_TIMESLICE: u32 = 1_024;
 /// What a part of a wiring stands for, or its lowest fault.
 type Part<T> = Result<T, WiringFault>;
 
-/// The wiring that a text stands for (own choice of format), as TOML: `version`, which is 1, `timeslice`, which may be absent,
+/// The wiring that a text stands for (own choice of format), as TOML: `version`, which is 1, `timeslice`, which may
+/// be absent,
 /// and the arrays `node` (`memory` in bytes, `image`), `wire` (its ends `a` and `b`, each a node and a link) and
 /// `hold` (`end`, `kind`, and the rounds `from` and `until`). Whether a net can be made of it is not judged here.
 ///
 /// # Errors
-/// The first of these that holds: `Syntax`, `UnknownKey`, `MissingKey`, `WrongType`, `BadVersion`, `BadNumber` for an integer
+/// The first of these that holds: `Syntax`, `UnknownKey`, `MissingKey`, `WrongType`, `BadVersion`, `BadNumber` for
+/// an integer
 /// outside 0 to 4,294,967,295. `OutOfMemory` where the allocator refuses.
 pub fn read_wiring(alloc: Global, text: &str) -> Result<Wiring, WiringFault>
     ensures { IsWiringAnswer (wiring_of_text text.now) result }
@@ -201,7 +203,8 @@ fn version_at(root: &Table) -> Part<()>
 
 /// The timeslice, which may be absent.
 fn timeslice_at(root: &Table) -> Part<u32>
-    ensures { result ≡ spec.value_or (Ok default_timeslice) spec.number_in (get_member (codes "timeslice") (table_view root.now)) }
+    ensures { result ≡ spec.value_or (Ok default_timeslice) spec.number_in
+        (get_member (codes "timeslice") (table_view root.now)) }
 {
     match value_at(root, "timeslice") {
         Some(value) => number(value),

@@ -1,6 +1,7 @@
 -- What the accesses of a memory answer, and what they leave.
 -- Source: own choice; the sizes of a memory too.
-use Rattle.std.specs.Prelude.{ℕ, ◌≡◌, ◌≤◌, ◌<◌, ◌+◌, ◌%◌, ◌^◌, ◌&&◌, ◌==◌, not, [], Option, Some, None, Result, Ok, Err, replicate, slice_set}
+use Rattle.std.specs.Prelude.{ℕ, ◌≡◌, ◌≤◌, ◌<◌, ◌+◌, ◌%◌, ◌^◌, ◌&&◌, ◌==◌, not, [], Option, Some, None, Result, Ok, Err}
+use Rattle.std.specs.Prelude.{replicate, slice_set}
 use Rattle.tword.specs.declared.breaks.Break.{Break}
 use Rattle.tword.specs.declared.span.Span.{Span}
 use Rattle.tword.specs.Words.{mem_start, word_below}
@@ -35,7 +36,8 @@ without_input link claims = record claims { inputs = slice_set claims.inputs lin
 abbrev pub without_output : ℕ → Claims → Claims
 without_output link claims = record claims { outputs = slice_set claims.outputs link None }
 
--- a workspace whose saved words may be claimed: a multiple of 4, and these words lie between MemStart and the last address
+-- a workspace whose saved words may be claimed: a multiple of 4, and these words lie between MemStart and the last
+-- address
 abbrev pub IsClaimableWorkspace : ℕ → Type 0
 IsClaimableWorkspace w = (w % 4 ≡ 0) × (w < 2 ^ 32) × (mem_start ≤ word_below w 3) × (word_below w 3 + 12 ≤ 2 ^ 32)
 

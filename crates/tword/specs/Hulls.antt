@@ -1,6 +1,7 @@
 -- Bounds of all that is claimed.
 -- Source: own choice, what the code keeps beside the claims.
-use Rattle.std.specs.Prelude.{ℕ, ◌+◌, ◌-◌, ◌^◌, ◌≤◌, ◌==◌, ◌&&◌, Bool, All, List, Option, Some, None, nat_lt, if◌then◌else◌}
+use Rattle.std.specs.Prelude.{ℕ, ◌+◌, ◌-◌, ◌^◌, ◌≤◌, ◌==◌, ◌&&◌, Bool, All, List, Option, Some, None, nat_lt}
+use Rattle.std.specs.Prelude.{if◌then◌else◌}
 use Rattle.tword.specs.declared.span.Span.{Span}
 
 -- a claimed span lies between these addresses
@@ -12,7 +13,8 @@ IsWithin low high (Some s) = (low ≤ s.start) × (s.start + s.size ≤ high)
 abbrev pub AreWithin : ℕ → ℕ → List (Option Span) → Type 0
 AreWithin low high claims = All (IsWithin low high) claims
 
--- the address of the first byte that is claimed and that behind the last; where there is none, bounds that have room for nothing
+-- the address of the first byte that is claimed and that behind the last; where there is none, bounds that have room
+-- for nothing
 abbrev pub bounds_of : Option Span → ℕ × ℕ
 bounds_of None = (2 ^ 64 - 1, 0)
 bounds_of (Some s) = if s.size == 0 then (2 ^ 64 - 1, 0) else (s.start, s.start + s.size)

@@ -1,6 +1,7 @@
 -- How many saved words fall into each slot of a table.
 -- Source: own choice, what the code keeps beside the claims.
-use Rattle.std.specs.Prelude.{◌≡◌, ℕ, ◌+◌, ◌/◌, ◌%◌, ◌<◌, ◌≤◌, ◌==◌, All, List, length, slice_index, reverse, if◌then◌else◌}
+use Rattle.std.specs.Prelude.{◌≡◌, ℕ, ◌+◌, ◌/◌, ◌%◌, ◌<◌, ◌≤◌, ◌==◌, All, List, length, slice_index, reverse}
+use Rattle.std.specs.Prelude.{if◌then◌else◌}
 use Rattle.std.specs.List.{sum_by, count_by}
 use Rattle.tword.specs.Accesses.{IsClaimableWorkspace}
 use Rattle.tword.specs.Words.{word_below}
@@ -16,7 +17,8 @@ is_slot address slot = if slot_of address == slot then 1 else 0
 -- how many of a workspace's three saved words fall into a slot
 abbrev pub words_in : ℕ → ℕ → ℕ
 words_in slot workspace =
-    is_slot (word_below workspace 3) slot + is_slot (word_below workspace 2) slot + is_slot (word_below workspace 1) slot
+    is_slot (word_below workspace 3) slot + is_slot (word_below workspace 2) slot + is_slot (word_below workspace 1)
+    slot
 
 -- the workspace is the one at this place, counted from the one that came first
 abbrev pub IsPlaceIn : List ℕ → ℕ → ℕ → Type 0

@@ -2,29 +2,29 @@
 
 ghost use Rattle.std.specs.Prelude.{◌≡◌, OnOk, None, length, true};
 ghost use Rattle.tword.specs.Actions.{or_break};
-ghost use Rattle.tword.specs.Touches.{Reads, Writes, place_break, word_place_break, span_break, word_break, copy_break, deschedule_break, is_inside, word_span};
+ghost use Rattle.tword.specs.Touches.{Reads, Writes, place_break, word_place_break, span_break, word_break};
+ghost use Rattle.tword.specs.Touches.{copy_break, deschedule_break, is_inside, word_span};
 
 use crate::breaks::Break;
+use crate::limits::{MEM_START, MOST_NEG};
 use crate::marks::Marks;
 use crate::memory::Memory;
 use crate::word::Word;
 
-/// The least address, as its unsigned reading.
-const LEAST: u32 = 0x8000_0000;
-
 /// How many bytes from the least address on are closed to programs.
-const CLOSED: u64 = 0x48;
+const CLOSED: u64 = (MEM_START - MOST_NEG) as u64;
 
 impl Memory {
     /// Whether the bytes of a span lie in the memory, where programs may use them.
     ///
     /// # Errors
-    /// `BadAddress` where one lies outside, else `Reserved` where one lies below the first address that programs may use. A span without bytes passes.
+    /// `BadAddress` where one lies outside, else `Reserved` where one lies below the first address that programs
+    /// may use. A span without bytes passes.
     #[inline(always)]
     fn lies_open(&self, start: Word, size: u32) -> Result<(), Break>
         ensures { result ≡ or_break (place_break (length self.now) (record { start = start; size = size })) tt }
     {
-        let place = u64::from(start.get().wrapping_sub(LEAST));
+        let place = u64::from(start.get().wrapping_sub(MOST_NEG));
         if size == 0 {
             return Ok(());
         }
@@ -40,11 +40,13 @@ impl Memory {
     /// Whether the bytes of a span may be read.
     ///
     /// # Errors
-    /// The first of `BadAddress`, `Reserved`, `InTransit`, `SavedWord` that holds of one of them. A span without bytes passes.
+    /// The first of `BadAddress`, `Reserved`, `InTransit`, `SavedWord` that holds of one of them. A span without
+    /// bytes passes.
     #[inline(always)]
     #[tactic(auto, unfolding(crate::specs::Touches::span_break))]
     pub fn may_read(&self, marks: &Marks, start: Word, size: u32) -> Result<(), Break>
-        ensures checks { result ≡ or_break (span_break (length self.now) marks.now Reads (record { start = start; size = size })) tt }
+        ensures checks { result ≡ or_break
+            (span_break (length self.now) marks.now Reads (record { start = start; size = size })) tt }
         ensures inside { OnOk result (is_inside (length self.now) (record { start = start; size = size }) ≡ true) }
     {
         self.lies_open(start, size)?;
@@ -54,11 +56,13 @@ impl Memory {
     /// Whether the bytes of a span may be written.
     ///
     /// # Errors
-    /// The first of `BadAddress`, `Reserved`, `InTransit`, `SavedWord` that holds of one of them. A span without bytes passes.
+    /// The first of `BadAddress`, `Reserved`, `InTransit`, `SavedWord` that holds of one of them. A span without
+    /// bytes passes.
     #[inline(always)]
     #[tactic(auto, unfolding(crate::specs::Touches::span_break))]
     pub fn may_write(&self, marks: &Marks, start: Word, size: u32) -> Result<(), Break>
-        ensures checks { result ≡ or_break (span_break (length self.now) marks.now Writes (record { start = start; size = size })) tt }
+        ensures checks { result ≡ or_break
+            (span_break (length self.now) marks.now Writes (record { start = start; size = size })) tt }
         ensures inside { OnOk result (is_inside (length self.now) (record { start = start; size = size }) ≡ true) }
     {
         self.lies_open(start, size)?;
@@ -76,7 +80,7 @@ impl Memory {
         if address.get() % 4 != 0 {
             return Err(Break::Unaligned);
         }
-        let place = u64::from(address.get().wrapping_sub(LEAST));
+        let place = u64::from(address.get().wrapping_sub(MOST_NEG));
         if u64::from(self.size()) <= place {
             return Err(Break::BadAddress);
         }
@@ -128,7 +132,8 @@ impl Memory {
         self.may_write(marks, to, size)
     }
 
-    /// Whether the three words below a workspace may be written, from the lowest up: the check of descheduling its process.
+    /// Whether the three words below a workspace may be written, from the lowest up: the check of descheduling its
+    /// process.
     ///
     /// # Errors
     /// The break of the first word that may not.

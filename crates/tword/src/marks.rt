@@ -1,7 +1,8 @@
 //! Who claims bytes of a memory.
 
 ghost use Rattle.std.specs.Prelude.{◌≡◌, ◌+◌, ◌<◌, IfOk, IfErr, None, length, false, true};
-ghost use Rattle.tword.specs.Accesses.{Changing, Frees, IsClaimableWorkspace, no_claims, with_input, with_output, without_input, without_output};
+ghost use Rattle.tword.specs.Accesses.{Changing, Frees, IsClaimableWorkspace, no_claims, with_input, with_output};
+ghost use Rattle.tword.specs.Accesses.{without_input, without_output};
 ghost use Rattle.tword.specs.Actions.{or_break};
 ghost use Rattle.tword.specs.Claims.{saving, saved_words, has_saved};
 ghost use Rattle.tword.specs.Touches.{Reads, Writes, claim_break};
@@ -15,7 +16,8 @@ use crate::word::Word;
 use std::alloc::{AllocError, Global};
 use std::marker::Model;
 
-/// The bytes of a memory that are claimed: the buffers of pending link messages, and the saved words of processes that are queued or wait.
+/// The bytes of a memory that are claimed: the buffers of pending link messages, and the saved words of processes
+/// that are queued or wait.
 #[derive(Drop)]
 pub struct Marks {
     inputs: LinkBuffers,
@@ -148,7 +150,8 @@ impl Marks {
     pub fn claim_saved(&mut self, workspace: Word) -> Result<(), Break>
         requires workspace { IsClaimableWorkspace workspace }
         requires room { length self.old.saved < 512 }
-        ensures { Changing (claim_break self.old Writes (saved_words workspace)) self.old (saving workspace self.old) result self.new }
+        ensures { Changing (claim_break self.old Writes (saved_words workspace)) self.old
+            (saving workspace self.old) result self.new }
     {
         self.may_write(words_below(workspace), 12)?;
         self.claim_saved_known(workspace);
@@ -165,7 +168,8 @@ impl Marks {
         self.saved.insert(workspace);
     }
 
-    /// Gives the words below a workspace free, if they are saved. The order in which the others are kept is left open.
+    /// Gives the words below a workspace free, if they are saved. The order in which the others are kept is left
+    /// open.
     pub fn release_saved(&mut self, workspace: Word)
         ensures frees { Frees workspace self.old self.new }
         ensures counts { has_saved self.old workspace ≡ true → length self.new.saved + 1 ≡ length self.old.saved }
@@ -182,7 +186,8 @@ impl Marks {
     /// As `may_write` of the buffer; nothing is changed then.
     pub fn claim_in(&mut self, link: u8, start: Word, size: u32) -> Result<(), Break>
         requires { link < 4 }
-        ensures { Changing (claim_break self.old Writes (record { start = start; size = size })) self.old (with_input link (record { start = start; size = size }) self.old) result self.new }
+        ensures { Changing (claim_break self.old Writes (record { start = start; size = size })) self.old
+            (with_input link (record { start = start; size = size }) self.old) result self.new }
     {
         self.may_write(start, size)?;
         self.claim_in_known(link, start, size);
@@ -197,13 +202,15 @@ impl Marks {
         self.inputs.claim(link, Span { start, size });
     }
 
-    /// Claims the buffer of a pending link output, where the claims that there are let it be read: two outputs may share bytes.
+    /// Claims the buffer of a pending link output, where the claims that there are let it be read: two outputs may
+    /// share bytes.
     ///
     /// # Errors
     /// As `may_read` of the buffer; nothing is changed then.
     pub fn claim_out(&mut self, link: u8, start: Word, size: u32) -> Result<(), Break>
         requires { link < 4 }
-        ensures { Changing (claim_break self.old Reads (record { start = start; size = size })) self.old (with_output link (record { start = start; size = size }) self.old) result self.new }
+        ensures { Changing (claim_break self.old Reads (record { start = start; size = size })) self.old
+            (with_output link (record { start = start; size = size }) self.old) result self.new }
     {
         self.may_read(start, size)?;
         self.claim_out_known(link, start, size);

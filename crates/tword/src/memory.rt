@@ -1,6 +1,7 @@
 //! The bytes of a node.
 
-ghost use Rattle.std.specs.Prelude.{◌≡◌, ◌↔◌, ◌≤◌, ◌+◌, ◌∷◌, [], ◌++◌, take, drop, Some, IfOk, OnOk, IsErrOf, length, replicate, slice_range, unwrap_or, true};
+ghost use Rattle.std.specs.Prelude.{◌≡◌, ◌↔◌, ◌≤◌, ◌+◌, ◌∷◌, [], ◌++◌, take, drop, Some, IfOk, OnOk, IsErrOf};
+ghost use Rattle.std.specs.Prelude.{length, replicate, slice_range, unwrap_or, true};
 ghost use Rattle.tword.specs.Accesses.{Changing, IsMemorySize};
 ghost use Rattle.tword.specs.Actions.{or_break};
 ghost use Rattle.std.specs.Int.{w32, from_le_bytes, to_le_bytes};
@@ -9,6 +10,7 @@ ghost use Rattle.tword.specs.Touches.{Reads, Writes, span_break, word_break, is_
 ghost use Rattle.tword.specs.Words.{most_neg};
 
 use crate::breaks::{Break, MemoryFault};
+use crate::limits::{LARGEST_MEMORY, MOST_NEG, SMALLEST_MEMORY};
 use crate::marks::Marks;
 use crate::span::Span;
 use crate::word::Word;
@@ -16,10 +18,8 @@ use byteorder::{ByteOrder, LittleEndian};
 use std::alloc::{AllocError, Global};
 use std::marker::Model;
 
-/// The least address, as its unsigned reading (the Compiler Writer's Guide: MostNeg).
-const LEAST: u32 = 0x8000_0000;
-
-/// The memory of a node: its bytes from address #80000000 on. Contracts see it as a store whose cells are all there.
+/// The memory of a node: its bytes from address #80000000 on. Contracts see it as a store whose cells are all
+/// there.
 #[derive(Drop)]
 pub struct Memory {
     bytes: Vec<u8>,
@@ -38,12 +38,6 @@ impl Model for Memory {
 }
 
 impl Memory {
-    /// The least number of bytes of a memory.
-    pub const SMALLEST: u32 = 2_048;
-
-    /// The greatest number of bytes of a memory.
-    pub const LARGEST: u32 = 1_048_576;
-
     /// A memory of zeros. Its size is a multiple of 4 between 2,048 and 1,048,576 bytes (own choice).
     ///
     /// # Errors
@@ -53,7 +47,7 @@ impl Memory {
         ensures sized { OnOk result (IsMemorySize size) }
         ensures bad_size { IsErrOf result MemoryFault.BadSize ↔ ¬ IsMemorySize size }
     {
-        if size < Memory::SMALLEST || Memory::LARGEST < size || size % 4 != 0 {
+        if size < SMALLEST_MEMORY || LARGEST_MEMORY < size || size % 4 != 0 {
             return Err(MemoryFault::BadSize);
         }
         match vec![in alloc; 0; size as usize] {
@@ -95,10 +89,12 @@ impl Memory {
     /// The word at an address. A word has its lowest byte first (the Compiler Writer's Guide).
     ///
     /// # Errors
-    /// The first of `Unaligned`, `BadAddress`, `Reserved`, `InTransit`, `SavedWord` that holds of a read of the word (own choice of the checks).
+    /// The first of `Unaligned`, `BadAddress`, `Reserved`, `InTransit`, `SavedWord` that holds of a read of the
+    /// word (own choice of the checks).
     #[inline(always)]
     pub fn read_word(&self, marks: &Marks, address: Word) -> Result<Word, Break>
-        ensures { result ≡ or_break (word_break (length self.now) marks.now Reads address) (word_at self.now address) }
+        ensures { result ≡ or_break (word_break (length self.now) marks.now Reads address)
+            (word_at self.now address) }
     {
         self.may_read_word(marks, address)?;
         Ok(self.word(address))
@@ -110,7 +106,8 @@ impl Memory {
     /// As `write_word`.
     #[inline(always)]
     pub fn take_word(&self, marks: &Marks, address: Word) -> Result<Word, Break>
-        ensures { result ≡ or_break (word_break (length self.now) marks.now Writes address) (word_at self.now address) }
+        ensures { result ≡ or_break (word_break (length self.now) marks.now Writes address)
+            (word_at self.now address) }
     {
         self.may_write_word(marks, address)?;
         let word = self.word(address);
@@ -120,10 +117,12 @@ impl Memory {
     /// Sets the word at an address.
     ///
     /// # Errors
-    /// The first of `Unaligned`, `BadAddress`, `Reserved`, `InTransit`, `SavedWord` that holds of a write of the word; nothing is changed then.
+    /// The first of `Unaligned`, `BadAddress`, `Reserved`, `InTransit`, `SavedWord` that holds of a write of the
+    /// word; nothing is changed then.
     #[inline(always)]
     pub fn write_word(&mut self, marks: &Marks, address: Word, value: Word) -> Result<(), Break>
-        ensures changes { Changing (word_break (length self.old) marks.now Writes address) self.old (with_word self.old address value) result self.new }
+        ensures changes { Changing (word_break (length self.old) marks.now Writes address) self.old
+            (with_word self.old address value) result self.new }
         ensures sized { length self.new ≡ length self.old }
     {
         self.may_write_word(marks, address)?;
@@ -137,7 +136,8 @@ impl Memory {
     /// The first of `BadAddress`, `Reserved`, `InTransit`, `SavedWord` that holds of a read of the byte.
     #[inline(always)]
     pub fn read_byte(&self, marks: &Marks, address: Word) -> Result<u8, Break>
-        ensures { result ≡ or_break (span_break (length self.now) marks.now Reads (byte_span address)) (unwrap_or (byte_at self.now address) 0) }
+        ensures { result ≡ or_break (span_break (length self.now) marks.now Reads (byte_span address))
+            (unwrap_or (byte_at self.now address) 0) }
     {
         self.may_read(marks, address, 1)?;
         Ok(self.byte(address))
@@ -146,10 +146,12 @@ impl Memory {
     /// Sets the byte at an address.
     ///
     /// # Errors
-    /// The first of `BadAddress`, `Reserved`, `InTransit`, `SavedWord` that holds of a write of the byte; nothing is changed then.
+    /// The first of `BadAddress`, `Reserved`, `InTransit`, `SavedWord` that holds of a write of the byte; nothing
+    /// is changed then.
     #[inline(always)]
     pub fn write_byte(&mut self, marks: &Marks, address: Word, value: u8) -> Result<(), Break>
-        ensures changes { Changing (span_break (length self.old) marks.now Writes (byte_span address)) self.old (with_cells self.old address (as_cells (value ∷ []))) result self.new }
+        ensures changes { Changing (span_break (length self.old) marks.now Writes (byte_span address)) self.old
+            (with_cells self.old address (as_cells (value ∷ []))) result self.new }
         ensures sized { length self.new ≡ length self.old }
     {
         self.may_write(marks, address, 1)?;
@@ -232,7 +234,7 @@ fn place(address: Word) -> usize
     requires { most_neg ≤ address }
     ensures { result ≡ the_place address }
 {
-    address.get().wrapping_sub(LEAST) as usize
+    address.get().wrapping_sub(MOST_NEG) as usize
 }
 
 /// Writes bytes among bytes.

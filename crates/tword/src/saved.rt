@@ -1,19 +1,18 @@
 //! The workspaces whose words are saved.
 
-ghost use Rattle.std.specs.Prelude.{◌≡◌, ◌+◌, ◌-◌, ◌*◌, ◌%◌, ◌<◌, ◌≤◌, ◌==◌, ◌∷◌, ◌&&◌, not, IfOk, IfSome, length, true, false, None, vec_len, slice_index, ℕ, []};
+ghost use Rattle.std.specs.Prelude.{◌≡◌, ◌+◌, ◌-◌, ◌*◌, ◌%◌, ◌<◌, ◌≤◌, ◌==◌, ◌∷◌, ◌&&◌, not, IfOk, IfSome, length};
+ghost use Rattle.std.specs.Prelude.{true, false, None, vec_len, slice_index, ℕ, []};
 ghost use Rattle.std.specs.List.{list_any};
 ghost use Rattle.tword.specs.Accesses.{IsClaimableWorkspace};
 ghost use Rattle.tword.specs.Claims.{overlap, saved_words};
 ghost use Rattle.tword.specs.Slots.{slot_of, is_slot, IsPlaceIn};
 ghost use Rattle.tword.specs.Words.{word_below};
 
+use crate::limits::MOST_PROCESSES;
 use crate::span::Span;
 use crate::word::Word;
 use std::alloc::{AllocError, Global};
 use std::marker::Model;
-
-/// How many workspaces there is room for.
-pub const ROOM: usize = 512;
 
 /// How many slots the words of the address space share: a memory of 256 kilobytes has one for each of its words.
 const SLOTS: usize = 65_536;
@@ -21,9 +20,11 @@ const SLOTS: usize = 65_536;
 /// The most words of a touch that are looked up one by one.
 const FEW: u64 = 256;
 
-/// The workspaces of the processes that are queued or wait. Contracts see them as a list, the one that came last at its head.
+/// The workspaces of the processes that are queued or wait. Contracts see them as a list, the one that came last at
+/// its head.
 ///
-/// `counts` has for each slot how many saved words fall into it: a touch whose slots have none needs no further look. `places` has for each slot where a workspace of that slot was last put: a place to look first.
+/// `counts` has for each slot how many saved words fall into it: a touch whose slots have none needs no further
+/// look. `places` has for each slot where a workspace of that slot was last put: a place to look first.
 #[derive(Drop)]
 pub struct Saved {
     workspaces: Vec<Word>,
@@ -40,7 +41,8 @@ impl Model for Saved {
 
     ghost view = { λ s. reverse s.workspaces.items };
 
-    ghost invariant = { λ s. IsTable s.workspaces.items s.counts.items s.places.items × (512 ≤ vec_capacity s.workspaces) };
+    ghost invariant = { λ s. IsTable s.workspaces.items s.counts.items s.places.items
+        × (512 ≤ vec_capacity s.workspaces) };
 }
 
 impl Saved {
@@ -49,7 +51,7 @@ impl Saved {
         ensures { IfOk result (λ s. s ≡ []) }
     {
         Ok(Saved {
-            workspaces: Vec::with_capacity(alloc, ROOM)?,
+            workspaces: Vec::with_capacity(alloc, MOST_PROCESSES)?,
             counts: vec![in alloc; 0; SLOTS]?,
             places: vec![in alloc; 0; SLOTS]?,
         })
@@ -59,7 +61,7 @@ impl Saved {
     pub fn try_copy(&self, alloc: Global) -> Result<Saved, AllocError>
         ensures { IfOk result (λ s. s ≡ self.now) }
     {
-        let mut workspaces = Vec::with_capacity(alloc, ROOM)?;
+        let mut workspaces = Vec::with_capacity(alloc, MOST_PROCESSES)?;
         workspaces.extend_from_slice(self.workspaces.as_slice())?;
         let counts = Vec::from_slice(alloc, self.counts.as_slice())?;
         let places = Vec::from_slice(alloc, self.places.as_slice())?;
@@ -104,7 +106,8 @@ impl Saved {
     /// Whether a saved word has a byte in common with a span.
     #[inline(never)]
     pub fn overlap(&self, start: Word, size: u32) -> bool
-        ensures { result ≡ list_any (λ w. overlap (record { start = start; size = size }) (saved_words w)) self.now }
+        ensures { result ≡ list_any (λ w. overlap (record { start = start; size = size }) (saved_words w))
+            self.now }
     {
         let span = Span { start, size };
         let (start, end) = span.bounds();
@@ -132,7 +135,8 @@ impl Saved {
 
     /// The words of a workspace are free again. The order of the others is left open.
     pub fn remove(&mut self, workspace: Word)
-        ensures others { (v : ℕ) → list_any (λ w. w == v) self.new ≡ (not (v == workspace) && list_any (λ w. w == v) self.old) }
+        ensures others { (v : ℕ)
+            → list_any (λ w. w == v) self.new ≡ (not (v == workspace) && list_any (λ w. w == v) self.old) }
         ensures count { list_any (λ w. w == workspace) self.old ≡ true → length self.new + 1 ≡ length self.old }
         ensures same { list_any (λ w. w == workspace) self.old ≡ false → self.new ≡ self.old }
     {
@@ -222,7 +226,8 @@ fn count_up(counts: &mut Vec<u16>, address: u32)
     requires slots { vec_len counts.old ≡ 65536 }
     requires room { slice_index counts.old.items (slot_of address) < 65535 }
     ensures slots { vec_len counts.new ≡ 65536 }
-    ensures counted { (slot : ℕ) → slice_index counts.new.items slot ≡ slice_index counts.old.items slot + is_slot address slot }
+    ensures counted { (slot : ℕ)
+        → slice_index counts.new.items slot ≡ slice_index counts.old.items slot + is_slot address slot }
 {
     counts[slot_of(address)] += 1;
 }
@@ -233,7 +238,8 @@ fn count_down(counts: &mut Vec<u16>, address: u32)
     requires slots { vec_len counts.old ≡ 65536 }
     requires some { 0 < slice_index counts.old.items (slot_of address) }
     ensures slots { vec_len counts.new ≡ 65536 }
-    ensures counted { (slot : ℕ) → slice_index counts.new.items slot + is_slot address slot ≡ slice_index counts.old.items slot }
+    ensures counted { (slot : ℕ)
+        → slice_index counts.new.items slot + is_slot address slot ≡ slice_index counts.old.items slot }
 {
     counts[slot_of(address)] -= 1;
 }

@@ -1,3 +1,4 @@
+//! Bytes in a row.
 ghost use Rattle.std.specs.Prelude.{◌≡◌, ◌+◌, ◌<◌, ◌^◌};
 ghost use Rattle.tword.specs.Claims.{overlap};
 

@@ -1,5 +1,6 @@
 -- What the getters read of arguments that have a text or a number.
-use Rattle.std.proofs.Common.{◌≡◌, ◌∙◌, ◌<◌, ◌≤◌, ◌^◌, ℕ, pos, Bool, true, false, refl, sym, ap, subst, arith, List, [], Option, Some, None, Result, Ok, is_some, true≢false, Bor}
+use Rattle.std.proofs.Common.{◌≡◌, ◌∙◌, ◌<◌, ◌≤◌, ◌^◌, ℕ, pos, Bool, true, false, refl, sym, ap, subst, arith, List, []}
+use Rattle.std.proofs.Common.{Option, Some, None, Result, Ok, is_some, true≢false, Bor}
 use Rattle.std.specs.Prelude.{option_map}
 use Rattle.std.specs.Option.{option_map_or}
 use Rattle.std.specs.Str.Parse.{ParsesUnsigned, digits_value, without_leading_plus}
@@ -17,7 +18,8 @@ use Rattle.clap.proofs.WalkLemmas.{first_value-rows, one_text-rows}
 use Rattle.twords.specs.CommandLines.{HasNumber, HasText, number_at, text_at}
 
 -- the text of an argument that has one
-pub text_read : (m : ArgMatches) (id : Text) (r : Option (Bor Text)) → option_map (λ s. s.now) r ≡ first_value (found_of m) id → HasText id (rows_of (found_of m))
+pub text_read : (m : ArgMatches) (id : Text) (r : Option (Bor Text))
+    → option_map (λ s. s.now) r ≡ first_value (found_of m) id → HasText id (rows_of (found_of m))
     → (s : Bor Text) × (r ≡ Some s) × (s.now ≡ text_at id (rows_of (found_of m)))
 text_read m id None e h =
     let none : first_of id (rows_of (found_of m)) ≡ None = sym (first_value-rows (found_of m) id) ∙ sym e in
@@ -27,38 +29,56 @@ text_read m id (Some s) e h = (s, refl, ap (λ o. option_map_or (λ t. t) o []) 
 
 -- a number, as a getter reads it
 pub number_read : (E : Type 0) (G : List ℕ → Result ℕ E → Type 0) (m : ArgMatches) (id : Text) (r : Option ℕ)
-    → ((t : Text) → one_text (found_of m) id ≡ Some t → ReadsOne G t r) → ((u : List ℕ) (x : Result ℕ E) → G u x → ParsesUnsigned 32 10 u x)
-    → HasNumber 0 4294967295 id (rows_of (found_of m)) → (n : ℕ) × (r ≡ Some n) × (n ≡ number_at id (rows_of (found_of m)))
+    → ((t : Text) → one_text (found_of m) id ≡ Some t → ReadsOne G t r)
+    → ((u : List ℕ) (x : Result ℕ E) → G u x → ParsesUnsigned 32 10 u x)
+    → HasNumber 0 4294967295 id (rows_of (found_of m)) → (n : ℕ) × (r ≡ Some n)
+    × (n ≡ number_at id (rows_of (found_of m)))
 number_read E G m id r gives only h =
-    let read : ReadsOne G (without_minus h.text) r = gives (without_minus h.text) (one_text-rows (found_of m) id ∙ h.read) in
+    let read : ReadsOne G (without_minus h.text) r =
+    gives (without_minus h.text) (one_text-rows (found_of m) id ∙ h.read) in
     let got = signed_reads E G 32 0 4294967295 h.text r read only (omega arith) h.within in
-    let is : ReadsOne G (without_minus h.text) (Some got.0) = subst (ReadsOne G (without_minus h.text)) got.1 read in
-    (got.0, got.1, (only (without_minus h.text) (Ok got.0) is).1 ∙ sym (ap (λ o. option_map_or (λ t. digits_value 10 (without_leading_plus t)) o 0) h.read))
+    let is : ReadsOne G (without_minus h.text) (Some got.0) = subst (ReadsOne G (without_minus h.text)) got.1 read in (
+      got.0,
+      got.1,
+      (only (without_minus h.text) (Ok got.0) is).1
+          ∙ sym (ap (λ o. option_map_or (λ t. digits_value 10 (without_leading_plus t)) o 0) h.read),
+    )
 
 -- the number of a text in a range
 in_range : (least most : ℕ) (text : Text) → most < 2 ^ 32 → IsSignedIn (pos least) (pos most) text
-    → (least ≤ digits_value 10 (without_leading_plus (without_minus text))) × (digits_value 10 (without_leading_plus (without_minus text)) ≤ most)
+    → (least ≤ digits_value 10 (without_leading_plus (without_minus text)))
+    × (digits_value 10 (without_leading_plus (without_minus text)) ≤ most)
 in_range least most text fits within = go (accepts false (Unsigned 0 4294967295) (without_minus text)) refl
   where
     v : ℕ
     v = digits_value 10 (without_leading_plus (without_minus text))
 
-    read : (r : Option ℕ) → ReadsOne {E = ℕ} (ParsesUnsigned 32 10) (without_minus text) r → (n : ℕ) × (r ≡ Some n) × (least ≤ n) × (n ≤ most)
+    read : (r : Option ℕ) → ReadsOne {E = ℕ} (ParsesUnsigned 32 10) (without_minus text) r → (n : ℕ) × (r ≡ Some n)
+        × (least ≤ n) × (n ≤ most)
     read r is = signed_reads ℕ (ParsesUnsigned 32 10) 32 least most text r is (λ u x g. g) fits within
 
     go : (b : Bool) → accepts false (Unsigned 0 4294967295) (without_minus text) ≡ b
-        → (least ≤ digits_value 10 (without_leading_plus (without_minus text))) × (digits_value 10 (without_leading_plus (without_minus text)) ≤ most)
+        → (least ≤ digits_value 10 (without_leading_plus (without_minus text)))
+        × (digits_value 10 (without_leading_plus (without_minus text)) ≤ most)
     go true is =
         let number = accepts-Accepts false (Unsigned 0 4294967295) (without_minus text) is in
-        let got = read (Some (digits_value 10 (without_leading_plus (without_minus text)))) ((number.0, omega arith), refl) in
+        let got =
+        read (Some (digits_value 10 (without_leading_plus (without_minus text)))) ((number.0, omega arith), refl) in
         let same : digits_value 10 (without_leading_plus (without_minus text)) ≡ got.0 = cc in
         (omega arith, omega arith)
     go false is =
-        let got = read None (0, λ p. true≢false (sym (Accepts-accepts false (Unsigned 0 4294967295) (without_minus text) (p.0, omega arith, omega arith, omega arith)) ∙ is)) in
+        let got =
+        read None (
+          0,
+          λ p. true≢false
+              (sym (Accepts-accepts false (Unsigned 0 4294967295) (without_minus text)
+              (p.0, omega arith, omega arith, omega arith)) ∙ is),
+        ) in
         absurd (true≢false (ap (λ o. is_some o) (sym got.1)))
 
 -- the number of an argument lies in its range
-pub number_in : (least most : ℕ) (id : Text) (rows : List Row) → most < 2 ^ 32 → HasNumber least most id rows → (least ≤ number_at id rows) × (number_at id rows ≤ most)
+pub number_in : (least most : ℕ) (id : Text) (rows : List Row) → most < 2 ^ 32 → HasNumber least most id rows
+    → (least ≤ number_at id rows) × (number_at id rows ≤ most)
 number_in least most id rows fits h =
     let is : number_at id rows ≡ digits_value 10 (without_leading_plus (without_minus h.text)) =
     ap (λ o. option_map_or (λ t. digits_value 10 (without_leading_plus t)) o 0) h.read in
@@ -66,13 +86,15 @@ number_in least most id rows fits h =
     (omega arith, omega arith)
 
 -- a number of a narrower range
-pub wider : (least most : ℕ) (id : Text) (rows : List Row) → most ≤ 4294967295 → HasNumber least most id rows → HasNumber 0 4294967295 id rows
+pub wider : (least most : ℕ) (id : Text) (rows : List Row) → most ≤ 4294967295 → HasNumber least most id rows
+    → HasNumber 0 4294967295 id rows
 wider least most id rows fits h =
     let low = h.within.2 in
     let high = h.within.3 in
     record { text = h.text; read = h.read; within = (h.within.0, h.within.1, omega (arith, ints), omega (arith, ints)) }
 
 -- the text of an argument, where it has one
-pub text_maybe : (m : ArgMatches) (id : Text) (r : Option (Bor Text)) → option_map (λ s. s.now) r ≡ first_value (found_of m) id
+pub text_maybe : (m : ArgMatches) (id : Text) (r : Option (Bor Text))
+    → option_map (λ s. s.now) r ≡ first_value (found_of m) id
     → option_map (λ s. s.now) r ≡ first_of id (rows_of (found_of m))
 text_maybe m id r e = e ∙ first_value-rows (found_of m) id

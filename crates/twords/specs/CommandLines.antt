@@ -1,13 +1,18 @@
 -- What the words of a command line ask for, by what `clap` reads of them for these commands.
--- Source: the forms of the commands, their defaults and their ranges are our own choice; `Rattle.clap.specs` says how `clap`
+-- Source: the forms of the commands, their defaults and their ranges are our own choice; `Rattle.clap.specs` says how
+-- `clap`
 -- reads words, and why it refuses them.
-use Rattle.std.specs.Prelude.{refl, ℕ, ◌≡◌, ◌≤◌, pos, true, false, List, [], ◌∷◌, Option, Some, None, is_some, option_map, codes, bytes_eq, if◌then◌else◌}
+use Rattle.std.specs.Prelude.{refl, ℕ, ◌≡◌, ◌≤◌, pos, true, false, List, [], ◌∷◌, Option, Some, None, is_some}
+use Rattle.std.specs.Prelude.{option_map, codes, bytes_eq, if◌then◌else◌}
 use Rattle.std.specs.Option.{option_map_or}
 use Rattle.std.specs.Str.Parse.{digits_value, without_leading_plus}
-use Rattle.clap.specs.Words.{Text, Rule, Row, Shape, App, Kinds, IsSignedIn, app_of, new_rule, first_of, one_of, subcommand_of, fault_of, with_subcommand, without_minus}
+use Rattle.clap.specs.Words.{Text, Rule, Row, Shape, App, Kinds, IsSignedIn, app_of, new_rule, first_of, one_of}
+use Rattle.clap.specs.Words.{subcommand_of, fault_of, with_subcommand, without_minus}
 use Rattle.clap.specs.Simple.{new_shape}
 use Rattle.clap.proofs.OnLiterals.{clap_on_literals}
-use Rattle.clap.specs.declared.error.kind.ErrorKind.TheVariants.{DisplayHelp, DisplayHelpOnMissingArgumentOrSubcommand, MissingRequiredArgument, UnknownArgument, ValueValidation}
+use Rattle.clap.specs.declared.error.kind.ErrorKind.TheVariants.{DisplayHelp, DisplayHelpOnMissingArgumentOrSubcommand}
+use Rattle.clap.specs.declared.error.kind.ErrorKind.TheVariants.{MissingRequiredArgument, UnknownArgument}
+use Rattle.clap.specs.declared.error.kind.ErrorKind.TheVariants.{ValueValidation}
 use Rattle.clap.specs.declared.builder.arg.Arg.{Arg}
 use Rattle.clap.specs.declared.builder.command.Command.{Command as Parser}
 use Rattle.clap.specs.declared.builder.command.Command.TheViews.{out-Command as fields_of}
@@ -65,13 +70,18 @@ dis_shape = record (new_shape (codes "dis")) { rules = file_rule (codes "image")
 -- the program without its commands, of which one has to be named
 abbrev pub top : App
 top = record {
-  top = record (new_shape (codes "temu")) { disable_help_subcommand = true; arg_required_else_help = true; subcommand_required = true };
+  top = record (new_shape (codes "temu")) {
+    disable_help_subcommand = true;
+    arg_required_else_help = true;
+    subcommand_required = true;
+  };
   subs = [];
 }
 
 -- the program
 abbrev pub program : App
-program = with_subcommand (with_subcommand (with_subcommand (with_subcommand top run_shape) free_shape) replay_shape) dis_shape
+program = with_subcommand (with_subcommand (with_subcommand (with_subcommand top run_shape) free_shape) replay_shape)
+    dis_shape
 
 -- ---- what they ask for
 
@@ -98,7 +108,13 @@ number_at id rows = option_map_or (λ t. digits_value 10 (without_leading_plus t
 
 -- the options of a run, whose limit is the argument of this id
 abbrev pub options_in : Text → List Row → Options
-options_in id rows = record { workers = number_at (codes "workers") rows; rounds = number_at id rows; slice = number_at (codes "slice") rows }
+options_in id rows =
+    record {
+      workers = number_at (codes "workers") rows;
+      rounds = number_at id rows;
+      slice =
+          number_at (codes "slice") rows;
+    }
 
 abbrev pub run_in : List Row → Asked
 run_in rows = run (text_at (codes "wiring") rows) (options_in (codes "rounds") rows) (first_of (codes "log") rows)
@@ -172,7 +188,8 @@ pub record IsWhole (name : Text) (rows : List Row) : Type 0 where
   pub run : bytes_eq name (codes "run") ≡ true → IsRun (codes "rounds") rows
   pub free : bytes_eq name (codes "free") ≡ true → IsRun (codes "turns") rows
   pub replay : bytes_eq name (codes "replay") ≡ true → IsReplay rows
-  pub dis : bytes_eq name (codes "run") ≡ false → bytes_eq name (codes "free") ≡ false → bytes_eq name (codes "replay") ≡ false → (bytes_eq name (codes "dis") ≡ true) × IsDis rows
+  pub dis : bytes_eq name (codes "run") ≡ false → bytes_eq name (codes "free") ≡ false
+      → bytes_eq name (codes "replay") ≡ false → (bytes_eq name (codes "dis") ≡ true) × IsDis rows
 
 -- a parser reads a command of this shape, and no subcommand
 abbrev pub HasShape : Shape → Parser → Type 0
@@ -185,28 +202,35 @@ IsLocal a = a.global ≡ false
 -- ---- examples
 
 abbrev words_of_run : List Text
-words_of_run = codes "temu" ∷ codes "run" ∷ codes "--rounds" ∷ codes "7" ∷ codes "pair.toml" ∷ codes "--log=pair.log" ∷ codes "--workers" ∷ codes "64" ∷ []
+words_of_run = codes "temu" ∷ codes "run" ∷ codes "--rounds" ∷ codes "7" ∷ codes "pair.toml" ∷ codes "--log=pair.log"
+    ∷ codes "--workers" ∷ codes "64" ∷ []
 
 -- options in any order, and one by default
-example_run : command_of words_of_run ≡ Some (run (codes "pair.toml") (record { workers = 64; rounds = 7; slice = 64 }) (Some (codes "pair.log")))
+example_run : command_of words_of_run
+    ≡ Some (run (codes "pair.toml") (record { workers = 64; rounds = 7; slice = 64 }) (Some (codes "pair.log")))
 unfolding clap_on_literals
 example_run = refl
 
 -- likewise of `free`
-example_free : command_of (codes "temu" ∷ codes "free" ∷ codes "--log" ∷ codes "pair.log" ∷ codes "--turns=7" ∷ codes "pair.toml" ∷ codes "--slice" ∷ codes "65536" ∷ []) ≡ Some (free (codes "pair.toml") (record { workers = 1; rounds = 7; slice = 65536 }) (Some (codes "pair.log")))
+example_free : command_of (codes "temu" ∷ codes "free" ∷ codes "--log" ∷ codes "pair.log" ∷ codes "--turns=7"
+    ∷ codes "pair.toml" ∷ codes "--slice" ∷ codes "65536" ∷ [])
+    ≡ Some (free (codes "pair.toml") (record { workers = 1; rounds = 7; slice = 65536 }) (Some (codes "pair.log")))
 unfolding clap_on_literals
 example_free = refl
 
 -- nothing but the file
-example_defaults : command_of (codes "temu" ∷ codes "run" ∷ codes "pair.toml" ∷ []) ≡ Some (run (codes "pair.toml") (record { workers = 1; rounds = 100000; slice = 64 }) None)
+example_defaults : command_of (codes "temu" ∷ codes "run" ∷ codes "pair.toml" ∷ [])
+    ≡ Some (run (codes "pair.toml") (record { workers = 1; rounds = 100000; slice = 64 }) None)
 unfolding clap_on_literals
 example_defaults = refl
 
-example_free_defaults : command_of (codes "temu" ∷ codes "free" ∷ codes "pair.toml" ∷ []) ≡ Some (free (codes "pair.toml") (record { workers = 1; rounds = 100000; slice = 64 }) None)
+example_free_defaults : command_of (codes "temu" ∷ codes "free" ∷ codes "pair.toml" ∷ [])
+    ≡ Some (free (codes "pair.toml") (record { workers = 1; rounds = 100000; slice = 64 }) None)
 unfolding clap_on_literals
 example_free_defaults = refl
 
-example_replay : command_of (codes "temu" ∷ codes "replay" ∷ codes "pair.toml" ∷ codes "pair.log" ∷ []) ≡ Some (replay (codes "pair.toml") (codes "pair.log"))
+example_replay : command_of (codes "temu" ∷ codes "replay" ∷ codes "pair.toml" ∷ codes "pair.log" ∷ [])
+    ≡ Some (replay (codes "pair.toml") (codes "pair.log"))
 unfolding clap_on_literals
 example_replay = refl
 
@@ -220,19 +244,23 @@ unfolding clap_on_literals
 example_taken = refl
 
 -- a number out of its range, an option of another command, a file that is missing, no words, and help
-example_workers : refusals (codes "temu" ∷ codes "run" ∷ codes "pair.toml" ∷ codes "--workers" ∷ codes "0" ∷ []) ≡ ValueValidation ∷ []
+example_workers : refusals (codes "temu" ∷ codes "run" ∷ codes "pair.toml" ∷ codes "--workers" ∷ codes "0" ∷ [])
+    ≡ ValueValidation ∷ []
 unfolding clap_on_literals
 example_workers = refl
 
-example_turns : refusals (codes "temu" ∷ codes "free" ∷ codes "pair.toml" ∷ codes "--turns" ∷ codes "4294967296" ∷ []) ≡ ValueValidation ∷ []
+example_turns : refusals (codes "temu" ∷ codes "free" ∷ codes "pair.toml" ∷ codes "--turns" ∷ codes "4294967296" ∷ [])
+    ≡ ValueValidation ∷ []
 unfolding clap_on_literals
 example_turns = refl
 
-example_unknown : refusals (codes "temu" ∷ codes "run" ∷ codes "pair.toml" ∷ codes "--turns" ∷ codes "5" ∷ []) ≡ UnknownArgument ∷ []
+example_unknown : refusals (codes "temu" ∷ codes "run" ∷ codes "pair.toml" ∷ codes "--turns" ∷ codes "5" ∷ [])
+    ≡ UnknownArgument ∷ []
 unfolding clap_on_literals
 example_unknown = refl
 
-example_free_unknown : refusals (codes "temu" ∷ codes "free" ∷ codes "pair.toml" ∷ codes "--rounds" ∷ codes "5" ∷ []) ≡ UnknownArgument ∷ []
+example_free_unknown : refusals (codes "temu" ∷ codes "free" ∷ codes "pair.toml" ∷ codes "--rounds" ∷ codes "5" ∷ [])
+    ≡ UnknownArgument ∷ []
 unfolding clap_on_literals
 example_free_unknown = refl
 
@@ -240,7 +268,8 @@ example_missing : refusals (codes "temu" ∷ codes "replay" ∷ codes "pair.toml
 unfolding clap_on_literals
 example_missing = refl
 
-example_free_missing : refusals (codes "temu" ∷ codes "free" ∷ codes "--turns" ∷ codes "5" ∷ []) ≡ MissingRequiredArgument ∷ []
+example_free_missing : refusals (codes "temu" ∷ codes "free" ∷ codes "--turns" ∷ codes "5" ∷ [])
+    ≡ MissingRequiredArgument ∷ []
 unfolding clap_on_literals
 example_free_missing = refl
 

@@ -11,7 +11,8 @@ use clap::{Arg, ArgMatches, Command as Parser, value_parser};
 use std::alloc::{AllocError, Global};
 use tplan::Options;
 
-/// Why no command was read: help was asked for, or the words are a mistake, or there was no memory (`kind`). `print` writes
+/// Why no command was read: help was asked for, or the words are a mistake, or there was no memory (`kind`).
+/// `print` writes
 /// its text where `use_stderr` says.
 pub type CommandFault = clap::Error;
 
@@ -42,11 +43,13 @@ pub enum Command {
     },
 }
 
-/// What the words of a command line ask for, of which the first is the program's name: each option is the value that the
+/// What the words of a command line ask for, of which the first is the program's name: each option is the value
+/// that the
 /// words give or its default.
 ///
 /// # Errors
-/// Where help is asked for, or the words are a mistake: `clap`'s error of it, else `OutOfMemory` where the allocator refuses.
+/// Where help is asked for, or the words are a mistake: `clap`'s error of it, else `OutOfMemory` where the
+/// allocator refuses.
 pub fn read_words(alloc: Global, words: &[&str]) -> Result<Command, CommandFault>
     ensures command { IfOk result (λ c. command_of (map (λ w. w.now) words.now) ≡ Some (asked_of c)) }
     ensures range { IfOk result IsInRange }
@@ -62,7 +65,8 @@ pub fn read_words(alloc: Global, words: &[&str]) -> Result<Command, CommandFault
 /// What the arguments of the command of this name ask for.
 fn asked(alloc: Global, name: &str, given: &ArgMatches) -> Result<Command, AllocError>
     requires { spec.IsWhole name.now (rows_of (found_of given.now)) }
-    ensures command { IfOk result (λ c. spec.command_in (Some (name.now, rows_of (found_of given.now))) ≡ Some (asked_of c)) }
+    ensures command { IfOk result (λ c. spec.command_in (Some (name.now, rows_of (found_of given.now)))
+        ≡ Some (asked_of c)) }
     ensures range { IfOk result IsInRange }
 {
     if name == "run" {
@@ -113,7 +117,8 @@ fn run_parts(
     requires { spec.IsRun limit.now (rows_of (found_of given.now)) }
     ensures wiring { IfOk result (λ r. r.0.bytes.items ≡ spec.text_at (codes "wiring") (rows_of (found_of given.now))) }
     ensures options { IfOk result (λ r. r.1 ≡ spec.options_in limit.now (rows_of (found_of given.now))) }
-    ensures log { IfOk result (λ r. option_map (λ s. s.bytes.items) r.2 ≡ first_of (codes "log") (rows_of (found_of given.now))) }
+    ensures log { IfOk result (λ r. option_map (λ s. s.bytes.items) r.2
+        ≡ first_of (codes "log") (rows_of (found_of given.now))) }
     ensures range { IfOk result (λ r. spec.AreOptions r.1) }
 {
     let wiring = file(alloc, given, "wiring")?;
@@ -165,7 +170,8 @@ fn file(alloc: Global, given: &ArgMatches, id: &str) -> Result<String, AllocErro
 
 /// The name of a file that may be left out.
 fn optional_file(alloc: Global, given: &ArgMatches, id: &str) -> Result<Option<String>, AllocError>
-    ensures { IfOk result (λ o. option_map (λ s. s.bytes.items) o ≡ first_of id.now (rows_of (found_of given.now))) }
+    ensures { IfOk result (λ o. option_map (λ s. s.bytes.items) o
+        ≡ first_of id.now (rows_of (found_of given.now))) }
 {
     match given.get_str(id) {
         Some(name) => Ok(Some(String::from_str(alloc, name)?)),

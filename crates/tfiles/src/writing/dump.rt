@@ -40,7 +40,8 @@ pub fn put_dump<W: Write>(out: &mut Output<'_, W>, net: &Net)
 /// The dump of a node.
 fn put_node<W: Write>(out: &mut Output<'_, W>, number: usize, node: &Node)
     requires { length node.now.machine.control.links ≡ 4 }
-    ensures { Tells W.contents out.old out.new (dump_of number node.now.broken node.now.machine.control.halted (hidden node.now.machine).store) }
+    ensures { Tells W.contents out.old out.new
+        (dump_of number node.now.broken node.now.machine.control.halted (hidden node.now.machine).store) }
 {
     let processor = node.processor();
     put_node_dump(

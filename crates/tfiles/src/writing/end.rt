@@ -8,7 +8,8 @@ use crate::writing::output::Output;
 use crate::writing::text::put_decimal;
 use std::io::Write;
 
-/// The last line of a run by rounds, of which so many were done: `end quiet 9`, or `end rounds 9` where the net was not quiet.
+/// The last line of a run by rounds, of which so many were done: `end quiet 9`, or `end rounds 9` where the net was
+/// not quiet.
 pub fn put_rounds_end<W: Write>(out: &mut Output<'_, W>, quiet: bool, rounds: u32)
     ensures { Tells W.contents out.old out.new (rounds_end quiet rounds) }
 {

@@ -4,23 +4,23 @@ ghost use Rattle.std.specs.Prelude.{◌≡◌, ◌+◌, ◌<◌, ◌≤◌, ◌^
 ghost use Rattle.std.specs.List.{list_any, list_all, flat_map};
 ghost use Rattle.tword.specs.Claims.{overlaps_claim};
 ghost use Rattle.tword.specs.Stores.{as_cells, hiding, hiding_from};
-ghost use Rattle.tfiles.specs.Texts.{break_name, node_line, node_text, dump_of, dump_line, lines_of, cell_text, is_zero, is_pending};
+ghost use Rattle.tfiles.specs.Texts.{break_name, node_line, node_text, dump_of, dump_line, lines_of, cell_text};
+ghost use Rattle.tfiles.specs.Texts.{is_zero, is_pending};
 ghost use Rattle.tfiles.specs.Outputs.{Tells};
 
 use crate::break_names::break_name;
 use crate::writing::output::Output;
 use crate::writing::text::{put_byte, put_decimal, put_hex};
 use std::io::Write;
+use tword::limits::MOST_NEG;
 use tword::{Break, Span, Word};
-
-/// The least address of a memory.
-const FIRST_ADDRESS: u32 = 0x8000_0000;
 
 /// How many bytes a line shows.
 const LINE_BYTES: usize = 16;
 
 /// The dump of a node (own choice of format): a line `node 3 ok`, `node 3 halted` or `node 3 frozen NAME`, and then
-/// a line for each sixteen bytes that are not all zero, as `800000f0: 00 00 .. 80`. A byte that a pending link input is to
+/// a line for each sixteen bytes that are not all zero, as `800000f0: 00 00 .. 80`. A byte that a pending link
+/// input is to
 /// write, whose spans are given, is shown as `--`, and is not zero.
 pub(crate) fn put_node_dump<W: Write>(
     out: &mut Output<'_, W>,
@@ -31,7 +31,8 @@ pub(crate) fn put_node_dump<W: Write>(
     pending: &[Option<Span>],
 )
     requires { length bytes.now ≤ 2 ^ 20 }
-    ensures { Tells W.contents out.old out.new (dump_of node broken halted (hiding (is_pending pending.now) (as_cells bytes.now))) }
+    ensures { Tells W.contents out.old out.new
+        (dump_of node broken halted (hiding (is_pending pending.now) (as_cells bytes.now))) }
 {
     put_node_line(out, node, broken, halted);
     put_lines(out, bytes, pending);
@@ -80,19 +81,15 @@ fn put_lines<W: Write>(out: &mut Output<'_, W>, bytes: &[u8], pending: &[Option<
     for line in 0..bytes.len().div_ceil(LINE_BYTES) {
         let start = LINE_BYTES * line;
         let end = bytes.len().min(start + LINE_BYTES);
-        put_line(
-            out,
-            FIRST_ADDRESS + start as u32,
-            &bytes[start..end],
-            pending,
-        );
+        put_line(out, MOST_NEG + start as u32, &bytes[start..end], pending);
     }
 }
 
 /// One line. Only where a pending input has a byte of the line is each byte looked up.
 fn put_line<W: Write>(out: &mut Output<'_, W>, address: u32, bytes: &[u8], pending: &[Option<Span>])
     requires { address + length bytes.now < 2 ^ 32 }
-    ensures { Tells W.contents out.old out.new (dump_line address (hiding_from (is_pending pending.now) address (as_cells bytes.now))) }
+    ensures { Tells W.contents out.old out.new
+        (dump_line address (hiding_from (is_pending pending.now) address (as_cells bytes.now))) }
 {
     if has_pending(pending, address, bytes.len() as u32) {
         put_cells(out, address, bytes, pending);
@@ -109,7 +106,8 @@ fn put_cells<W: Write>(
     pending: &[Option<Span>],
 )
     requires { address + length bytes.now < 2 ^ 32 }
-    ensures { Tells W.contents out.old out.new (dump_line address (hiding_from (is_pending pending.now) address (as_cells bytes.now))) }
+    ensures { Tells W.contents out.old out.new
+        (dump_line address (hiding_from (is_pending pending.now) address (as_cells bytes.now))) }
 {
     if are_zero(address, bytes, pending) {
         return;
@@ -128,7 +126,8 @@ fn put_shown<W: Write>(
     pending: &[Option<Span>],
 )
     requires { address + length bytes.now < 2 ^ 32 }
-    ensures { Tells W.contents out.old out.new (flat_map cell_text (hiding_from (is_pending pending.now) address (as_cells bytes.now))) }
+    ensures { Tells W.contents out.old out.new
+        (flat_map cell_text (hiding_from (is_pending pending.now) address (as_cells bytes.now))) }
 {
     for (i, byte) in bytes.iter().enumerate() {
         put_cell(out, address + i as u32, *byte, pending);
@@ -138,7 +137,8 @@ fn put_shown<W: Write>(
 /// One byte.
 #[inline]
 fn put_cell<W: Write>(out: &mut Output<'_, W>, address: u32, byte: u8, pending: &[Option<Span>])
-    ensures { Tells W.contents out.old out.new (cell_text (if is_pending pending.now address then None else Some byte)) }
+    ensures { Tells W.contents out.old out.new
+        (cell_text (if is_pending pending.now address then None else Some byte)) }
 {
     if has_pending(pending, address, 1) {
         out.put(b" --");

@@ -14,7 +14,8 @@ use tplan::Note;
 use tplan::plan::End;
 use tword::Break;
 
-/// Writes the trace (own choice of format): for each note, in order, a line `msg 0.1 1.2 4 01020304` (from, to, length and bytes),
+/// Writes the trace (own choice of format): for each note, in order, a line `msg 0.1 1.2 4 01020304` (from, to,
+/// length and bytes),
 /// `halt 0` or `freeze 1 LengthMismatch`.
 ///
 /// # Errors
@@ -58,7 +59,8 @@ fn put_note<W: Write>(out: &mut Output<'_, W>, note: &Note)
 /// A message: its two ends, its length and its bytes.
 fn put_message<W: Write>(out: &mut Output<'_, W>, from: &End, to: &End, bytes: &[u8])
     ensures { Tells W.contents out.old out.new
-        (words (codes "msg" ∷ end_text from.now ∷ end_text to.now ∷ decimal (length bytes.now) ∷ encode_lower bytes.now ∷ [])) }
+        (words (codes "msg" ∷ end_text from.now ∷ end_text to.now ∷ decimal (length bytes.now)
+        ∷ encode_lower bytes.now ∷ [])) }
 {
     out.put(b"msg ");
     put_end(out, from);

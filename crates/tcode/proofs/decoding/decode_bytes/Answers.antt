@@ -6,14 +6,21 @@ use Rattle.tcode.proofs.decoding.decode_bytes.Goals as goal
 pub returns-in-Some : goal.returns-in-Some
 returns-in-Some c =
     let v : ℕ = c.loop-had.value in
-    let sum : (v + c.from.result) % 2 ^ 32 ≡ (v + get_or c.args.bytes.now c.loop-had.had 0 % 16) % 2 ^ 32 = ap (λ (n : ℕ). (v + n) % 2 ^ 32) c.from.ensures in
-    c.ok_or.ensures.value ∙ ended_in (λ _. Err LongPrefix) c.in-Some.function ((v + c.from.result) % 2 ^ 32) (c.loop-had.had + 1) c.ended.result c.ended.ensures
-    ∙ sym (c.loop-had.invariant ∙ step-ends c.args.bytes.now c.loop-had.had v _ (omega arith) (omega arith) (omega arith) sum c.in-Some.function (sym c.function_of.ensures ∙ c.in-Some.is))
+    let sum : (v + c.from.result) % 2 ^ 32 ≡ (v + get_or c.args.bytes.now c.loop-had.had 0 % 16) % 2 ^ 32 =
+    ap (λ (n : ℕ). (v + n) % 2 ^ 32) c.from.ensures in
+    c.ok_or.ensures.value
+    ∙ ended_in (λ _. Err LongPrefix) c.in-Some.function ((v + c.from.result) % 2 ^ 32) (c.loop-had.had + 1)
+    c.ended.result c.ended.ensures
+    ∙ sym (c.loop-had.invariant
+    ∙ step-ends c.args.bytes.now c.loop-had.had v _ (omega arith) (omega arith) (omega arith) sum c.in-Some.function
+    (sym c.function_of.ensures ∙ c.in-Some.is))
 
 pub loop-had-preserved : goal.loop-had-preserved
 loop-had-preserved c =
     let v : ℕ = c.loop-had.value in
-    let sum : (v + c.from.result) % 2 ^ 32 ≡ (v + get_or c.args.bytes.now c.loop-had.had 0 % 16) % 2 ^ 32 = ap (λ (n : ℕ). (v + n) % 2 ^ 32) c.from.ensures in
+    let sum : (v + c.from.result) % 2 ^ 32 ≡ (v + get_or c.args.bytes.now c.loop-had.had 0 % 16) % 2 ^ 32 =
+    ap (λ (n : ℕ). (v + n) % 2 ^ 32) c.from.ensures in
     c.loop-had.invariant
-    ∙ step-goes c.args.bytes.now c.loop-had.had v _ (omega arith) (omega arith) (omega arith) sum c.prefixed-value.result c.prefixed-value.type_inv
+    ∙ step-goes c.args.bytes.now c.loop-had.had v _ (omega arith) (omega arith) (omega arith) sum
+    c.prefixed-value.result c.prefixed-value.type_inv
     (sym c.function_of.ensures ∙ c.in_default.is) (sym c.prefixed-value.ensures)

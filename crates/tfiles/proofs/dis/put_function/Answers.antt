@@ -7,4 +7,5 @@ use Rattle.tfiles.proofs.dis.put_function.Goals as goal
 pub returns : goal.returns
 returns g c =
     tells_then (tells_as c.put.ensures (c.as_bytes.ensures.value ∙ c.function_name.ensures))
-    (tells_then c.put-2.ensures (tells_as c.put_signed.ensures (ap signed_decimal (to_z-of_z w32 c.args.operand c.ranges.operand))))
+    (tells_then c.put-2.ensures
+    (tells_as c.put_signed.ensures (ap signed_decimal (to_z-of_z w32 c.args.operand c.ranges.operand))))

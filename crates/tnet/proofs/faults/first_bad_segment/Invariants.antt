@@ -4,4 +4,5 @@ use Rattle.tnet.proofs.faults.first_bad_segment.Given as goal
 
 -- the nodes from this one on decide
 abbrev pub invariant-loop-number : goal.invariant-loop-number
-invariant-loop-number l = first_fault_from 0 bad_segment l.nodes ≡ first_fault_from l.number bad_segment (drop l.number l.nodes)
+invariant-loop-number l = first_fault_from 0 bad_segment l.nodes
+    ≡ first_fault_from l.number bad_segment (drop l.number l.nodes)

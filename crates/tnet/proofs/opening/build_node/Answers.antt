@@ -7,4 +7,5 @@ load_segments-requires-clause-fit c = rw c.as_slice.ensures (good_segments c.arg
 pub new-requires : goal.new-requires
 new-requires c =
     unnoticed c.args.timeslice c.args.plan.now _
-    (built_of c.args.timeslice c.args.plan.now _ _ _ _ _ c.in_ok-processor.ensures.machine c.as_slice.ensures c.load_segments.ensures.loaded c.as_slice-2.ensures c.in-Ok.ensures.added)
+    (built_of c.args.timeslice c.args.plan.now _ _ _ _ _ c.in_ok-processor.ensures.machine c.as_slice.ensures
+    c.load_segments.ensures.loaded c.as_slice-2.ensures c.in-Ok.ensures.added)

@@ -7,7 +7,10 @@ use Rattle.tproc.proofs.guards.disable_channel.Goals as goal
 pub returns-in_err-guard-clause-done : goal.returns-in_err-guard-clause-done
 returns-in_err-guard-clause-done c =
     let p = err_from_is_err_and c.from_residual.result c.from_residual.ensures.1 in
-    rw (p.1, p.2, c.in_err-guard.ensures.done (λ (q : Control × Bool). selects c.args.state.now.registers.a q.1 q.0)) (refl, refl, refl)
+    rw (p.1, p.2, c.in_err-guard.ensures.done (λ (q : Control × Bool). selects c.args.state.now.registers.a q.1 q.0))
+    (refl, refl, refl)
 
 pub returns-clause-done : goal.returns-clause-done
-returns-clause-done c = rw (c.in_ok-guard.ensures.done (λ (q : Control × Bool). selects c.args.state.now.registers.a q.1 q.0)) c.select.ensures.done
+returns-clause-done c =
+    rw (c.in_ok-guard.ensures.done (λ (q : Control × Bool). selects c.args.state.now.registers.a q.1 q.0))
+    c.select.ensures.done

@@ -3,4 +3,5 @@ use Rattle.tproc.proofs.Agreeing.{agrees_output}
 use Rattle.tproc.proofs.link_channels.offer_output.Goals as goal
 
 pub returns-clause-agrees : goal.returns-clause-agrees
-returns-clause-agrees c = agrees_output _ c.args.offer _ _ _ c.args.state.now _ c.requires.agrees c.claim_output.ensures.claims (search rules)
+returns-clause-agrees c =
+    agrees_output _ c.args.offer _ _ _ c.args.state.now _ c.requires.agrees c.claim_output.ensures.claims (search rules)

@@ -6,4 +6,5 @@ use Rattle.tproc.proofs.waiting_list.search.Goals as goal
 pub returns-clause-none : goal.returns-clause-none
 returns-clause-none c = λ _.
     let es = c.args.entries.now in
-    absent_from es c.args.process (rw (take_all c.loop-i.i es (omega (arith, c.loop-i-test.false))) at c.loop-i.invariant)
+    absent_from es c.args.process
+    (rw (take_all c.loop-i.i es (omega (arith, c.loop-i-test.false))) at c.loop-i.invariant)

@@ -11,10 +11,12 @@ returns-clause-others c =
     let i = c.args.place in
     let w : View = c.remove.result in
     subst ComeFromOneOpen (sym c.remove.ensures.items)
-    (c.some_come_from_one_open.ensures (take i ws) (w ∷ []) (drop (suc i) ws) (subst ComeFromOneOpen (sym (around ws i w c.requires.there c.remove.ensures.value)) c.requires.one))
+    (c.some_come_from_one_open.ensures (take i ws) (w ∷ []) (drop (suc i) ws)
+    (subst ComeFromOneOpen (sym (around ws i w c.requires.there c.remove.ensures.value)) c.requires.one))
 
 pub returns-clause-whole : goal.returns-clause-whole
 returns-clause-whole c =
     let i = c.args.place in
     let w : View = c.remove.result in
-    ap (λ (l : List View). insert l i w) c.remove.ensures.items ∙ back_again c.args.workers.now.items i w c.requires.there c.remove.ensures.value
+    ap (λ (l : List View). insert l i w) c.remove.ensures.items
+    ∙ back_again c.args.workers.now.items i w c.requires.there c.remove.ensures.value

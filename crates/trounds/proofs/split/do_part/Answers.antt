@@ -6,12 +6,17 @@ use Rattle.trounds.proofs.split.do_part.Goals as goal
 
 pub part_of_round-requires : goal.part_of_round-requires
 part_of_round-requires g c =
-    subst (IsReady c.args.slice) (sym (same_at c.loop-place.part c.args.part.now c.loop-place.place c.index-part-place.result c.loop-place.invariant.left)) (c.requires.ready c.loop-place.place c.index-part-place.result (omega arith))
+    subst (IsReady c.args.slice)
+    (sym (same_at c.loop-place.part c.args.part.now c.loop-place.place c.index-part-place.result
+    c.loop-place.invariant.left)) (c.requires.ready c.loop-place.place c.index-part-place.result (omega arith))
 
 pub loop-place-preserved : goal.loop-place-preserved
 loop-place-preserved g c =
     let h : c.loop-place.place < length c.loop-place.part = omega arith in
     record {
-      done = one_more part_of station_of (part_of_round c.args.holds.now c.args.slice c.args.round) c.loop-place.part c.args.part.now c.loop-place.place c.index-part-place.result c.part_of_round.new.self h c.loop-place.auto.part c.loop-place.invariant.done c.loop-place.invariant.left c.part_of_round.ensures;
-      left = same_after c.loop-place.part c.args.part.now c.loop-place.place c.part_of_round.new.self h c.loop-place.invariant.left;
+      done = one_more part_of station_of (part_of_round c.args.holds.now c.args.slice c.args.round) c.loop-place.part
+          c.args.part.now c.loop-place.place c.index-part-place.result c.part_of_round.new.self h c.loop-place.auto.part
+          c.loop-place.invariant.done c.loop-place.invariant.left c.part_of_round.ensures;
+      left = same_after c.loop-place.part c.args.part.now c.loop-place.place c.part_of_round.new.self h
+          c.loop-place.invariant.left;
     }

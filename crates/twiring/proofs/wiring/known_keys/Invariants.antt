@@ -9,4 +9,5 @@ use Rattle.twiring.proofs.wiring.known_keys.Given as goal
 abbrev pub invariant-loop-key : goal.invariant-loop-key
 invariant-loop-key l =
     (goal.iterator-loop-key).can_next l.key-iterator × (goal.iterator-loop-key).is_finite l.key-iterator
-    × (has_unknown (map (λ name. name.now) l.names) (table_view l.table) ≡ list_any (is_unknown (map (λ name. name.now) l.names)) l.key-iterator)
+    × (has_unknown (map (λ name. name.now) l.names) (table_view l.table)
+    ≡ list_any (is_unknown (map (λ name. name.now) l.names)) l.key-iterator)

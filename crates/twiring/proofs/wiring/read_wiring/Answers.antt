@@ -6,4 +6,5 @@ use Rattle.twiring.proofs.wiring.read_wiring.Goals as goal
 
 pub returns-in-Ok : goal.returns-in-Ok
 returns-in-Ok c =
-    subst (λ p. IsWiringAnswer p c.wiring.result) (wiring_in-whole (table_view c.in-Ok.root) ∙ sym (ap wiring_of_document c.in-Ok.ensures.ok)) c.wiring.ensures
+    subst (λ p. IsWiringAnswer p c.wiring.result) (wiring_in-whole (table_view c.in-Ok.root)
+    ∙ sym (ap wiring_of_document c.in-Ok.ensures.ok)) c.wiring.ensures

@@ -13,4 +13,5 @@ pub returns : goal.returns
 returns c =
     let read = text_read c.args.given.now c.args.id.now c.get_str.result c.get_str.ensures c.requires in
     let same : read.0 ≡ c.unwrap.result = cc in
-    IfOk-weaker c.from_str.result _ _ (λ s h. h ∙ sym (ap (λ (t : Bor Text). t.now) same) ∙ read.2) c.from_str.ensures.ok
+    IfOk-weaker c.from_str.result _ _ (λ s h. h ∙ sym (ap (λ (t : Bor Text). t.now) same) ∙ read.2)
+    c.from_str.ensures.ok

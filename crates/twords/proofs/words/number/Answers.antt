@@ -5,11 +5,15 @@ use Rattle.twords.proofs.words.number.Goals as goal
 
 pub unwrap-requires : goal.unwrap-requires
 unwrap-requires c =
-    let read = number_read _ (λ bs r. ParsesUnsigned 32 10 bs r × ExplainsUnsignedError 10 bs r × HasUnsignedDigitsIfOk bs r) c.args.given.now c.args.id.now c.get_one.result c.get_one.ensures.value (λ u x g. g.0) c.requires in
+    let read = number_read _ (λ bs r. ParsesUnsigned 32 10 bs r × ExplainsUnsignedError 10 bs r
+    × HasUnsignedDigitsIfOk bs r) c.args.given.now c.args.id.now c.get_one.result c.get_one.ensures.value
+    (λ u x g. g.0) c.requires in
     rw read.1
 
 pub returns : goal.returns
 returns c =
-    let read = number_read _ (λ bs r. ParsesUnsigned 32 10 bs r × ExplainsUnsignedError 10 bs r × HasUnsignedDigitsIfOk bs r) c.args.given.now c.args.id.now c.get_one.result c.get_one.ensures.value (λ u x g. g.0) c.requires in
+    let read = number_read _ (λ bs r. ParsesUnsigned 32 10 bs r × ExplainsUnsignedError 10 bs r
+    × HasUnsignedDigitsIfOk bs r) c.args.given.now c.args.id.now c.get_one.result c.get_one.ensures.value
+    (λ u x g. g.0) c.requires in
     let same : read.0 ≡ c.unwrap.result = cc in
     sym same ∙ read.2

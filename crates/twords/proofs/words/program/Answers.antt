@@ -5,7 +5,13 @@ use Rattle.twords.proofs.words.program.Goals as goal
 
 pub returns : goal.returns
 returns c =
-    let run = adds_command _ _ run_shape c.in_ok-run_parser.field-0 c.in_ok-subcommand.field-0 c.in_ok-subcommand.ensures c.in_ok-run_parser.ensures c.in_ok-top_parser.ensures in
-    let free = adds_command _ _ free_shape c.in_ok-free_parser.field-0 c.in_ok-subcommand-2.field-0 c.in_ok-subcommand-2.ensures c.in_ok-free_parser.ensures run in
-    let replay = adds_command _ _ replay_shape c.in_ok-replay_parser.field-0 c.in_ok-subcommand-3.field-0 c.in_ok-subcommand-3.ensures c.in_ok-replay_parser.ensures free in
-    IfOk-weaker c.subcommand-4.result _ _ (λ r h. adds_command _ _ dis_shape c.in_ok-dis_parser.field-0 r h c.in_ok-dis_parser.ensures replay) c.subcommand-4.ensures
+    let run = adds_command _ _ run_shape c.in_ok-run_parser.field-0 c.in_ok-subcommand.field-0
+    c.in_ok-subcommand.ensures c.in_ok-run_parser.ensures c.in_ok-top_parser.ensures in
+    let free = adds_command _ _ free_shape c.in_ok-free_parser.field-0 c.in_ok-subcommand-2.field-0
+    c.in_ok-subcommand-2.ensures c.in_ok-free_parser.ensures run in
+    let replay =
+    adds_command _ _ replay_shape c.in_ok-replay_parser.field-0 c.in_ok-subcommand-3.field-0
+    c.in_ok-subcommand-3.ensures c.in_ok-replay_parser.ensures free in
+    IfOk-weaker c.subcommand-4.result _ _
+    (λ r h. adds_command _ _ dis_shape c.in_ok-dis_parser.field-0 r h c.in_ok-dis_parser.ensures replay)
+    c.subcommand-4.ensures

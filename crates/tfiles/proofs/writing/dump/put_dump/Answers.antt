@@ -9,11 +9,16 @@ loop-number-init g c = goes_on-start c.args.out.now (dumps 0 c.args.net.now.node
 
 pub loop-number-preserved : goal.loop-number-preserved
 loop-number-preserved g c =
-    let below : c.loop-number.number < length c.args.net.now.nodes = rw c.nodes-node-items.ensures.held at c.loop-number-test.true in
-    let is : c.node-item.result ≡ get_or c.args.net.now.nodes c.loop-number.number c.node-item.result = rw c.nodes-node-items.ensures.held at c.node-item.is in
-    goes_on-next _ _ c.loop-number.invariant (dumps_next c.loop-number.number c.args.net.now.nodes c.node-item.result below is) c.put_node.ensures
+    let below : c.loop-number.number < length c.args.net.now.nodes =
+    rw c.nodes-node-items.ensures.held at c.loop-number-test.true in
+    let is : c.node-item.result ≡ get_or c.args.net.now.nodes c.loop-number.number c.node-item.result =
+    rw c.nodes-node-items.ensures.held at c.node-item.is in
+    goes_on-next _ _ c.loop-number.invariant
+    (dumps_next c.loop-number.number c.args.net.now.nodes c.node-item.result below is) c.put_node.ensures
 
 pub returns : goal.returns
 returns g c =
-    let over : length c.args.net.now.nodes ≤ c.loop-number.number = rw c.nodes-node-items.ensures.held at c.loop-number-test.false in
-    tells_as (goes_on-end c.loop-number.invariant (dumps_end c.loop-number.number c.args.net.now.nodes over)) (dumps_all c.args.net.now c.nodes-node-items.ensures.sound)
+    let over : length c.args.net.now.nodes ≤ c.loop-number.number =
+    rw c.nodes-node-items.ensures.held at c.loop-number-test.false in
+    tells_as (goes_on-end c.loop-number.invariant (dumps_end c.loop-number.number c.args.net.now.nodes over))
+    (dumps_all c.args.net.now c.nodes-node-items.ensures.sound)

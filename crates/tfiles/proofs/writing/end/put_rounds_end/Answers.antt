@@ -3,4 +3,8 @@ use Rattle.tfiles.proofs.Told.{tells_then, tells_as}
 use Rattle.tfiles.proofs.writing.end.put_rounds_end.Goals as goal
 
 pub returns : goal.returns
-returns g c = tells_then c.put.ensures (tells_then (tells_then c.put_how.ensures (tells_then c.put-2.ensures (tells_as c.put_decimal.ensures (ap decimal c.from.ensures)))) c.put-3.ensures)
+returns g c =
+    tells_then c.put.ensures
+    (tells_then
+    (tells_then c.put_how.ensures
+    (tells_then c.put-2.ensures (tells_as c.put_decimal.ensures (ap decimal c.from.ensures)))) c.put-3.ensures)

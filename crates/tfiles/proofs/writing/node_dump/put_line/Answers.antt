@@ -8,4 +8,5 @@ use Rattle.tfiles.proofs.writing.node_dump.put_line.Goals as goal
 pub returns-else-has_pending : goal.returns-else-has_pending
 returns-else-has_pending g c =
     tells_as c.put_cells-else-has_pending.ensures
-    (ap (λ (cells : Store). dump_line c.args.address cells) (shown_same c.args.pending.now c.args.address c.args.bytes.now (sym c.if-has_pending.ensures)))
+    (ap (λ (cells : Store). dump_line c.args.address cells)
+    (shown_same c.args.pending.now c.args.address c.args.bytes.now (sym c.if-has_pending.ensures)))

@@ -9,12 +9,16 @@ use Rattle.tfiles.proofs.writing.node_dump.put_lines.Goals as goal
 
 pub loop-line-init : goal.loop-line-init
 loop-line-init g c =
-    goes_on-as (goes_on-start c.args.out.now (lines_of (hiding (is_pending c.args.pending.now) (as_cells c.args.bytes.now)))) (lines_begin (hiding (is_pending c.args.pending.now) (as_cells c.args.bytes.now)))
+    goes_on-as
+    (goes_on-start c.args.out.now (lines_of (hiding (is_pending c.args.pending.now) (as_cells c.args.bytes.now))))
+    (lines_begin (hiding (is_pending c.args.pending.now) (as_cells c.args.bytes.now)))
 
 pub loop-line-preserved : goal.loop-line-preserved
 loop-line-preserved g c =
-    let within : 16 * c.loop-line.line < length c.args.bytes.now = is_within _ _ _ c.div_ceil-line-end.ensures c.loop-line-test.true in
-    let told : Tells g.W.Write.contents c.loop-line.out c.put_line.new.out (line_of (is_pending c.args.pending.now) c.loop-line.line c.args.bytes.now) =
+    let within : 16 * c.loop-line.line < length c.args.bytes.now =
+    is_within _ _ _ c.div_ceil-line-end.ensures c.loop-line-test.true in
+    let told : Tells g.W.Write.contents c.loop-line.out c.put_line.new.out
+    (line_of (is_pending c.args.pending.now) c.loop-line.line c.args.bytes.now) =
     first_of (search rules, grind (arith, common_steps)) in
     goes_on-next (line_of (is_pending c.args.pending.now) c.loop-line.line c.args.bytes.now) _ c.loop-line.invariant
     (lines_next (is_pending c.args.pending.now) c.loop-line.line c.args.bytes.now within) told
@@ -22,4 +26,5 @@ loop-line-preserved g c =
 pub returns : goal.returns
 returns g c =
     goes_on-end c.loop-line.invariant
-    (lines_end (is_pending c.args.pending.now) c.loop-line.line c.args.bytes.now (is_behind _ _ _ c.div_ceil-line-end.ensures c.loop-line-test.false))
+    (lines_end (is_pending c.args.pending.now) c.loop-line.line c.args.bytes.now
+    (is_behind _ _ _ c.div_ceil-line-end.ensures c.loop-line-test.false))

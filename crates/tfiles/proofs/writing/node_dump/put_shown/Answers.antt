@@ -7,11 +7,19 @@ use Rattle.tfiles.proofs.writing.node_dump.put_shown.Goals as goal
 
 pub loop-i-init : goal.loop-i-init
 loop-i-init g c =
-    goes_on-as (goes_on-start c.args.out.now (flat_map cell_text (hiding_from (is_pending c.args.pending.now) c.args.address (as_cells c.args.bytes.now))))
-    (ap (λ (a : ℕ). flat_map cell_text (hiding_from (is_pending c.args.pending.now) a (as_cells c.args.bytes.now))) (sym (add-zero c.args.address)))
+    goes_on-as
+    (goes_on-start c.args.out.now
+    (flat_map cell_text (hiding_from (is_pending c.args.pending.now) c.args.address (as_cells c.args.bytes.now))))
+    (ap (λ (a : ℕ). flat_map cell_text (hiding_from (is_pending c.args.pending.now) a (as_cells c.args.bytes.now)))
+    (sym (add-zero c.args.address)))
 
 pub loop-i-preserved : goal.loop-i-preserved
-loop-i-preserved g c = goes_on-next _ _ c.loop-i.invariant (cells_text_next (is_pending c.args.pending.now) c.args.address c.loop-i.i c.args.bytes.now c.loop-i-test.true) c.put_cell.ensures
+loop-i-preserved g c =
+    goes_on-next _ _ c.loop-i.invariant
+    (cells_text_next (is_pending c.args.pending.now) c.args.address c.loop-i.i c.args.bytes.now c.loop-i-test.true)
+    c.put_cell.ensures
 
 pub returns : goal.returns
-returns g c = goes_on-end c.loop-i.invariant (cells_text_end (is_pending c.args.pending.now) _ c.loop-i.i c.args.bytes.now c.loop-i-test.false)
+returns g c =
+    goes_on-end c.loop-i.invariant
+    (cells_text_end (is_pending c.args.pending.now) _ c.loop-i.i c.args.bytes.now c.loop-i-test.false)

@@ -3,4 +3,5 @@ use Rattle.tfiles.proofs.Told.{tells_then, tells_as}
 use Rattle.tfiles.proofs.writing.text.put_end.Goals as goal
 
 pub returns : goal.returns
-returns g c = tells_then (tells_as c.put_decimal.ensures (ap decimal c.from.ensures)) (tells_then c.put.ensures (tells_as c.put_decimal-2.ensures (ap decimal c.from-2.ensures)))
+returns g c = tells_then (tells_as c.put_decimal.ensures (ap decimal c.from.ensures))
+    (tells_then c.put.ensures (tells_as c.put_decimal-2.ensures (ap decimal c.from-2.ensures)))

@@ -3,4 +3,7 @@ use Rattle.tfiles.proofs.Told.{tells_then, tells_as}
 use Rattle.tfiles.proofs.writing.trace.put_freeze.Goals as goal
 
 pub returns : goal.returns
-returns g c = tells_then c.put.ensures (tells_then (tells_as c.put_decimal.ensures (ap decimal c.from.ensures)) (tells_then c.put-2.ensures (tells_as c.put-3.ensures c.break_name.ensures)))
+returns g c =
+    tells_then c.put.ensures
+    (tells_then (tells_as c.put_decimal.ensures (ap decimal c.from.ensures))
+    (tells_then c.put-2.ensures (tells_as c.put-3.ensures c.break_name.ensures)))

@@ -11,8 +11,12 @@ loop-note-init g c = goes_on-start c.args.out.now (trace_text c.args.notes.now)
 
 pub loop-note-preserved : goal.loop-note-preserved
 loop-note-preserved g c =
-    goes_on-next _ _ c.loop-note.invariant (flat_map-next (λ n. line (note_text n)) c.args.notes.now c.loop-note.note-index c.note-item.result c.loop-note-test.true)
+    goes_on-next _ _ c.loop-note.invariant
+    (flat_map-next (λ n. line (note_text n)) c.args.notes.now c.loop-note.note-index c.note-item.result
+    c.loop-note-test.true)
     (tells_as c.put_line.ensures (ap (λ (n : Note). line (note_text n)) c.note-item.is))
 
 pub returns : goal.returns
-returns g c = goes_on-end c.loop-note.invariant (flat_map-end (λ n. line (note_text n)) c.args.notes.now c.loop-note.note-index c.loop-note-test.false)
+returns g c =
+    goes_on-end c.loop-note.invariant
+    (flat_map-end (λ n. line (note_text n)) c.args.notes.now c.loop-note.note-index c.loop-note-test.false)

@@ -11,7 +11,9 @@ returns-in_err-open-in-None-clause-exact c =
     net_refused c.args.plan c.from_residual.result _ c.in-None.ensures p.1 (rw p.2 c.in_err-open-in-None.ensures)
 
 pub returns-in_ok-open-in-None-clause-exact : goal.returns-in_ok-open-in-None-clause-exact
-returns-in_ok-open-in-None-clause-exact c = λ _. net_built c.args.plan c.in_ok-open-in-None.field-0 c.in-None.ensures c.in_ok-open-in-None.ensures.0 c.in_ok-open-in-None.ensures.2
+returns-in_ok-open-in-None-clause-exact c =
+    λ _. net_built c.args.plan c.in_ok-open-in-None.field-0 c.in-None.ensures c.in_ok-open-in-None.ensures.0
+    c.in_ok-open-in-None.ensures.2
 
 pub returns-in_ok-open-in-None-clause-alike : goal.returns-in_ok-open-in-None-clause-alike
 returns-in_ok-open-in-None-clause-alike c = ap view c.in_ok-open-in-None.ensures.0 ∙ opens_alike c.args.plan

@@ -2,4 +2,5 @@ use Rattle.tnet.proofs.Quietness.{quiet_meant}
 use Rattle.tnet.proofs.net.Net.is_quiet.Goals as goal
 
 pub returns : goal.returns
-returns c = rw (← c.self.view_is) (quiet_meant c.self.inside.parts c.is_quiet.result c.self.invariant c.is_quiet.ensures)
+returns c =
+    rw (← c.self.view_is) (quiet_meant c.self.inside.parts c.is_quiet.result c.self.invariant c.is_quiet.ensures)

@@ -4,4 +4,5 @@ use Rattle.tnet.proofs.parts.Parts.step.Goals as goal
 
 pub returns-in-Err : goal.returns-in-Err
 returns-in-Err c =
-    event_refused c.args.event c.in-Some.asked c.args.self.now _ c.in-Err.fault c.step_node.result (sym c.node_event.ensures ∙ c.in-Some.is) c.step_node.ensures c.in-Err.is
+    event_refused c.args.event c.in-Some.asked c.args.self.now _ c.in-Err.fault c.step_node.result
+    (sym c.node_event.ensures ∙ c.in-Some.is) c.step_node.ensures c.in-Err.is

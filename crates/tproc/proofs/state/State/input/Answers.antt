@@ -1,5 +1,5 @@
 use Rattle.std.proofs.Common.{◌≤◌, length, ap, sym, arith}
-use Rattle.tproc.specs.declared.waiting.LinkEnd.{LinkEnd}
+use Rattle.tproc.specs.declared.waiter.LinkEnd.{LinkEnd}
 use Rattle.tproc.proofs.Ready.{past_the_end}
 use Rattle.tproc.proofs.state.State.input.Goals as goal
 

@@ -1,5 +1,5 @@
 use Rattle.std.proofs.Common.{◌∙◌, ap, length, List, Some, [], ◌∷◌, ◌++◌, length-append, arith}
-use Rattle.tproc.specs.declared.waiting.Waiter.{Waiter}
+use Rattle.tproc.specs.declared.waiter.Waiter.{Waiter}
 use Rattle.tproc.specs.Entries.{present}
 use Rattle.tproc.proofs.Entries.{pushed, pushed_length}
 use Rattle.tproc.proofs.waiting_list.WaitingList.push.Goals as goal
@@ -20,4 +20,5 @@ pub returns : goal.returns
 returns c =
     let es = c.make_room.new.entries.items in
     let w : Waiter = record { process = c.args.process; reason = c.args.reason } in
-    rw (← c.self.view_is) (ap present c.push_reserved.ensures.items ∙ pushed es w ∙ ap (λ (ws : List Waiter). ws ++ w ∷ []) c.make_room.ensures.same)
+    rw (← c.self.view_is) (ap present c.push_reserved.ensures.items ∙ pushed es w
+    ∙ ap (λ (ws : List Waiter). ws ++ w ∷ []) c.make_room.ensures.same)

@@ -8,4 +8,6 @@ returns-clause-part c =
     ∙ ap (λ (p : Part). part_arrivals c.args.self.now.inboxes c.args.holds.now c.args.round p 3)
     (c.arrivals_at-3.ensures.part
     ∙ ap (λ (p : Part). part_arrivals c.args.self.now.inboxes c.args.holds.now c.args.round p 2)
-    (c.arrivals_at-2.ensures.part ∙ ap (λ (p : Part). part_arrivals c.args.self.now.inboxes c.args.holds.now c.args.round p 1) c.arrivals_at.ensures.part))
+    (c.arrivals_at-2.ensures.part
+    ∙ ap (λ (p : Part). part_arrivals c.args.self.now.inboxes c.args.holds.now c.args.round p 1)
+    c.arrivals_at.ensures.part))

@@ -11,7 +11,8 @@ returns-then-start-end c =
     let size = c.args.span.now.size in
     let some : 0 < size = omega arith in
     c.any_meets.ensures
-    ∙ rw (c.bounds-start.ensures.first, c.bounds-start.ensures.behind) (ap (λ (bs : List (ℕ × ℕ)). list_any (meets start (start + size)) bs) c.self.invariant.1)
+    ∙ rw (c.bounds-start.ensures.first, c.bounds-start.ensures.behind)
+    (ap (λ (bs : List (ℕ × ℕ)). list_any (meets start (start + size)) bs) c.self.invariant.1)
     ∙ meets_any start size c.self.inside.claimed some
     ∙ rw (← c.self.view_is) refl
 

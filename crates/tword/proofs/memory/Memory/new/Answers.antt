@@ -5,4 +5,5 @@ use Rattle.tword.proofs.memory.Memory.new.Goals as goal
 
 pub returns-in-Ok-clause-zeros : goal.returns-in-Ok-clause-zeros
 returns-in-Ok-clause-zeros c =
-    ap (λ (bs : List ℕ). as_cells bs) (c.in-Ok.ensures.items_if_clones_equal (λ y e. search rules)) ∙ as_cells-replicate c.args.size 0
+    ap (λ (bs : List ℕ). as_cells bs) (c.in-Ok.ensures.items_if_clones_equal (λ y e. search rules))
+    ∙ as_cells-replicate c.args.size 0

@@ -6,4 +6,5 @@ use Rattle.tword.proofs.memory.Memory.set_byte.Goals as goal
 pub returns-clause-set : goal.returns-clause-set
 returns-clause-set c =
     let b = bounds _ (byte_span c.args.address) c.requires (omega arith) in
-    byte_put _ _ c.args.address _ c.args.value c.self.view_is c.place.ensures (omega (arith, b, c.place.ensures, length-as_cells c.self.inside.bytes.items c.args.self.now c.self.view_is))
+    byte_put _ _ c.args.address _ c.args.value c.self.view_is c.place.ensures
+    (omega (arith, b, c.place.ensures, length-as_cells c.self.inside.bytes.items c.args.self.now c.self.view_is))

@@ -4,4 +4,5 @@ use Rattle.tfiles.proofs.writing.output.Output.send.Goals as goal
 
 pub returns-clause-told : goal.returns-clause-told
 returns-clause-told g c =
-    tells_handed c.args.self.now _ c.as_slice.result.now [] (c.as_slice.ensures ∙ sym (append-nil c.args.self.now.waiting)) refl c.hand_on-self.ensures c.clear.ensures
+    tells_handed c.args.self.now _ c.as_slice.result.now [] (c.as_slice.ensures
+    ∙ sym (append-nil c.args.self.now.waiting)) refl c.hand_on-self.ensures c.clear.ensures

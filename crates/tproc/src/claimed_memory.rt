@@ -1,0 +1,320 @@
+//! The memory of a node with the claims on it.
+
+ghost use Rattle.std.specs.Prelude.{ℕ, [], ◌∷◌, ◌≡◌, ◌<◌, ◌≤◌, ◌+◌, ◌↔◌, length, not, true, None, IfOk, OnOk, Some};
+ghost use Rattle.std.specs.Prelude.{is_some, replicate, IsErrOf};
+ghost use Rattle.tword.specs.Accesses.{Changing, Frees, IsMemorySize, no_claims, with_output, with_input};
+ghost use Rattle.tword.specs.Accesses.{without_output, without_input};
+ghost use Rattle.tword.specs.declared.breaks.Break.TheVariants.{SavedWord};
+ghost use Rattle.tword.specs.Stores.{word_at, with_word, with_cells, cells, as_cells, byte_at};
+ghost use Rattle.tword.specs.Claims.{saving, has_saved, saved_words, overlap};
+ghost use Rattle.tword.specs.Touches.{Reads, Writes, word_break, span_break, copy_break, deschedule_break};
+ghost use Rattle.tword.specs.Touches.{is_inside, byte_span};
+ghost use Rattle.tword.specs.Words.{word_below};
+ghost use Rattle.tword.specs.Actions.{or_break, is_slot, unmet};
+
+use crate::workspace::below;
+use std::alloc::{AllocError, Global};
+use tword::limits::MOST_NEG;
+use tword::{Break, Marks, Memory, MemoryFault, Span, Word};
+
+/// A memory with its claims. Of each change there is one call that checks it, or one for a caller that has checked
+/// it.
+#[derive(Drop)]
+pub struct ClaimedMemory {
+    pub memory: Memory,
+    pub marks: Marks,
+    ghost size: { length memory ≤ 1048576 },
+    ghost inside: { (w : ℕ) → has_saved marks w ≡ true → is_inside (length memory) (saved_words w) ≡ true },
+}
+
+/// The three words below a workspace.
+fn words_below(workspace: Word) -> Span
+    ensures { result ≡ saved_words workspace }
+{
+    Span {
+        start: below(workspace, 3),
+        size: 12,
+    }
+}
+
+/// Whether a span keeps clear of the three words below a workspace.
+#[inline]
+fn keep_clear(workspace: Word, start: Word, size: u32) -> Result<(), Break>
+    ensures { result
+        ≡ or_break (unmet (not (overlap (record { start = start; size = size }) (saved_words workspace))) SavedWord)
+        tt }
+{
+    let span = Span { start, size };
+    if span.overlaps(&words_below(workspace)) {
+        Err(Break::SavedWord)
+    } else {
+        Ok(())
+    }
+}
+
+impl ClaimedMemory {
+    /// A memory of this many bytes, all 0, and no claims: no other call takes memory.
+    ///
+    /// # Errors
+    /// `BadSize` for a size that no memory has, else `OutOfMemory` where the allocator refuses.
+    pub fn new(alloc: Global, size: u32) -> Result<ClaimedMemory, MemoryFault>
+        ensures zeros { IfOk result (λ claimed. claimed.memory ≡ replicate size (Some 0)) }
+        ensures free { IfOk result (λ claimed. claimed.marks ≡ no_claims) }
+        ensures sized { OnOk result (IsMemorySize size) }
+        ensures bad_size { IsErrOf result MemoryFault.BadSize ↔ ¬ IsMemorySize size }
+    {
+        let memory = Memory::new(alloc, size)?;
+        let marks = Marks::new(alloc)?;
+        Ok(ClaimedMemory { memory, marks })
+    }
+
+    /// The same memory with the same claims.
+    ///
+    /// # Errors
+    /// Where the allocator refuses.
+    pub fn try_copy(&self, alloc: Global) -> Result<ClaimedMemory, AllocError>
+        ensures memory { IfOk result (λ claimed. claimed.memory ≡ self.now.memory) }
+        ensures marks { IfOk result (λ claimed. claimed.marks ≡ self.now.marks) }
+    {
+        let memory = self.memory.try_copy(alloc)?;
+        let marks = self.marks.try_copy(alloc)?;
+        Ok(ClaimedMemory { memory, marks })
+    }
+
+    /// Whether the words of a workspace are saved.
+    #[inline]
+    pub fn has_saved(&self, workspace: Word) -> bool
+        ensures { result ≡ has_saved self.now.marks workspace }
+    {
+        self.marks.has_saved(workspace)
+    }
+
+    /// The word at an address.
+    pub fn read_word(&self, address: Word) -> Result<Word, Break>
+        ensures { result ≡ or_break (word_break (length self.now.memory) self.now.marks Reads address)
+            (word_at self.now.memory address) }
+    {
+        self.memory.read_word(&self.marks, address)
+    }
+
+    /// The word at an address that may be written later.
+    pub fn take_word(&self, address: Word) -> Result<Word, Break>
+        ensures { result ≡ or_break (word_break (length self.now.memory) self.now.marks Writes address)
+            (word_at self.now.memory address) }
+    {
+        self.memory.take_word(&self.marks, address)
+    }
+
+    /// Sets the word at an address.
+    pub fn write_word(&mut self, address: Word, value: Word) -> Result<(), Break>
+        ensures change { Changing (word_break (length self.old.memory) self.old.marks Writes address) self.old.memory
+            (with_word self.old.memory address value) result self.new.memory }
+        ensures size { length self.new.memory ≡ length self.old.memory }
+        ensures claims { self.new.marks ≡ self.old.marks }
+    {
+        self.memory.write_word(&self.marks, address, value)
+    }
+
+    /// Whether the word at an address may be written.
+    pub fn may_write_word(&self, address: Word) -> Result<(), Break>
+        ensures { result ≡ or_break (word_break (length self.now.memory) self.now.marks Writes address) tt }
+    {
+        self.memory.may_write_word(&self.marks, address)
+    }
+
+    /// The same, once the words of a workspace are saved.
+    pub fn may_write_word_beside(&self, workspace: Word, address: Word) -> Result<(), Break>
+        ensures { result
+            ≡ or_break (word_break (length self.now.memory) (saving workspace self.now.marks) Writes address) tt }
+    {
+        self.memory.may_write_word(&self.marks, address)?;
+        keep_clear(workspace, address, 4)
+    }
+
+    /// Sets a word that may be written.
+    #[tactic(auto, using(crate::proofs::Touching::word_inside))]
+    pub fn set_word(&mut self, address: Word, value: Word)
+        requires { word_break (length self.old.memory) self.old.marks Writes address ≡ None }
+        ensures cells { self.new.memory ≡ with_word self.old.memory address value }
+        ensures size { length self.new.memory ≡ length self.old.memory }
+        ensures claims { self.new.marks ≡ self.old.marks }
+    {
+        self.memory.set_word(address, value);
+    }
+
+    /// Whether some bytes may be read.
+    pub fn may_read(&self, start: Word, size: u32) -> Result<(), Break>
+        ensures { result
+            ≡ or_break
+            (span_break (length self.now.memory) self.now.marks Reads (record { start = start; size = size })) tt }
+    {
+        self.memory.may_read(&self.marks, start, size)
+    }
+
+    /// The same, once the words of a workspace are saved.
+    pub fn may_read_beside(&self, workspace: Word, start: Word, size: u32) -> Result<(), Break>
+        ensures { result
+            ≡ or_break
+            (span_break (length self.now.memory) (saving workspace self.now.marks) Reads
+            (record { start = start; size = size })) tt }
+    {
+        self.memory.may_read(&self.marks, start, size)?;
+        keep_clear(workspace, start, size)
+    }
+
+    /// Whether some bytes may be written.
+    pub fn may_write(&self, start: Word, size: u32) -> Result<(), Break>
+        ensures { result
+            ≡ or_break
+            (span_break (length self.now.memory) self.now.marks Writes (record { start = start; size = size })) tt }
+    {
+        self.memory.may_write(&self.marks, start, size)
+    }
+
+    /// The same, once the words of a workspace are saved.
+    pub fn may_write_beside(&self, workspace: Word, start: Word, size: u32) -> Result<(), Break>
+        ensures { result
+            ≡ or_break
+            (span_break (length self.now.memory) (saving workspace self.now.marks) Writes
+            (record { start = start; size = size })) tt }
+    {
+        self.memory.may_write(&self.marks, start, size)?;
+        keep_clear(workspace, start, size)
+    }
+
+    /// Whether some bytes may be copied.
+    pub fn may_copy(&self, from: Word, to: Word, count: u32) -> Result<(), Break>
+        ensures { result ≡ or_break (copy_break (length self.now.memory) self.now.marks from to count) tt }
+    {
+        self.memory.may_copy(&self.marks, from, to, count)
+    }
+
+    /// Copies bytes that may be.
+    #[tactic(auto, using(crate::proofs::Touching::source_inside, crate::proofs::Touching::target_inside))]
+    pub fn copy(&mut self, from: Word, to: Word, count: u32)
+        requires { copy_break (length self.old.memory) self.old.marks from to count ≡ None }
+        ensures cells { self.new.memory ≡ with_cells self.old.memory to (cells self.old.memory from count) }
+        ensures size { length self.new.memory ≡ length self.old.memory }
+        ensures claims { self.new.marks ≡ self.old.marks }
+    {
+        self.memory.copy(from, to, count);
+    }
+
+    /// Whether a workspace may be descheduled.
+    pub fn may_deschedule(&self, workspace: Word) -> Result<(), Break>
+        ensures { result ≡ or_break (deschedule_break (length self.now.memory) self.now.marks workspace) tt }
+    {
+        self.memory.may_deschedule(&self.marks, workspace)
+    }
+
+    /// Saves the words of a workspace that may be descheduled.
+    #[tactic(auto, using(crate::proofs::Touching::claimable, crate::proofs::Touching::unclaimed))]
+    pub fn deschedule(&mut self, workspace: Word)
+        requires free { deschedule_break (length self.old.memory) self.old.marks workspace ≡ None }
+        requires room { length self.old.marks.saved < 512 }
+        ensures cells { self.new.memory ≡ self.old.memory }
+        ensures claims { self.new.marks ≡ saving workspace self.old.marks }
+    {
+        self.marks.claim_saved_known(workspace);
+    }
+
+    /// The words of a workspace are free again.
+    pub fn free(&mut self, workspace: Word)
+        requires { has_saved self.old.marks workspace ≡ true }
+        ensures frees { Frees workspace self.old.marks self.new.marks }
+        ensures counts { length self.new.marks.saved + 1 ≡ length self.old.marks.saved }
+        ensures same { (self.new.marks.inputs ≡ self.old.marks.inputs)
+            × (self.new.marks.outputs ≡ self.old.marks.outputs) }
+        ensures cells { self.new.memory ≡ self.old.memory }
+    {
+        self.marks.release_saved(workspace);
+    }
+
+    /// Word `-k` of a workspace whose words are saved.
+    #[tactic(auto, using(crate::proofs::Touching::saved_word_inside))]
+    pub fn saved_word(&self, workspace: Word, k: u32) -> Word
+        requires slot { is_slot k ≡ true }
+        requires saved { has_saved self.now.marks workspace ≡ true }
+        ensures { result ≡ word_at self.now.memory (word_below workspace k) }
+    {
+        self.memory.word(below(workspace, k))
+    }
+
+    /// Sets word `-k` of a workspace whose words are saved.
+    #[tactic(auto, using(crate::proofs::Touching::saved_word_inside))]
+    pub fn set_saved_word(&mut self, workspace: Word, k: u32, value: Word)
+        requires slot { is_slot k ≡ true }
+        requires saved { has_saved self.old.marks workspace ≡ true }
+        ensures cells { self.new.memory ≡ with_word self.old.memory (word_below workspace k) value }
+        ensures size { length self.new.memory ≡ length self.old.memory }
+        ensures claims { self.new.marks ≡ self.old.marks }
+    {
+        self.memory.set_word(below(workspace, k), value);
+    }
+
+    /// A link claims the buffer of its pending output.
+    pub fn claim_output(&mut self, link: u8, buffer: Word, size: u32)
+        requires { link < 4 }
+        ensures cells { self.new.memory ≡ self.old.memory }
+        ensures claims { self.new.marks ≡ with_output link (record { start = buffer; size = size }) self.old.marks }
+    {
+        self.marks.claim_out_known(link, buffer, size);
+    }
+
+    /// A link claims the buffer of its pending input.
+    pub fn claim_input(&mut self, link: u8, buffer: Word, size: u32)
+        requires { link < 4 }
+        ensures cells { self.new.memory ≡ self.old.memory }
+        ensures claims { self.new.marks ≡ with_input link (record { start = buffer; size = size }) self.old.marks }
+    {
+        self.marks.claim_in_known(link, buffer, size);
+    }
+
+    /// The output of a link claims nothing any more.
+    pub fn release_output(&mut self, link: u8)
+        requires { link < 4 }
+        ensures cells { self.new.memory ≡ self.old.memory }
+        ensures claims { self.new.marks ≡ without_output link self.old.marks }
+    {
+        self.marks.release_out(link);
+    }
+
+    /// The input of a link claims nothing any more.
+    pub fn release_input(&mut self, link: u8)
+        requires { link < 4 }
+        ensures cells { self.new.memory ≡ self.old.memory }
+        ensures claims { self.new.marks ≡ without_input link self.old.marks }
+    {
+        self.marks.release_in(link);
+    }
+
+    /// Puts bytes into the memory.
+    pub fn load(&mut self, start: Word, bytes: &[u8])
+        requires { is_inside (length self.old.memory) (record { start = start; size = length bytes.now }) ≡ true }
+        ensures cells { self.new.memory ≡ with_cells self.old.memory start (as_cells bytes.now) }
+        ensures claims { self.new.marks ≡ self.old.marks }
+    {
+        self.memory.load(start, bytes);
+    }
+
+    /// Sets a byte of the memory.
+    pub fn set_byte(&mut self, address: Word, byte: u8)
+        requires { is_inside (length self.old.memory) (byte_span address) ≡ true }
+        ensures cells { self.new.memory ≡ with_cells self.old.memory address (as_cells (byte ∷ [])) }
+        ensures claims { self.new.marks ≡ self.old.marks }
+    {
+        self.memory.set_byte(address, byte);
+    }
+
+    /// The byte at an address, and `None` outside the memory alone.
+    pub fn byte_at(&self, address: Word) -> Option<u8>
+        ensures byte { result ≡ byte_at self.now.memory address }
+        ensures there { is_some result ≡ is_inside (length self.now.memory) (byte_span address) }
+    {
+        if MOST_NEG <= address.get() && address.get() - MOST_NEG < self.memory.size() {
+            Some(self.memory.byte(address))
+        } else {
+            None
+        }
+    }
+}
