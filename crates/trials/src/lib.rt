@@ -1,10 +1,6 @@
-//! Proved tests of what no case of the built program can show, by subject.
+//! Proved tests of nets, rounds, free workers and texts, which no case of the built program can show, by subject.
 #![tactic(auto)]
 
-#[cfg(test)]
-mod boundaries;
-#[cfg(test)]
-mod encodings;
 #[cfg(test)]
 mod events;
 #[cfg(test)]
@@ -13,8 +9,6 @@ mod free;
 mod gates;
 #[cfg(test)]
 mod plans;
-#[cfg(test)]
-mod processors;
 #[cfg(test)]
 mod refused;
 #[cfg(test)]
