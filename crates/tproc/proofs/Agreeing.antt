@@ -15,7 +15,8 @@ use Rattle.tproc.specs.declared.waiter.Waiter.{Waiter}
 use Rattle.tproc.specs.declared.waiter.LinkEnd.{LinkEnd}
 use Rattle.tproc.specs.Queues.{appended, waiting_for, without_waiter}
 use Rattle.tproc.specs.declared.offer.Offer.{Offer}
-use Rattle.tproc.specs.Channels.{Side, Input, Output}
+use Rattle.tproc.specs.declared.channels.Side.{Side}
+use Rattle.tproc.specs.declared.channels.Side.TheVariants.{Input, Output}
 use Rattle.tproc.specs.LinkChannels.{link_end, with_link, quiet_end, ended_at, without_buffer}
 use Rattle.tproc.specs.Agreement.{AgreesWith, Agrees, Settles, Unsettles, Leaves, IsPlain, StillSaved, StillAgrees}
 use Rattle.tword.specs.Accesses.{Frees, with_input, with_output, without_input, without_output}

@@ -22,11 +22,15 @@ use Rattle.tproc.specs.Machine.{Control, workspace_of, priority_of}
 use Rattle.tproc.specs.declared.waiter.LinkEnd.{LinkEnd}
 use Rattle.tproc.specs.declared.waiter.Suspended.{Suspended}
 use Rattle.tproc.specs.declared.waiter.Reason.TheVariants.{Receives, Sends, Chooses}
-use Rattle.tproc.specs.ProcessStatus.{ProcessStatus, Waits, Queued, Runs, Interrupted, standing, is_live, is_among}
+use Rattle.tproc.specs.declared.process_status.ProcessStatus.{ProcessStatus}
+use Rattle.tproc.specs.declared.process_status.ProcessStatus.TheVariants.{Waits, Queued, Runs, Interrupted}
+use Rattle.tproc.specs.ProcessStatus.{standing, is_live, is_among}
 use Rattle.tproc.specs.ProcessStatus.{queue}
 use Rattle.tproc.specs.Queues.{appended, not_process, iptr_word, link_word, state_word, last_of, link_from, enqueue}
 use Rattle.tproc.specs.Queues.{release, without_waiter, at_rest, waiting_for, admit, add_process}
-use Rattle.tproc.specs.Channels.{enabling, waiting_state, ready, set_touched_word, Side, Input, Output, Request}
+use Rattle.tproc.specs.declared.channels.Side.{Side}
+use Rattle.tproc.specs.declared.channels.Side.TheVariants.{Input, Output}
+use Rattle.tproc.specs.Channels.{enabling, waiting_state, ready, set_touched_word, Request}
 use Rattle.tproc.specs.Channels.{waits_on_channel, exchanged, reason_for, input_meets, output_meets, meets}
 use Rattle.tproc.specs.Channels.{internal_message, goes_on, own_side}
 use Rattle.tproc.specs.LinkChannels.{offered, link_end, with_link, link_of, is_link, link_message, message, check_end}

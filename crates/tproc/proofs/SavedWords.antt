@@ -19,7 +19,9 @@ use Rattle.tproc.specs.declared.offer.Ran.{Ran}
 use Rattle.tproc.specs.Machine.{Control, Machine, descheduled, buffer_of, claims_of}
 use Rattle.tproc.specs.declared.waiter.LinkEnd.{LinkEnd}
 use Rattle.tproc.specs.declared.waiter.Reason.TheVariants.{Chooses}
-use Rattle.tproc.specs.ProcessStatus.{ProcessStatus, Waits, Queued, Runs, Interrupted, standing, is_among, queue}
+use Rattle.tproc.specs.declared.process_status.ProcessStatus.{ProcessStatus}
+use Rattle.tproc.specs.declared.process_status.ProcessStatus.TheVariants.{Waits, Queued, Runs, Interrupted}
+use Rattle.tproc.specs.ProcessStatus.{standing, is_among, queue}
 use Rattle.tproc.specs.Queues.{iptr_word, link_word, last_of, add_process}
 use Rattle.tproc.specs.LinkChannels.{link_end, with_link}
 use Rattle.tproc.specs.Placement.{IsWord, IsWorkspace, IsPlaced}

@@ -26,9 +26,12 @@ use Rattle.tproc.specs.declared.offer.Ran.{Ran}
 use Rattle.tproc.specs.declared.offer.Ran.TheVariants.{Instruction}
 use Rattle.tproc.specs.declared.waiter.Reason.TheVariants.{Sends, Receives, Chooses, LinkInput, LinkOutput}
 use Rattle.tproc.specs.Machine.{Control, Machine, claims_of}
-use Rattle.tproc.specs.ProcessStatus.{ProcessStatus, Waits, Queued, Runs, Interrupted, Unknown, standing}
+use Rattle.tproc.specs.declared.process_status.ProcessStatus.{ProcessStatus}
+use Rattle.tproc.specs.declared.process_status.ProcessStatus.TheVariants.{Waits, Queued, Runs, Interrupted, Unknown}
+use Rattle.tproc.specs.ProcessStatus.{standing}
 use Rattle.tproc.specs.Queues.{iptr_word, state_word, not_process, waiting_for}
-use Rattle.tproc.specs.Channels.{StepAction, Input, goes_on, waiting_state, ready}
+use Rattle.tproc.specs.declared.channels.Side.TheVariants.{Input}
+use Rattle.tproc.specs.Channels.{StepAction, goes_on, waiting_state, ready}
 use Rattle.tproc.specs.LinkChannels.{is_link, link_of, link_end, with_link, check_end, check_free}
 use Rattle.tproc.specs.Alternatives.{none_selected, awaits_choice, disable_found, disable_internal, disable_link}
 use Rattle.tproc.specs.Alternatives.{disable, selects, disables_channel}

@@ -5,6 +5,8 @@ use Rattle.std.specs.Prelude.{find, option_map, option_to_list, if◌then◌else
 use Rattle.std.specs.List.{list_any}
 use Rattle.tproc.specs.Machine.{Control, priority_of, workspace_of, descheduled}
 use Rattle.tproc.specs.declared.waiter.Reason.{Reason}
+use Rattle.tproc.specs.declared.process_status.ProcessStatus.{ProcessStatus}
+use Rattle.tproc.specs.declared.process_status.ProcessStatus.TheVariants.{Waits, Queued, Runs, Interrupted, Unknown}
 
 -- the workspace is in the list
 abbrev pub is_among : ℕ → List ℕ → Bool
@@ -35,11 +37,6 @@ interrupted_process m = option_map (λ s. s.registers.wptr + 1) m.interrupted
 abbrev pub is_that : Option ℕ → ℕ → Bool
 is_that None process = false
 is_that (Some p) process = p == process
-
--- where a descriptor is found: a process that waits, that is queued, that runs, that was interrupted, or none
-pub data ProcessStatus : Type 0 where
-  Waits : Reason → ProcessStatus
-  Queued Runs Interrupted Unknown : ProcessStatus
 
 -- where a descriptor is found that does not wait; a queued one comes first, since the current process may have moved
 -- onto its workspace

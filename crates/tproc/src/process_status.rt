@@ -5,7 +5,7 @@ ghost use Rattle.tproc.specs.ProcessStatus.{is_live, is_queued as the_queued, re
 ghost use Rattle.tproc.specs.ProcessStatus.{standing as the_standing};
 ghost use Rattle.tproc.specs.LinkChannels.{is_running};
 ghost use Rattle.tproc.specs.Agreement.{IsPlain, IsReady};
-ghost use Rattle.tproc.specs.Requests.{standing_of, reason_in, IfQueued};
+ghost use Rattle.tproc.specs.Requests.{reason_in, IfQueued};
 
 use crate::claimed_memory::ClaimedMemory;
 use crate::state::{State, workspace_of};
@@ -81,7 +81,7 @@ impl State {
     #[tactic(auto, using(crate::proofs::Entries::queued_not_waiting))]
     pub fn standing(&self, process: Word) -> ProcessStatus
         requires { IsPlain self.now }
-        ensures stands { standing_of result ≡ the_standing self.now process }
+        ensures stands { result ≡ the_standing self.now process }
         ensures waits { the_reason self.now process ≡ reason_in result }
         ensures queued { IfQueued result (the_queued self.now process ≡ true) }
     {

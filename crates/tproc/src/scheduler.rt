@@ -12,7 +12,7 @@ ghost use Rattle.tproc.specs.Scheduler.{sends_from_workspace};
 ghost use Rattle.tproc.specs.declared.offer.Ran.TheVariants as ran;
 ghost use Rattle.tproc.specs.Agreement.{Agrees, IsOwn, IsReady, StillAgrees, is_over};
 ghost use Rattle.tproc.specs.Doing.{Does, laid};
-ghost use Rattle.tproc.specs.Requests.{offers_at_workspace, request, side_of, MayLay};
+ghost use Rattle.tproc.specs.Requests.{offers_at_workspace, request, MayLay};
 
 use crate::channels::{Request, Side};
 use crate::claimed_memory::ClaimedMemory;
@@ -213,7 +213,7 @@ pub fn communicate(
 ) -> Result<Ran, Break>
     requires running { state.old.current ≡ Some priority }
     requires ready { IsReady claimed.old.marks state.old }
-    ensures done { Does (run (communicates (side_of side) (state.old.registers.wptr + priority) state.old)
+    ensures done { Does (run (communicates side (state.old.registers.wptr + priority) state.old)
         claimed.old.memory
         claimed.old.marks) state.old claimed.old.memory result state.new claimed.new.memory }
     ensures agrees { Agrees claimed.new.marks state.new }
