@@ -30,9 +30,8 @@ impl Model for Node {
 }
 
 impl Node {
-    /// A node before its first event, and which of its links have a wire. Its processor may be at any point of its
-    /// run, as long
-    /// as no byte was noticed at its links.
+    /// A node before its first event, and which of its links have a wire. Its processor may be at any point of its run,
+    /// as long as no byte was noticed at its links.
     pub fn new(processor: Processor, wired: [bool; 4]) -> Self
         requires { HasNoticedNothing processor.control }
         ensures { result ≡ fresh_node processor wired }
@@ -57,9 +56,8 @@ impl Node {
     /// Does one event.
     ///
     /// # Errors
-    /// `NotEnabled` where the machine does not enable the event: nothing has changed. `Frozen` where the event
-    /// breaks a rule:
-    /// the node is frozen with that break, and nothing else has changed.
+    /// `NotEnabled` where the machine does not enable the event: nothing has changed. `Frozen` where the event breaks a
+    /// rule: the node is frozen with that break, and nothing else has changed.
     #[inline]
     pub fn step(&mut self, event: NodeEvent) -> Result<Emitted, StepFault>
         ensures told { result ≡ node_answered (happens event self.old) }

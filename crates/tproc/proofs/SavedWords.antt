@@ -44,8 +44,9 @@ use Rattle.tproc.proofs.Pending.{at_some}
 use Rattle.tproc.proofs.Handing.{Lies, buffer_lies}
 use Rattle.tproc.proofs.SavedSets.{Sets}
 use Rattle.tproc.proofs.SavedRuns.{Leaves, LinkIs, IsFine, leaves_self, put_leaves, sets_run}
-use Rattle.tproc.proofs.SavedRows.{Turns, StepTurns, PartTurns, stays, control-turns, wakes-turns, readies_queued-turns}
-use Rattle.tproc.proofs.SavedRows.{readies_running-turns, finished-turns, added-turns}
+use Rattle.tproc.proofs.QueueLinks.{Turns, StepTurns, PartTurns, stays}
+use Rattle.tproc.proofs.SavedRows.{control-turns, wakes-turns, readies_queued-turns, readies_running-turns}
+use Rattle.tproc.proofs.SavedRows.{finished-turns, added-turns}
 
 -- what a move leaves of the queues and of the store, by the link that it set
 abbrev Told : Machine → Machine → Type 0

@@ -1,12 +1,12 @@
--- Requests, and where a process stands, as the machine sees them.
+-- Touches, requests, and where a process stands, as the machine sees them.
 -- Source: own choice, words for contracts.
-use Rattle.std.specs.Prelude.{◌≡◌, ℕ, Bool, ◌||◌, ◌==◌, Option, Some, None, IfSome}
+use Rattle.std.specs.Prelude.{◌≡◌, ℕ, Bool, ◌||◌, ◌==◌, Option, Some, None, Result, IfSome}
 use Rattle.tword.specs.declared.breaks.Break.{Break}
 use Rattle.tword.specs.declared.breaks.Break.TheVariants.{Unaligned, WrongEnd}
 use Rattle.tword.specs.Words.{word_below}
 use Rattle.tword.specs.Claims.{Claims, saving}
-use Rattle.tword.specs.Touches.{Writes, is_aligned, first_break, span_break, word_break, deschedule_break}
-use Rattle.tword.specs.Actions.{unmet}
+use Rattle.tword.specs.Touches.{Mode, Writes, is_aligned, first_break, span_break, word_break, deschedule_break}
+use Rattle.tword.specs.Actions.{or_break, unmet}
 use Rattle.tproc.specs.Channels as channels
 use Rattle.tproc.specs.LinkChannels.{is_right_end, message}
 use Rattle.tcpu.specs.Outcomes.{pop}
@@ -17,6 +17,11 @@ use Rattle.tproc.specs.declared.channels.Side.TheVariants.{Output}
 use Rattle.tproc.specs.declared.channels.Request.{Request}
 use Rattle.tproc.specs.declared.process_status.ProcessStatus.{ProcessStatus}
 use Rattle.tproc.specs.declared.process_status.ProcessStatus.TheVariants.{Waits, Queued}
+
+-- the check of a touch of some bytes: its break, if it has one
+abbrev pub may_touch : (memory_size : ℕ) (claims : Claims) (mode : Mode) (start size : ℕ) → Result (Unit {0}) Break
+may_touch memory_size claims mode start size =
+    or_break (span_break memory_size claims mode (record { start = start; size = size })) tt
 
 -- a request, without the registers that go on and the word that is laid down
 abbrev pub request : Request → channels.Request

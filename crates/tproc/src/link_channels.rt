@@ -141,7 +141,7 @@ fn wait_on_link(state: &mut State, claimed: &mut ClaimedMemory, q: &Request, lin
 }
 
 /// A message on a link: its process waits until the whole message has gone over.
-#[tactic(auto, using(crate::proofs::Places::place_own, crate::proofs::Places::room_own, crate::proofs::Agreeing::agrees_but, crate::proofs::Agreeing::saved_itself))]
+#[tactic(auto, using(crate::proofs::Descheduling::own_process, crate::proofs::Agreeing::saved_itself))]
 pub fn link_message(
     state: &mut State,
     claimed: &mut ClaimedMemory,

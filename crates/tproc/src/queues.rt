@@ -135,7 +135,7 @@ impl State {
 ///
 /// # Errors
 /// `Unaligned`, `AlreadyLive`, `TooManyProcesses`, or the first failing check of the words below the workspace.
-#[tactic(auto, using(crate::proofs::Places::place_admitted, crate::proofs::Places::room_admitted, crate::proofs::Agreeing::agrees_but), unfolding(crate::specs::Queues::admit))]
+#[tactic(auto, using(crate::proofs::Descheduling::admitted_process), unfolding(crate::specs::Queues::admit))]
 pub fn admit(state: &State, claimed: &mut ClaimedMemory, process: Word) -> Result<(), Break>
     requires ready { IsReady claimed.old.marks state.now }
     ensures done { Part (admission process state.now) claimed.old.marks claimed.old.memory result claimed.new.marks

@@ -117,7 +117,7 @@ fn deliver(
 }
 
 /// An output finds a process that waits for its alternative: that becomes ready.
-#[tactic(auto, using(crate::proofs::Places::place_own, crate::proofs::Places::room_own, crate::proofs::Agreeing::agrees_but, crate::proofs::Saved::are_saved_beside))]
+#[tactic(auto, using(crate::proofs::Descheduling::own_process, crate::proofs::Saved::are_saved_beside))]
 fn wake_choice(
     state: &mut State,
     claimed: &mut ClaimedMemory,
@@ -143,7 +143,7 @@ fn wake_choice(
 }
 
 /// An output finds a queued process that has enabled the channel: its alternative becomes ready.
-#[tactic(auto, using(crate::proofs::Places::place_own, crate::proofs::Places::room_own, crate::proofs::Agreeing::agrees_but))]
+#[tactic(auto, using(crate::proofs::Descheduling::own_process))]
 fn ready_queued(
     state: &mut State,
     claimed: &mut ClaimedMemory,
@@ -227,7 +227,7 @@ fn set_touched_word(claimed: &mut ClaimedMemory, workspace: Word, address: Word,
 }
 
 /// A process waits on the channel, and the alternative of another that does not becomes ready.
-#[tactic(auto, using(crate::proofs::Places::place_own, crate::proofs::Places::room_own, crate::proofs::Agreeing::agrees_but))]
+#[tactic(auto, using(crate::proofs::Descheduling::own_process))]
 fn wait_and_set(
     state: &mut State,
     claimed: &mut ClaimedMemory,

@@ -1,6 +1,6 @@
 use Rattle.std.proofs.Common.{[], ◌∙◌, ap, rules}
 use Rattle.tproc.specs.LinkChannels.{without_buffer}
-use Rattle.tproc.proofs.Agreeing.{agrees_ended}
+use Rattle.tproc.proofs.AgreeingLinks.{agrees_ended}
 use Rattle.tproc.proofs.link_notices.finish.Goals as goal
 
 pub returns-clause-agrees : goal.returns-clause-agrees
