@@ -93,10 +93,8 @@ fn went_on<R: Threads + Sync>(
     }
 }
 
-/// Does so many thousand Runs of each node where all compute, a hundred rounds for each thousand where nearly all
-/// wait,
-/// and a hundred messages of each node for each thousand where all send and receive, until the net is quiet; a
-/// slice is
+/// Does so many thousand Runs of each node where all compute, a hundred rounds for each thousand where nearly all wait,
+/// and a hundred messages of each node for each thousand where all send and receive, until the net is quiet; a slice is
 /// no longer than that. Answers with the number of events and a checksum of the memories.
 pub fn worked<R: Threads + Sync>(
     rt: &R,

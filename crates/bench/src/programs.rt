@@ -73,42 +73,24 @@ pub const WAIT: [u8; 7] = [
     0xf7, // in
 ];
 
-/// Counts up in a buffer, sends it and receives it, again and again. The workspace has the channel for sending,
-/// that
+/// Counts up in a buffer, sends it and receives it, again and again. The workspace has the channel for sending, that
 /// for receiving, the buffer and the length.
 #[rattlefmt::skip]
 pub const PING: [u8; 15] = [
     // again:
-    0x72, // ldl 2
-    0x30, // ldnl 0
-    0x81, // adc 1
-    0x72, // ldl 2
-    0xe0, // stnl 0
-    0x72, // ldl 2
-    0x70, // ldl 0
-    0x73, // ldl 3
-    0xfb, // out
-    0x72, // ldl 2
-    0x71, // ldl 1
-    0x73, // ldl 3
-    0xf7, // in
+    0x72, 0x30, 0x81, 0x72, 0xe0, // ldl 2; ldnl 0; adc 1; ldl 2; stnl 0
+    0x72, 0x70, 0x73, 0xfb, // ldl 2; ldl 0; ldl 3; out
+    0x72, 0x71, 0x73, 0xf7, // ldl 2; ldl 1; ldl 3; in
     0x60, 0x01, // j again
 ];
 
 /// Receives a buffer and sends it back, again and again. The workspace has the channel for receiving, that for
-/// sending,
-/// the buffer and the length.
+/// sending, the buffer and the length.
 #[rattlefmt::skip]
 pub const PONG: [u8; 10] = [
     // again:
-    0x72, // ldl 2
-    0x70, // ldl 0
-    0x73, // ldl 3
-    0xf7, // in
-    0x72, // ldl 2
-    0x71, // ldl 1
-    0x73, // ldl 3
-    0xfb, // out
+    0x72, 0x70, 0x73, 0xf7, // ldl 2; ldl 0; ldl 3; in
+    0x72, 0x71, 0x73, 0xfb, // ldl 2; ldl 1; ldl 3; out
     0x60, 0x06, // j again
 ];
 
@@ -117,41 +99,20 @@ pub const PONG: [u8; 10] = [
 #[rattlefmt::skip]
 pub const COUNTED_PING: [u8; 20] = [
     // again:
-    0x72, // ldl 2
-    0x30, // ldnl 0
-    0x81, // adc 1
-    0x72, // ldl 2
-    0xe0, // stnl 0
-    0x72, // ldl 2
-    0x70, // ldl 0
-    0x73, // ldl 3
-    0xfb, // out
-    0x72, // ldl 2
-    0x71, // ldl 1
-    0x73, // ldl 3
-    0xf7, // in
-    0x14, // ldlp 4
-    0x21, 0x42, // ldc 18
-    0x22, 0xf1, // lend
+    0x72, 0x30, 0x81, 0x72, 0xe0, // ldl 2; ldnl 0; adc 1; ldl 2; stnl 0
+    0x72, 0x70, 0x73, 0xfb, // ldl 2; ldl 0; ldl 3; out
+    0x72, 0x71, 0x73, 0xf7, // ldl 2; ldl 1; ldl 3; in
+    0x14, 0x21, 0x42, 0x22, 0xf1, // ldlp 4; ldc 18; lend again
     0x21, 0xf5, // stopp
 ];
 
 /// Receives a buffer and sends it back, so many times, and stops. The workspace has the channel for receiving, that
-/// for
-/// sending, the buffer, the length, and from word 4 on the index and the count.
+/// for sending, the buffer, the length, and from word 4 on the index and the count.
 #[rattlefmt::skip]
 pub const COUNTED_PONG: [u8; 14] = [
     // again:
-    0x72, // ldl 2
-    0x70, // ldl 0
-    0x73, // ldl 3
-    0xf7, // in
-    0x72, // ldl 2
-    0x71, // ldl 1
-    0x73, // ldl 3
-    0xfb, // out
-    0x14, // ldlp 4
-    0x4c, // ldc 12
-    0x22, 0xf1, // lend
+    0x72, 0x70, 0x73, 0xf7, // ldl 2; ldl 0; ldl 3; in
+    0x72, 0x71, 0x73, 0xfb, // ldl 2; ldl 1; ldl 3; out
+    0x14, 0x4c, 0x22, 0xf1, // ldlp 4; ldc 12; lend again
     0x21, 0xf5, // stopp
 ];

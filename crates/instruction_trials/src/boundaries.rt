@@ -21,8 +21,7 @@ const VALUES: [u32; 12] = [
     0xffff_ffff,
 ];
 
-/// What the operations on registers do at all stacks of boundary values and all flags: name, code, and the digest
-/// that
+/// What the operations on registers do at all stacks of boundary values and all flags: name, code, and the digest that
 /// `boundary.py` works out from the tables of the instruction set.
 const OPERATIONS: [(&str, u32, u64); 43] = [
     ("rev", 0x00, 0xe17a_ca9f_22a1_7c80),

@@ -54,8 +54,8 @@ pub(crate) fn code_of(function: Function) -> u8
     }
 }
 
-/// The operation that an operand of `opr` selects, if it is listed: by the tables of the Compiler
-/// Writer's Guide, without timers, floating support and the surgery of queues and channels.
+/// The operation that an operand of `opr` selects, if it is listed: by the tables of the Compiler Writer's Guide,
+/// without timers, floating support and the surgery of queues and channels.
 #[inline(always)]
 #[tactic(auto, unfolding(crate::specs::Table::operation_at))]
 pub fn operation_of(operand: Word) -> Option<Operation>

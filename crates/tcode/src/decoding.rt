@@ -51,8 +51,8 @@ fn ended(function: Function, operand: u32, length: u8) -> Option<Instruction>
 /// The instruction at an address. Its bytes are fetched one by one, each with the checks of a touch.
 ///
 /// # Errors
-/// The break of the first fetch that fails; `LongPrefix` where sixteen bytes were fetched and all are
-/// prefixes; `NoSuchOperation` where its operation is not listed.
+/// The break of the first fetch that fails; `LongPrefix` where sixteen bytes were fetched and all are prefixes;
+/// `NoSuchOperation` where its operation is not listed.
 // Chains stay out of line, so that the common case, one byte, is small where it is inlined.
 #[inline(always)]
 #[tactic(auto, unfolding(crate::specs::Decoding::decode))]
@@ -96,8 +96,8 @@ fn decode_chain(
 /// The instruction at the head of plain bytes.
 ///
 /// # Errors
-/// `Ended` where the bytes end within it, `LongPrefix` where the first sixteen are all prefixes,
-/// `NoSuchOperation` where its operation is not listed.
+/// `Ended` where the bytes end within it, `LongPrefix` where the first sixteen are all prefixes, `NoSuchOperation`
+/// where its operation is not listed.
 pub fn decode_bytes(bytes: &[u8]) -> Result<Instruction, DecodeFault>
     ensures { result ≡ decoded_bytes bytes.now }
 {

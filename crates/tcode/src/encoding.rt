@@ -12,8 +12,8 @@ const PFIX: u8 = 0x2;
 /// The code of the prefix that complements.
 const NFIX: u8 = 0x6;
 
-/// Puts the shortest chain of a code with a whole number at the head of the buffer, and returns its
-/// length. The number has at most `most` digits of four bits.
+/// Puts the shortest chain of a code with a whole number at the head of the buffer, and returns its length. The number
+/// has at most `most` digits of four bits.
 fn put(code: u8, number: u32, most: u8, buffer: &mut [u8; 8]) -> usize
     requires code { code < 16 }
     requires room { most ≤ 8 }
@@ -32,9 +32,9 @@ fn put(code: u8, number: u32, most: u8, buffer: &mut [u8; 8]) -> usize
     at + 1
 }
 
-/// Puts the shortest chain of bytes that decodes to a function with a signed operand at the head of
-/// the buffer, and returns its length; what lies behind it stays. By the recursion of the Compiler
-/// Writer's Guide. Eight bytes serve every operand.
+/// Puts the shortest chain of bytes that decodes to a function with a signed operand at the head of the buffer, and
+/// returns its length; what lies behind it stays. By the recursion of the Compiler Writer's Guide. Eight bytes serve
+/// every operand.
 pub fn encode(function: Function, operand: i32, buffer: &mut [u8; 8]) -> usize
     ensures bytes { buffer.new ≡ encoding function operand ++ drop result buffer.old }
     ensures count { result ≡ length (encoding function operand) }

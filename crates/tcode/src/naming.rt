@@ -104,9 +104,8 @@ pub fn operation_name(operation: Operation) -> &'static str
     }
 }
 
-/// An operation is printed as its name, another function as its name, a space and the signed
-/// decimal operand; so is `opr` with an operand that is not listed (own choice: no bytes decode
-/// to it).
+/// An operation is printed as its name, another function as its name, a space and the signed decimal operand; so is
+/// `opr` with an operand that is not listed (own choice: no bytes decode to it).
 impl fmt::Display for Instruction {
     ghost use Rattle.std.specs.Prelude.{Some};
     ghost use Rattle.tcode.specs.Texts.{instruction_text};

@@ -4,5 +4,3 @@ pub mod SignedWords
 pub mod Normal
 -- local effects deschedule nobody
 pub mod Quiet
--- what jumps
-pub mod Foretelling

@@ -9,38 +9,40 @@ ghost use Rattle.tcpu.specs.Operations.{operation_effect};
 use crate::registers::{Next, Registers};
 use tword::Word;
 
-/// `and`: of B and A
-#[inline]
-pub fn bitwise_and(registers: &mut Registers) -> Next
-    ensures { operation_effect op.And registers.old ≡ Some (answer (registers.new, result)) }
-{
-    registers.replace_all(Word::new(registers.b.get() & registers.a.get()));
-    Next::Go
-}
+impl Registers {
+    /// `and`: of B and A
+    #[inline]
+    pub(crate) fn bitwise_and(&mut self) -> Next
+        ensures { operation_effect op.And self.old ≡ Some (answer (self.new, result)) }
+    {
+        self.replace_all(Word::new(self.b.get() & self.a.get()));
+        Next::Go
+    }
 
-/// `or`: of B and A
-#[inline]
-pub fn bitwise_or(registers: &mut Registers) -> Next
-    ensures { operation_effect op.Or registers.old ≡ Some (answer (registers.new, result)) }
-{
-    registers.replace_all(Word::new(registers.b.get() | registers.a.get()));
-    Next::Go
-}
+    /// `or`: of B and A
+    #[inline]
+    pub(crate) fn bitwise_or(&mut self) -> Next
+        ensures { operation_effect op.Or self.old ≡ Some (answer (self.new, result)) }
+    {
+        self.replace_all(Word::new(self.b.get() | self.a.get()));
+        Next::Go
+    }
 
-/// `xor`: of B and A
-#[inline]
-pub fn exclusive_or(registers: &mut Registers) -> Next
-    ensures { operation_effect op.Xor registers.old ≡ Some (answer (registers.new, result)) }
-{
-    registers.replace_all(Word::new(registers.b.get() ^ registers.a.get()));
-    Next::Go
-}
+    /// `xor`: of B and A
+    #[inline]
+    pub(crate) fn exclusive_or(&mut self) -> Next
+        ensures { operation_effect op.Xor self.old ≡ Some (answer (self.new, result)) }
+    {
+        self.replace_all(Word::new(self.b.get() ^ self.a.get()));
+        Next::Go
+    }
 
-/// `not`: of A
-#[inline]
-pub fn complement(registers: &mut Registers) -> Next
-    ensures { operation_effect op.Not registers.old ≡ Some (answer (registers.new, result)) }
-{
-    registers.replace_top(Word::new(!registers.a.get()));
-    Next::Go
+    /// `not`: of A
+    #[inline]
+    pub(crate) fn complement(&mut self) -> Next
+        ensures { operation_effect op.Not self.old ≡ Some (answer (self.new, result)) }
+    {
+        self.replace_top(Word::new(!self.a.get()));
+        Next::Go
+    }
 }

@@ -6,15 +6,11 @@ ghost use Rattle.tcpu.specs.Effects.{effect, effect_at, local_or_left};
 ghost use Rattle.tcpu.specs.Local.{outcome_of, StandsWhereLeft};
 ghost use Rattle.tcpu.specs.Operations.{operation_effect};
 
-use crate::registers::{Next, Registers};
-use crate::{
-    arithmetic, bits, checks, control, flags, long_arithmetic, memory as store, shifts, stack,
-};
+use crate::registers::{Next, Registers, Step};
 use tcode::{Function, Instruction, Operation, operation_of};
 use tword::{Break, Marks, Memory, Word};
 
-/// Does an instruction, as the tables of the Compiler Writer's Guide say, or leaves an operation to the scheduler
-/// with
+/// Does an instruction, as the tables of the Compiler Writer's Guide say, or leaves an operation to the scheduler with
 /// nothing changed.
 ///
 /// # Errors
@@ -57,26 +53,26 @@ fn act(
     start: Word,
     function: Function,
     operand: Word,
-) -> Result<Next, Break>
+) -> Step
     ensures done { run (effect_at function operand (record registers.old { iptr = start }) registers.old) memory.old
         marks.now ≡ outcome_of result registers.new memory.new }
     ensures kept { OnErr result ((memory.new ≡ memory.old) × (registers.new ≡ registers.old)) }
     ensures sized { length memory.new ≡ length memory.old }
 {
     match function {
-        Function::J => Ok(control::jump(registers, operand)),
-        Function::Ldlp => Ok(stack::load_local_pointer(registers, operand)),
-        Function::Ldnl => store::load_non_local(registers, memory, marks, operand),
-        Function::Ldc => Ok(stack::load_constant(registers, operand)),
-        Function::Ldnlp => Ok(stack::load_non_local_pointer(registers, operand)),
-        Function::Ldl => store::load_local(registers, memory, marks, operand),
-        Function::Adc => Ok(arithmetic::add_constant(registers, operand)),
-        Function::Call => control::call(registers, memory, marks, operand),
-        Function::Cj => Ok(control::conditional_jump(registers, operand)),
-        Function::Ajw => Ok(control::adjust_workspace(registers, operand)),
-        Function::Eqc => Ok(arithmetic::equals_constant(registers, operand)),
-        Function::Stl => store::store_local(registers, memory, marks, operand),
-        Function::Stnl => store::store_non_local(registers, memory, marks, operand),
+        Function::J => Ok(registers.jump(operand)),
+        Function::Ldlp => Ok(registers.load_local_pointer(operand)),
+        Function::Ldnl => registers.load_non_local(memory, marks, operand),
+        Function::Ldc => Ok(registers.load_constant(operand)),
+        Function::Ldnlp => Ok(registers.load_non_local_pointer(operand)),
+        Function::Ldl => registers.load_local(memory, marks, operand),
+        Function::Adc => Ok(registers.add_constant(operand)),
+        Function::Call => registers.call(memory, marks, operand),
+        Function::Cj => Ok(registers.conditional_jump(operand)),
+        Function::Ajw => Ok(registers.adjust_workspace(operand)),
+        Function::Eqc => Ok(registers.equals_constant(operand)),
+        Function::Stl => registers.store_local(memory, marks, operand),
+        Function::Stnl => registers.store_non_local(memory, marks, operand),
         Function::Opr => match operation_of(operand) {
             Some(operation) => operate(registers, memory, marks, start, operation),
             None => Err(Break::NoSuchOperation),
@@ -93,63 +89,63 @@ fn operate(
     marks: &Marks,
     start: Word,
     operation: Operation,
-) -> Result<Next, Break>
+) -> Step
     ensures done { run (local_or_left (operation_effect operation registers.old) operation
         (record registers.old { iptr = start })) memory.old marks.now ≡ outcome_of result registers.new memory.new }
     ensures kept { OnErr result ((memory.new ≡ memory.old) × (registers.new ≡ registers.old)) }
     ensures sized { length memory.new ≡ length memory.old }
 {
     match operation {
-        Operation::Rev => Ok(stack::reverse(registers)),
-        Operation::Lb => store::load_byte(registers, memory, marks),
-        Operation::Bsub => Ok(arithmetic::byte_subscript(registers)),
-        Operation::Diff => Ok(arithmetic::difference(registers)),
-        Operation::Add => Ok(arithmetic::add(registers)),
-        Operation::Gcall => Ok(control::general_call(registers)),
-        Operation::Prod => Ok(arithmetic::product(registers)),
-        Operation::Gt => Ok(arithmetic::greater_than(registers)),
-        Operation::Wsub => Ok(arithmetic::word_subscript(registers)),
-        Operation::Sub => Ok(arithmetic::subtract(registers)),
-        Operation::Seterr => Ok(flags::set_error(registers)),
-        Operation::Csub0 => Ok(checks::check_subscript(registers)),
-        Operation::Ladd => Ok(long_arithmetic::long_add(registers)),
-        Operation::Norm => Ok(long_arithmetic::normalise(registers)),
-        Operation::Ldiv => Ok(long_arithmetic::long_divide(registers)),
-        Operation::Ldpi => Ok(control::load_pointer_to_instruction(registers)),
-        Operation::Xdble => Ok(checks::extend_to_double(registers)),
-        Operation::Rem => Ok(arithmetic::remainder(registers)),
-        Operation::Ret => control::return_from_call(registers, memory, marks),
-        Operation::Lend => control::loop_end(registers, memory, marks),
-        Operation::Testerr => Ok(flags::test_error(registers)),
-        Operation::Testpranal => Ok(flags::test_analysing(registers)),
-        Operation::Div => Ok(arithmetic::divide(registers)),
-        Operation::Lmul => Ok(long_arithmetic::long_multiply(registers)),
-        Operation::Not => Ok(bits::complement(registers)),
-        Operation::Xor => Ok(bits::exclusive_or(registers)),
-        Operation::Bcnt => Ok(arithmetic::byte_count(registers)),
-        Operation::Lshr => Ok(shifts::long_shift_right(registers)),
-        Operation::Lshl => Ok(shifts::long_shift_left(registers)),
-        Operation::Lsum => Ok(long_arithmetic::long_sum(registers)),
-        Operation::Lsub => Ok(long_arithmetic::long_subtract(registers)),
-        Operation::Xword => Ok(checks::extend_to_word(registers)),
-        Operation::Sb => store::store_byte(registers, memory, marks),
-        Operation::Gajw => control::general_adjust_workspace(registers, memory, marks),
-        Operation::Wcnt => Ok(arithmetic::word_count(registers)),
-        Operation::Shr => Ok(shifts::shift_right(registers)),
-        Operation::Shl => Ok(shifts::shift_left(registers)),
-        Operation::Mint => Ok(stack::minimum_integer(registers)),
-        Operation::And => Ok(bits::bitwise_and(registers)),
-        Operation::Move => store::move_bytes(registers, memory, marks),
-        Operation::Or => Ok(bits::bitwise_or(registers)),
-        Operation::Csngl => Ok(checks::check_single(registers)),
-        Operation::Ccnt1 => Ok(checks::check_count(registers)),
-        Operation::Ldiff => Ok(long_arithmetic::long_difference(registers)),
-        Operation::Sum => Ok(arithmetic::sum(registers)),
-        Operation::Mul => Ok(arithmetic::multiply(registers)),
-        Operation::Cword => Ok(checks::check_word(registers)),
-        Operation::Clrhalterr => Ok(flags::clear_halt_on_error(registers)),
-        Operation::Sethalterr => Ok(flags::set_halt_on_error(registers)),
-        Operation::Testhalterr => Ok(flags::test_halt_on_error(registers)),
+        Operation::Rev => Ok(registers.reverse()),
+        Operation::Lb => registers.load_byte(memory, marks),
+        Operation::Bsub => Ok(registers.byte_subscript()),
+        Operation::Diff => Ok(registers.difference()),
+        Operation::Add => Ok(registers.add()),
+        Operation::Gcall => Ok(registers.general_call()),
+        Operation::Prod => Ok(registers.product()),
+        Operation::Gt => Ok(registers.greater_than()),
+        Operation::Wsub => Ok(registers.word_subscript()),
+        Operation::Sub => Ok(registers.subtract()),
+        Operation::Seterr => Ok(registers.set_error()),
+        Operation::Csub0 => Ok(registers.check_subscript()),
+        Operation::Ladd => Ok(registers.long_add()),
+        Operation::Norm => Ok(registers.normalise()),
+        Operation::Ldiv => Ok(registers.long_divide()),
+        Operation::Ldpi => Ok(registers.load_pointer_to_instruction()),
+        Operation::Xdble => Ok(registers.extend_to_double()),
+        Operation::Rem => Ok(registers.remainder()),
+        Operation::Ret => registers.return_from_call(memory, marks),
+        Operation::Lend => registers.loop_end(memory, marks),
+        Operation::Testerr => Ok(registers.test_error()),
+        Operation::Testpranal => Ok(registers.test_analysing()),
+        Operation::Div => Ok(registers.divide()),
+        Operation::Lmul => Ok(registers.long_multiply()),
+        Operation::Not => Ok(registers.complement()),
+        Operation::Xor => Ok(registers.exclusive_or()),
+        Operation::Bcnt => Ok(registers.byte_count()),
+        Operation::Lshr => Ok(registers.long_shift_right()),
+        Operation::Lshl => Ok(registers.long_shift_left()),
+        Operation::Lsum => Ok(registers.long_sum()),
+        Operation::Lsub => Ok(registers.long_subtract()),
+        Operation::Xword => Ok(registers.extend_to_word()),
+        Operation::Sb => registers.store_byte(memory, marks),
+        Operation::Gajw => registers.general_adjust_workspace(memory, marks),
+        Operation::Wcnt => Ok(registers.word_count()),
+        Operation::Shr => Ok(registers.shift_right()),
+        Operation::Shl => Ok(registers.shift_left()),
+        Operation::Mint => Ok(registers.minimum_integer()),
+        Operation::And => Ok(registers.bitwise_and()),
+        Operation::Move => registers.move_bytes(memory, marks),
+        Operation::Or => Ok(registers.bitwise_or()),
+        Operation::Csngl => Ok(registers.check_single()),
+        Operation::Ccnt1 => Ok(registers.check_count()),
+        Operation::Ldiff => Ok(registers.long_difference()),
+        Operation::Sum => Ok(registers.sum()),
+        Operation::Mul => Ok(registers.multiply()),
+        Operation::Cword => Ok(registers.check_word()),
+        Operation::Clrhalterr => Ok(registers.clear_halt_on_error()),
+        Operation::Sethalterr => Ok(registers.set_halt_on_error()),
+        Operation::Testhalterr => Ok(registers.test_halt_on_error()),
         Operation::Endp
         | Operation::In
         | Operation::Out

@@ -10,50 +10,52 @@ use crate::registers::{Next, Registers};
 use crate::word_arithmetic::truth;
 use tword::Word;
 
-/// `seterr`: sets Error
-pub fn set_error(registers: &mut Registers) -> Next
-    ensures { operation_effect op.Seterr registers.old ≡ Some (answer (registers.new, result)) }
-{
-    registers.finish(true)
-}
+impl Registers {
+    /// `seterr`: sets Error
+    pub(crate) fn set_error(&mut self) -> Next
+        ensures { operation_effect op.Seterr self.old ≡ Some (answer (self.new, result)) }
+    {
+        self.finish(true)
+    }
 
-/// `testerr`: whether Error was clear
-pub fn test_error(registers: &mut Registers) -> Next
-    ensures { operation_effect op.Testerr registers.old ≡ Some (answer (registers.new, result)) }
-{
-    registers.push(truth(!registers.error));
-    registers.error = false;
-    Next::Go
-}
+    /// `testerr`: whether Error was clear
+    pub(crate) fn test_error(&mut self) -> Next
+        ensures { operation_effect op.Testerr self.old ≡ Some (answer (self.new, result)) }
+    {
+        self.push(truth(!self.error));
+        self.error = false;
+        Next::Go
+    }
 
-/// `sethalterr`: never halts itself (own choice)
-pub fn set_halt_on_error(registers: &mut Registers) -> Next
-    ensures { operation_effect op.Sethalterr registers.old ≡ Some (answer (registers.new, result)) }
-{
-    registers.halt_on_error = true;
-    Next::Go
-}
+    /// `sethalterr`: never halts itself (own choice)
+    pub(crate) fn set_halt_on_error(&mut self) -> Next
+        ensures { operation_effect op.Sethalterr self.old ≡ Some (answer (self.new, result)) }
+    {
+        self.halt_on_error = true;
+        Next::Go
+    }
 
-/// `clrhalterr`: clears HaltOnError
-pub fn clear_halt_on_error(registers: &mut Registers) -> Next
-    ensures { operation_effect op.Clrhalterr registers.old ≡ Some (answer (registers.new, result)) }
-{
-    registers.halt_on_error = false;
-    Next::Go
-}
+    /// `clrhalterr`: clears HaltOnError
+    pub(crate) fn clear_halt_on_error(&mut self) -> Next
+        ensures { operation_effect op.Clrhalterr self.old ≡ Some (answer (self.new, result)) }
+    {
+        self.halt_on_error = false;
+        Next::Go
+    }
 
-/// `testhalterr`: whether HaltOnError is set
-pub fn test_halt_on_error(registers: &mut Registers) -> Next
-    ensures { operation_effect op.Testhalterr registers.old ≡ Some (answer (registers.new, result)) }
-{
-    registers.push(truth(registers.halt_on_error));
-    Next::Go
-}
+    /// `testhalterr`: whether HaltOnError is set
+    pub(crate) fn test_halt_on_error(&mut self) -> Next
+        ensures { operation_effect op.Testhalterr self.old ≡ Some (answer (self.new, result)) }
+    {
+        self.push(truth(self.halt_on_error));
+        Next::Go
+    }
 
-/// `testpranal`: the processor is never analysed (own choice).
-pub fn test_analysing(registers: &mut Registers) -> Next
-    ensures { operation_effect op.Testpranal registers.old ≡ Some (answer (registers.new, result)) }
-{
-    registers.push(Word::new(0));
-    Next::Go
+    /// `testpranal`: the processor is never analysed (own choice).
+    pub(crate) fn test_analysing(&mut self) -> Next
+        ensures { operation_effect op.Testpranal self.old ≡ Some (answer (self.new, result)) }
+    {
+        self.push(Word::new(0));
+        Next::Go
+    }
 }

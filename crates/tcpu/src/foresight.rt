@@ -6,7 +6,6 @@ ghost use Rattle.tcpu.specs.Effects.{effect, local_or_left};
 ghost use Rattle.tcpu.specs.Local.{would_jump};
 ghost use Rattle.tcpu.specs.Operations.{operation_effect};
 
-use crate::control::{falling_count, may_call};
 use crate::registers::Registers;
 use crate::word_arithmetic::{is_word_address, word_address};
 use tcode::{Function, Instruction, Operation, operation_of};
@@ -16,7 +15,7 @@ use tword::{Break, Marks, Memory};
 ///
 /// # Errors
 /// The break that `local` would answer.
-#[tactic(auto, using(crate::proofs::Foretelling::stays), unfolding(crate::specs::Effects::effect, crate::specs::Functions::function_effect))]
+#[tactic(auto, unfolding(crate::specs::Effects::effect, crate::specs::Functions::function_effect))]
 pub fn jumps(
     registers: &Registers,
     memory: &Memory,
@@ -37,7 +36,7 @@ pub fn jumps(
             Ok(false)
         }
         Function::Call => {
-            may_call(registers, memory, marks)?;
+            registers.may_call(memory, marks)?;
             Ok(false)
         }
         Function::Stl => {
@@ -89,7 +88,7 @@ fn operation_jumps(
             Ok(false)
         }
         Operation::Lend => {
-            let left = falling_count(registers, memory, marks)?;
+            let left = registers.falling_count(memory, marks)?;
             Ok(left.signed() > 0)
         }
         Operation::Gajw => {

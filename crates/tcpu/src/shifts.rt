@@ -10,44 +10,46 @@ use crate::registers::{Next, Registers};
 use crate::word_arithmetic::{double_word, high_word, low_word};
 use tword::Word;
 
-/// `shr`: with zeros from the left
-#[inline]
-pub fn shift_right(registers: &mut Registers) -> Next
-    ensures { operation_effect op.Shr registers.old ≡ Some (answer (registers.new, result)) }
-{
-    let word = registers.b.get();
-    let shifted = word.checked_shr(registers.a.get()).unwrap_or(0);
-    registers.replace_all(Word::new(shifted));
-    Next::Go
-}
+impl Registers {
+    /// `shr`: with zeros from the left
+    #[inline]
+    pub(crate) fn shift_right(&mut self) -> Next
+        ensures { operation_effect op.Shr self.old ≡ Some (answer (self.new, result)) }
+    {
+        let word = self.b.get();
+        let shifted = word.checked_shr(self.a.get()).unwrap_or(0);
+        self.replace_all(Word::new(shifted));
+        Next::Go
+    }
 
-/// `shl`: with zeros from the right
-#[inline]
-pub fn shift_left(registers: &mut Registers) -> Next
-    ensures { operation_effect op.Shl registers.old ≡ Some (answer (registers.new, result)) }
-{
-    let word = registers.b.get();
-    let shifted = word.checked_shl(registers.a.get()).unwrap_or(0);
-    registers.replace_all(Word::new(shifted));
-    Next::Go
-}
+    /// `shl`: with zeros from the right
+    #[inline]
+    pub(crate) fn shift_left(&mut self) -> Next
+        ensures { operation_effect op.Shl self.old ≡ Some (answer (self.new, result)) }
+    {
+        let word = self.b.get();
+        let shifted = word.checked_shl(self.a.get()).unwrap_or(0);
+        self.replace_all(Word::new(shifted));
+        Next::Go
+    }
 
-/// `lshr`: of a double word, with zeros from the left
-pub fn long_shift_right(registers: &mut Registers) -> Next
-    ensures { operation_effect op.Lshr registers.old ≡ Some (answer (registers.new, result)) }
-{
-    let value = double_word(registers.c, registers.b);
-    let shifted = value.checked_shr(registers.a.get()).unwrap_or(0);
-    registers.replace_all_by_pair(low_word(shifted), high_word(shifted));
-    Next::Go
-}
+    /// `lshr`: of a double word, with zeros from the left
+    pub(crate) fn long_shift_right(&mut self) -> Next
+        ensures { operation_effect op.Lshr self.old ≡ Some (answer (self.new, result)) }
+    {
+        let value = double_word(self.c, self.b);
+        let shifted = value.checked_shr(self.a.get()).unwrap_or(0);
+        self.replace_all_by_pair(low_word(shifted), high_word(shifted));
+        Next::Go
+    }
 
-/// `lshl`: of a double word
-pub fn long_shift_left(registers: &mut Registers) -> Next
-    ensures { operation_effect op.Lshl registers.old ≡ Some (answer (registers.new, result)) }
-{
-    let value = double_word(registers.c, registers.b);
-    let shifted = value.checked_shl(registers.a.get()).unwrap_or(0);
-    registers.replace_all_by_pair(low_word(shifted), high_word(shifted));
-    Next::Go
+    /// `lshl`: of a double word
+    pub(crate) fn long_shift_left(&mut self) -> Next
+        ensures { operation_effect op.Lshl self.old ≡ Some (answer (self.new, result)) }
+    {
+        let value = double_word(self.c, self.b);
+        let shifted = value.checked_shl(self.a.get()).unwrap_or(0);
+        self.replace_all_by_pair(low_word(shifted), high_word(shifted));
+        Next::Go
+    }
 }

@@ -13,46 +13,48 @@ use crate::word_arithmetic::word_address;
 use tword::Word;
 use tword::limits::MOST_NEG;
 
-/// `ldc`: pushes the operand
-#[inline]
-pub fn load_constant(registers: &mut Registers, operand: Word) -> Next
-    ensures { function_effect function.Ldc operand registers.old ≡ answer (registers.new, result) }
-{
-    registers.push(operand);
-    Next::Go
-}
+impl Registers {
+    /// `ldc`: pushes the operand
+    #[inline]
+    pub(crate) fn load_constant(&mut self, operand: Word) -> Next
+        ensures { function_effect function.Ldc operand self.old ≡ answer (self.new, result) }
+    {
+        self.push(operand);
+        Next::Go
+    }
 
-/// `ldlp`: pushes the address of a word of the workspace, by its index
-#[inline]
-pub fn load_local_pointer(registers: &mut Registers, operand: Word) -> Next
-    ensures { function_effect function.Ldlp operand registers.old ≡ answer (registers.new, result) }
-{
-    registers.push(word_address(registers.wptr, operand));
-    Next::Go
-}
+    /// `ldlp`: pushes the address of a word of the workspace, by its index
+    #[inline]
+    pub(crate) fn load_local_pointer(&mut self, operand: Word) -> Next
+        ensures { function_effect function.Ldlp operand self.old ≡ answer (self.new, result) }
+    {
+        self.push(word_address(self.wptr, operand));
+        Next::Go
+    }
 
-/// `ldnlp`: the address of a word from A on, by its index
-#[inline]
-pub fn load_non_local_pointer(registers: &mut Registers, operand: Word) -> Next
-    ensures { function_effect function.Ldnlp operand registers.old ≡ answer (registers.new, result) }
-{
-    registers.replace_top(word_address(registers.a, operand));
-    Next::Go
-}
+    /// `ldnlp`: the address of a word from A on, by its index
+    #[inline]
+    pub(crate) fn load_non_local_pointer(&mut self, operand: Word) -> Next
+        ensures { function_effect function.Ldnlp operand self.old ≡ answer (self.new, result) }
+    {
+        self.replace_top(word_address(self.a, operand));
+        Next::Go
+    }
 
-/// `mint`: pushes the least word
-pub fn minimum_integer(registers: &mut Registers) -> Next
-    ensures { operation_effect op.Mint registers.old ≡ Some (answer (registers.new, result)) }
-{
-    registers.push(Word::new(MOST_NEG));
-    Next::Go
-}
+    /// `mint`: pushes the least word
+    pub(crate) fn minimum_integer(&mut self) -> Next
+        ensures { operation_effect op.Mint self.old ≡ Some (answer (self.new, result)) }
+    {
+        self.push(Word::new(MOST_NEG));
+        Next::Go
+    }
 
-/// `rev`: exchanges A and B
-#[inline]
-pub fn reverse(registers: &mut Registers) -> Next
-    ensures { operation_effect op.Rev registers.old ≡ Some (answer (registers.new, result)) }
-{
-    registers.replace_all_by_pair(registers.b, registers.a);
-    Next::Go
+    /// `rev`: exchanges A and B
+    #[inline]
+    pub(crate) fn reverse(&mut self) -> Next
+        ensures { operation_effect op.Rev self.old ≡ Some (answer (self.new, result)) }
+    {
+        self.replace_all_by_pair(self.b, self.a);
+        Next::Go
+    }
 }

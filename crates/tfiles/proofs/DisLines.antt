@@ -8,7 +8,7 @@ use Rattle.tcode.specs.declared.instruction.Instruction.{Instruction}
 use Rattle.tcode.specs.declared.instruction.Function.{Function}
 use Rattle.tcode.specs.declared.instruction.DecodeFault.{DecodeFault}
 use Rattle.tcode.specs.declared.instruction.DecodeFault.TheVariants as fault
-use Rattle.tcode.specs.Chains.{Part, More, Last, part, instruction, is_listed}
+use Rattle.tcode.specs.Chains.{Chained, More, Last, chained, instruction, is_listed}
 use Rattle.tcode.specs.Decoding.{complete_in, fetch_in, decode_bytes}
 use Rattle.tfiles.specs.Disassembly.{at_address, head_text, head_size, dis_lines}
 
@@ -22,19 +22,20 @@ listed_within : (b : Bool) (f : Function) (value : ℤ) (had byte : ℕ) (bytes 
 listed_within true f value had byte bytes i h = let e : suc had ≡ i.length = cc in (omega arith, omega arith)
 listed_within false f value had byte bytes i h = cc
 
-part_within : (rest : ℤ → Result Instruction DecodeFault) (p : Part) (had byte : ℕ) (bytes : List ℕ) (i : Instruction)
+chained_within : (rest : ℤ → Result Instruction DecodeFault) (p : Chained) (had byte : ℕ) (bytes : List ℕ)
+    (i : Instruction)
     → ((value : ℤ) → rest value ≡ Ok i → EndsWithin (suc had) bytes i) → complete_in rest (suc had) p ≡ Ok i
     → EndsWithin had (byte ∷ bytes) i
-part_within rest (More value) had byte bytes i later h = let k : EndsWithin (suc had) bytes i = later value h in
+chained_within rest (More value) had byte bytes i later h = let k : EndsWithin (suc had) bytes i = later value h in
     (omega (arith, k.0), omega (arith, k.1))
-part_within rest (Last f value) had byte bytes i later h = listed_within (is_listed f value) f value had byte bytes i h
+chained_within rest (Last f value) had byte bytes i later h = listed_within (is_listed f value) f value had byte bytes i h
 
 fetched_within : (left had : ℕ) (bytes : List ℕ) (value : ℤ) (i : Instruction) → fetch_in left had bytes value ≡ Ok i
     → EndsWithin had bytes i
 fetched_within zero had bytes value i h = cc
 fetched_within (suc left) had [] value i h = cc
 fetched_within (suc left) had (byte ∷ bytes) value i h =
-    part_within (fetch_in left (suc had) bytes) (part value byte) had byte bytes i
+    chained_within (fetch_in left (suc had) bytes) (chained value byte) had byte bytes i
     (λ v k. fetched_within left (suc had) bytes v i k) h
 
 -- a line has a byte or more, and no more than there are

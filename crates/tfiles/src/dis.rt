@@ -17,11 +17,9 @@ use tcode::{
 use tplan::plan::{Image, Segment};
 use tword::Word;
 
-/// Writes the instructions of an image (own choice of format): for each segment, at each address, a line `80000080:
-/// ldc 4`. Where
-/// no instruction can be decoded within the segment, the line is `80000080: db 60`, and the next one is at the next
-/// byte.
-/// An address is taken modulo 2^32.
+/// Writes the instructions of an image (own choice of format): for each segment, at each address, a line
+/// `80000080: ldc 4`. Where no instruction can be decoded within the segment, the line is `80000080: db 60`, and
+/// the next one is at the next byte. An address is taken modulo 2^32.
 ///
 /// # Errors
 /// Where the writer fails or takes nothing. Just so many of the first bytes are written as the fault tells.

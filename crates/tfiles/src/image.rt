@@ -3,9 +3,10 @@
 ghost use Rattle.std.specs.Prelude.{◌≡◌, MatchOption, MatchResult, option_map, bytes_eq, take, drop, true, false};
 ghost use Rattle.tfiles.specs.Images.{image_of, body_of, magic, word_in, segment_in, process_in, parts_in};
 ghost use Rattle.tfiles.specs.Images.{IsImageAnswer, IsPartFault};
+ghost use Rattle.tfiles.specs.declared.image.ImageFault.TheVariants.{OutOfMemory};
 
 use byteorder::{ByteOrder, LittleEndian};
-use std::alloc::Global;
+use std::alloc::{AllocError, AllocFailed, Global};
 use thiserror::Error;
 use tplan::plan::{Image, Process, Segment};
 use tword::limits::{MOST_PROCESSES, MOST_SEGMENTS};
@@ -31,21 +32,34 @@ pub enum ImageFault {
     OutOfMemory,
 }
 
+impl<T: Drop> From<AllocFailed<T>> for ImageFault {
+    ghost from_gives = { λ _ fault. fault ≡ OutOfMemory };
+
+    fn from(_error: AllocFailed<T>) -> ImageFault {
+        ImageFault::OutOfMemory
+    }
+}
+
+impl From<AllocError> for ImageFault {
+    ghost from_gives = { λ _ fault. fault ≡ OutOfMemory };
+
+    fn from(_error: AllocError) -> ImageFault {
+        ImageFault::OutOfMemory
+    }
+}
+
 /// What every image begins with (own choice).
 const MAGIC: &[u8] = b"TEMUIMG1";
 
 /// The image that bytes stand for (own choice of format): eight bytes `TEMUIMG1`, the numbers of segments and of
-/// processes,
-/// each segment as its address, its length and its bytes, and each process as its descriptor and its first address.
-/// A number is
-/// a word, its lowest byte first.
+/// processes, each segment as its address, its length and its bytes, and each process as its descriptor and its
+/// first address. A number is a word, its lowest byte first.
 ///
 /// Memory is asked for only as far as the bytes fill it.
 ///
 /// # Errors
 /// The first of these that holds: `BadMagic`, `TooMany` for a count over its limit (also where the bytes end behind
-/// it),
-/// `Truncated`, `Trailing`. `OutOfMemory` where the allocator refuses.
+/// it), `Truncated`, `Trailing`. `OutOfMemory` where the allocator refuses.
 #[tactic(auto, unfolding(crate::specs::Images::image_of))]
 pub fn read_image(alloc: Global, bytes: &[u8]) -> Result<Image, ImageFault>
     ensures { IsImageAnswer (image_of bytes.now) result }
@@ -77,14 +91,8 @@ fn body(
 ) -> Result<Image, ImageFault>
     ensures { IsImageAnswer (body_of segment_count process_count bytes.now) result }
 {
-    let (segments, rest) = match segments(alloc, segment_count, bytes) {
-        Ok(part) => part,
-        Err(fault) => return Err(fault),
-    };
-    let (processes, rest) = match processes(alloc, process_count, rest) {
-        Ok(part) => part,
-        Err(fault) => return Err(fault),
-    };
+    let (segments, rest) = segments(alloc, segment_count, bytes)?;
+    let (processes, rest) = processes(alloc, process_count, rest)?;
     if !rest.is_empty() {
         return Err(ImageFault::Trailing);
     }
@@ -134,38 +142,14 @@ fn segment(alloc: Global, bytes: &[u8]) -> Result<(Segment, &[u8]), ImageFault>
         return Err(ImageFault::Truncated);
     }
     let (held, rest) = rest.split_at(size);
-    match Vec::from_slice(alloc, held) {
-        Ok(bytes) => Ok((
-            Segment {
-                address: Word::new(address),
-                bytes: Items::new(bytes),
-            },
-            rest,
-        )),
-        Err(_) => Err(ImageFault::OutOfMemory),
-    }
-}
-
-/// Some segments, and the bytes behind them.
-fn segments(alloc: Global, count: u32, bytes: &[u8]) -> Result<(Vec<Segment>, &[u8]), ImageFault>
-    ensures { MatchResult result
-        (λ part. parts_in segment_in count bytes.now ≡ Some (part.0.items, part.1.now))
-        (λ fault. IsPartFault (parts_in segment_in count bytes.now) fault) }
-{
-    let mut segments = Vec::new(alloc);
-    let mut rest = bytes;
-    for _place in 0..count {
-        match segment(alloc, rest) {
-            Ok((segment, behind)) => {
-                if segments.push(segment).is_err() {
-                    return Err(ImageFault::OutOfMemory);
-                }
-                rest = behind;
-            }
-            Err(fault) => return Err(fault),
-        }
-    }
-    Ok((segments, rest))
+    let bytes = Vec::from_slice(alloc, held)?;
+    Ok((
+        Segment {
+            address: Word::new(address),
+            bytes: Items::new(bytes),
+        },
+        rest,
+    ))
 }
 
 /// A process, and the bytes behind it.
@@ -183,6 +167,22 @@ fn process(bytes: &[u8]) -> Option<(Process, &[u8])>
     ))
 }
 
+/// Some segments, and the bytes behind them.
+fn segments(alloc: Global, count: u32, bytes: &[u8]) -> Result<(Vec<Segment>, &[u8]), ImageFault>
+    ensures { MatchResult result
+        (λ part. parts_in segment_in count bytes.now ≡ Some (part.0.items, part.1.now))
+        (λ fault. IsPartFault (parts_in segment_in count bytes.now) fault) }
+{
+    let mut segments = Vec::new(alloc);
+    let mut rest = bytes;
+    for _place in 0..count {
+        let (segment, behind) = segment(alloc, rest)?;
+        segments.push(segment)?;
+        rest = behind;
+    }
+    Ok((segments, rest))
+}
+
 /// Some processes, and the bytes behind them.
 fn processes(alloc: Global, count: u32, bytes: &[u8]) -> Result<(Vec<Process>, &[u8]), ImageFault>
     ensures { MatchResult result
@@ -195,9 +195,7 @@ fn processes(alloc: Global, count: u32, bytes: &[u8]) -> Result<(Vec<Process>, &
         let Some((process, behind)) = process(rest) else {
             return Err(ImageFault::Truncated);
         };
-        if processes.push(process).is_err() {
-            return Err(ImageFault::OutOfMemory);
-        }
+        processes.push(process)?;
         rest = behind;
     }
     Ok((processes, rest))

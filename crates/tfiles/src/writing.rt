@@ -1,6 +1,5 @@
 //! Texts that are written: a trace, dumps, a log. No memory is taken: a text goes to its writer piece by piece,
-//! through a
-//! buffer on the stack.
+//! through a buffer on the stack.
 
 pub mod dump;
 pub mod end;

@@ -15,7 +15,7 @@ use Rattle.tfree.specs.Kept.{IsShare, Kept, share_with}
 use Rattle.tfree.specs.Shares.{share, first_nodes}
 use Rattle.tfree.specs.Rings.{part_of}
 use Rattle.tfree.specs.Opened.{first_of, owned_of, share_of, HasDoneNothing, IsOpened}
-use Rattle.tfree.specs.Allotments.{share_at, IsSeat, AreSeats, AreAllotted, AreSharedOut}
+use Rattle.tfree.specs.Allotments.{share_at, IsAllotment, AreAllotments, AreAllotted, AreSharedOut}
 use Rattle.tfree.proofs.FreshWorkers.{part_length, fresh_share, fresh_kept}
 use Rattle.tfree.proofs.NodeOwners.{first-length}
 use Rattle.tfree.proofs.Portions.{owned_is}
@@ -23,20 +23,20 @@ use Rattle.tfree.proofs.SharedRings.{within, ends_at, one_opening}
 
 -- the allotment in front, and those behind it
 front_allotment : (opened : NetState) (count : ℕ) (ins : List (Option InView)) (outs : List (Option OutView)) (k : ℕ)
-    (allotments : List Allotment) (s : Allotment) → AreSeats opened count ins outs k allotments → 0 < length allotments
-    → s ≡ get_or allotments 0 s
-    → IsSeat opened count ins outs k s × AreSeats opened count ins outs (k + 1) (drop 1 allotments)
+    (allotments : List Allotment) (s : Allotment) → AreAllotments opened count ins outs k allotments
+    → 0 < length allotments → s ≡ get_or allotments 0 s
+    → IsAllotment opened count ins outs k s × AreAllotments opened count ins outs (k + 1) (drop 1 allotments)
 front_allotment opened count ins outs k [] s h b e = absurd (omega (arith, b))
 front_allotment opened count ins outs k (x ∷ xs) s h b e =
-    (rw e h.0, let n : suc k ≡ k + 1 = omega arith in subst (λ (j : ℕ). AreSeats opened count ins outs j xs) n h.1)
+    (rw e h.0, let n : suc k ≡ k + 1 = omega arith in subst (λ (j : ℕ). AreAllotments opened count ins outs j xs) n h.1)
 
 -- one allotment more
 pub allotments_more : (opened : NetState) (count : ℕ) (ins : List (Option InView)) (outs : List (Option OutView))
-    (k j : ℕ) (allotments : List Allotment) (s : Allotment) → AreSeats opened count ins outs k allotments
+    (k j : ℕ) (allotments : List Allotment) (s : Allotment) → AreAllotments opened count ins outs k allotments
     → j ≡ k + length allotments
-    → IsSeat opened count ins outs j s → AreSeats opened count ins outs k (allotments ++ s ∷ [])
+    → IsAllotment opened count ins outs j s → AreAllotments opened count ins outs k (allotments ++ s ∷ [])
 allotments_more opened count ins outs k j [] s h e is = let n : j ≡ k = omega (arith, e) in
-    (subst (λ (m : ℕ). IsSeat opened count ins outs m s) n is, tt)
+    (subst (λ (m : ℕ). IsAllotment opened count ins outs m s) n is, tt)
 allotments_more opened count ins outs k j (x ∷ xs) s h e is =
     (h.0, allotments_more opened count ins outs (suc k) j xs s h.1 (omega (arith, e)) is)
 
@@ -73,7 +73,7 @@ module _ (opened : NetState) (count k : ℕ) (nodes : List NodeState) (allotment
   abbrev n : ℕ
   n = length opened.nodes
 
-  allotment : IsSeat opened count sh.ins sh.outs k s
+  allotment : IsAllotment opened count sh.ins sh.outs k s
   allotment = (front_allotment opened count sh.ins sh.outs k allotments s sh.allotments_left there is).0
 
   pub nodes_length : length nodes ≡ n - first_of n count k

@@ -30,25 +30,25 @@ module _ (opened : NetState) (count : ℕ) (ins : List (Option InView)) (outs : 
   share_at k = share_with k count (first k) (owned k) opened (ins_of k) (outs_of k)
 
   -- worker k gets the wires, the ends of its rings, and room for its nodes
-  pub record IsSeat (k : ℕ) (s : Allotment) : Type 0 where
-    pub opened_is : net_of_parts s.opened.value ≡ opened
-    pub wires : s.wires ≡ opened.wires
-    pub empty : s.nodes.items ≡ []
-    pub room : owned k ≤ vec_capacity s.nodes
-    pub ins_are : ins_view s.ins.items ≡ ins_of k
-    pub outs_are : outs_view s.outs.items ≡ outs_of k
+  pub record IsAllotment (k : ℕ) (a : Allotment) : Type 0 where
+    pub opened_is : net_of_parts a.opened.value ≡ opened
+    pub wires : a.wires ≡ opened.wires
+    pub empty : a.nodes.items ≡ []
+    pub room : owned k ≤ vec_capacity a.nodes
+    pub ins_are : ins_view a.ins.items ≡ ins_of k
+    pub outs_are : outs_view a.outs.items ≡ outs_of k
 
   -- workers from k on
-  abbrev pub AreSeats : ℕ → List Allotment → Type 0
-  AreSeats k [] = Unit {0}
-  AreSeats k (s ∷ ss) = IsSeat k s × AreSeats (suc k) ss
+  abbrev pub AreAllotments : ℕ → List Allotment → Type 0
+  AreAllotments k [] = Unit {0}
+  AreAllotments k (a ∷ rest) = IsAllotment k a × AreAllotments (suc k) rest
 
--- there is a allotment for each worker, with the rings of the net
+-- there is an allotment for each worker, with the rings of the net
 pub record AreAllotted (opened : NetState) (count : ℕ) (allotments : List Allotment) : Type 0 where
   pub ins : List (Option InView)
   pub outs : List (Option OutView)
   pub rings : AreRings opened ins outs
-  pub allotments_are : AreSeats opened count ins outs 0 allotments
+  pub allotments_are : AreAllotments opened count ins outs 0 allotments
   pub all : length allotments ≡ count
 
 -- the first k workers have theirs, with their nodes; the other nodes and allotments are left
@@ -58,6 +58,6 @@ pub record AreSharedOut (opened : NetState) (count k : ℕ) (nodes : List NodeSt
   pub outs : List (Option OutView)
   pub rings : AreRings opened ins outs
   pub nodes_left : nodes ≡ drop (first opened count ins outs k) opened.nodes
-  pub allotments_left : AreSeats opened count ins outs k allotments
+  pub allotments_left : AreAllotments opened count ins outs k allotments
   pub shares : map share_of ws ≡ map (share_at opened count ins outs) (first_nodes k)
   pub fresh : All HasDoneNothing ws

@@ -1,4 +1,5 @@
 //! What is left in a ring, once both of its ends are at hand.
+
 ghost use Rattle.std.specs.Prelude.{◌≡◌, ◌≢◌, ◌+◌, ◌*◌, ◌<◌, ◌≤◌, ℕ, length, vec_len, vec_capacity, Some};
 ghost use Rattle.std.specs.Prelude.{option_map, slice_index_or};
 ghost use Rattle.tnet.specs.Wires.{end_at};

@@ -71,8 +71,7 @@ impl Lull {
     }
 
     /// Whether no worker finds anything to do: each makes no more turns, or found nothing in a turn that began
-    /// after the
-    /// last one in which something was done.
+    /// after the last one in which something was done.
     fn is_over(&self, busy: u64) -> bool {
         for slot in self.slots.as_slice() {
             let rests_at = slot.rests_at.load(Ordering::SeqCst);
@@ -84,8 +83,7 @@ impl Lull {
     }
 
     /// A worker found nothing to do in a turn that began when all had made so many: it rests until another one has
-    /// done
-    /// something, or its patience ends. Whether no worker finds anything to do.
+    /// done something, or its patience ends. Whether no worker finds anything to do.
     pub fn rest(&self, worker: usize, busy: u64, patience: &mut u32) -> bool {
         let Some(slot) = self.slots.get(worker) else {
             yield_now();

@@ -1,4 +1,5 @@
 //! Opening a net for free workers.
+
 ghost use Rattle.std.specs.Prelude.{◌≡◌, ◌+◌, ◌<◌, ◌≤◌, ◌++◌, [], length, take, drop, vec_len, vec_capacity, IfOk};
 ghost use Rattle.std.specs.Prelude.{IfErr, Err};
 ghost use Rattle.tnet.specs.NetParts.{net_of_parts};
@@ -45,7 +46,7 @@ fn share_out(
     requires sound { IsSound (net_of_parts parts) }
     requires few { length parts.nodes.items ≤ 64 }
     requires some { (0 < length allotments.items) × (length allotments.items ≤ 64) }
-    requires seated { AreAllotted (net_of_parts parts) (length allotments.items) allotments.items }
+    requires allotted { AreAllotted (net_of_parts parts) (length allotments.items) allotments.items }
     requires empty { workers.items ≡ [] }
     requires room { length allotments.items ≤ vec_capacity workers }
     ensures { IsOpened (net_of_parts parts) (length allotments.items) result.items }
@@ -85,7 +86,7 @@ fn room(
     requires sound { IsSound (net_of_parts parts.now) }
     requires few { length parts.now.nodes.items ≤ 64 }
     requires workers { (0 < workers) × (workers ≤ 64) }
-    ensures seated { IfOk result (λ r. AreAllotted (net_of_parts parts.now) workers r.0.items) }
+    ensures allotted { IfOk result (λ r. AreAllotted (net_of_parts parts.now) workers r.0.items) }
     ensures empty { IfOk result (λ r. r.1.items ≡ []) }
     ensures room { IfOk result (λ r. workers ≤ vec_capacity r.1) }
 {
@@ -95,8 +96,7 @@ fn room(
 }
 
 /// Opens a net for so many workers, from 1 to 64. The nodes are shared out in their order, each worker gets as many
-/// as
-/// the others, rounded up, and the last may get fewer. What lay at the ends of wires lies in the rings.
+/// as the others, rounded up, and the last may get fewer. What lay at the ends of wires lies in the rings.
 ///
 /// # Errors
 /// `BadWorkers`, or `OutOfMemory`; the net comes back as it was.

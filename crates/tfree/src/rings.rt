@@ -1,4 +1,5 @@
 //! The rings of a net that is opened: one for each direction of each wire, with what lay there.
+
 ghost use Rattle.std.specs.Prelude.{◌≡◌, ◌+◌, ◌*◌, ◌<◌, ◌≤◌, [], None, length, replicate, IfOk, OnOk};
 ghost use Rattle.rtrb.specs.Ring.{sent, received};
 ghost use Rattle.tnet.specs.Net.{inbox_at};

@@ -1,5 +1,6 @@
 //! One event of a node at its rings: it takes from a ring where a packet is seen, and puts into one where room is
 //! seen.
+
 ghost use Rattle.std.specs.Prelude.{◌≡◌, ◌+◌, ◌<◌, [], ◌∷◌, ◌++◌, ℕ, length, map, option_map, nat_lt, slice_get};
 ghost use Rattle.std.specs.Prelude.{IsTrue, IfSome, IsSome, Ok, Err, true, false, Option, Some, None, MatchResult};
 ghost use Rattle.std.specs.Prelude.{List};

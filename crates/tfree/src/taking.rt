@@ -1,4 +1,5 @@
 //! Workers taken apart, in the order of their numbers.
+
 ghost use Rattle.std.specs.Prelude.{◌≡◌, ◌≢◌, ◌<◌, ◌≤◌, ◌+◌, ◌++◌, ℕ, vec_len, vec_capacity, IfOk, IfSome};
 ghost use Rattle.std.specs.Option.{IsSome};
 ghost use Rattle.tfree.specs.Opened.{worker_of, AreOfOpening};

@@ -1,4 +1,5 @@
 //! Workers that make many turns, each on a thread of its own.
+
 ghost use Rattle.std.specs.Prelude.{◌≡◌, ◌<◌, is_ok, length, map, IfErr, IfOk, ◌⊎◌, false, true};
 ghost use Rattle.std.specs.Thread.{IsSync};
 ghost use Rattle.tfree.specs.Opened.{share_of};
@@ -34,8 +35,7 @@ impl Worker {
     }
 
     /// After a turn in which it found nothing to do, which began when all had made so many turns in which something
-    /// was
-    /// done: whether none would find anything in a later turn. A worker without nodes never would.
+    /// was done: whether none would find anything in a later turn. A worker without nodes never would.
     fn is_over(&self, busy: Option<u64>, lull: &Lull, patience: &mut u32) -> bool {
         match busy {
             _ if self.nodes() == 0 => true,
@@ -56,15 +56,12 @@ fn refusal(ended: Result<(), TurnFault>) -> Result<(), AllocError>
 }
 
 /// Each worker makes so many turns, or stops at a turn's fault; where these are all the workers of their opening,
-/// they also
-/// stop when none finds anything more to do. Each is on a thread of its own where one can be started, else on that
-/// of another
-/// worker; with one worker no thread is started.
+/// they also stop when none finds anything more to do. Each is on a thread of its own where one can be started,
+/// else on that of another worker; with one worker no thread is started.
 ///
 /// # Errors
 /// A worker was refused memory in a turn, or there was none before the first turn. A full clock ends the turns of
-/// its worker
-/// and is no fault.
+/// its worker and is no fault.
 pub fn turn_all<R: Threads + Sync>(
     rt: &R,
     alloc: Global,

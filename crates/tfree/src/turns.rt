@@ -1,4 +1,5 @@
 //! A turn of a worker, phase by phase.
+
 ghost use Rattle.std.specs.Prelude.{◌≡◌, ◌+◌, ◌<◌, ℕ, length, is_ok, IfOk, Err};
 ghost use Rattle.tfree.specs.Logs.{IsActOf};
 ghost use Rattle.tfree.specs.Turns.{Phased, packets_of, emission_of, runs_of, all_packets, all_takes, all_sends};
@@ -125,8 +126,7 @@ impl Worker {
     }
 
     /// A turn over all its nodes: of each, at most two packets of each link, then the bytes that wait, then runs,
-    /// at most
-    /// `slice`, then the next bytes of its outputs. It waits for nobody.
+    /// at most `slice`, then the next bytes of its outputs. It waits for nobody.
     ///
     /// # Errors
     /// `OutOfMemory`, or `ClockFull` where the stamp of the next event would not fit. The events that were done

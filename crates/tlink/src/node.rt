@@ -1,8 +1,9 @@
 //! A node, whose processor and links fit one another at all times.
+
 ghost use Rattle.std.specs.Prelude.{◌≡◌, IfOk};
 ghost use Rattle.tlink.specs.Node.{NodeState, fresh_node};
 ghost use Rattle.tlink.specs.Events.{happens, node_answered, node_left_by, is_node_enabled};
-ghost use Rattle.tlink.specs.Whole.{HasNoticedNothing};
+ghost use Rattle.tlink.specs.Whole.{HasNoticedNothing, IsWhole};
 
 use crate::event::{Emitted, NodeEvent, StepFault};
 use crate::links::Links;
@@ -19,9 +20,6 @@ pub struct Node {
 }
 
 impl Model for Node {
-    ghost use Rattle.tlink.specs.Node.{NodeState};
-    ghost use Rattle.tlink.specs.Whole.{IsWhole};
-
     ghost Value = { NodeState };
 
     ghost view = { λ n. n.links };
@@ -30,9 +28,8 @@ impl Model for Node {
 }
 
 impl Node {
-    /// A node before its first event, and which of its links have a wire. Its processor may be at any point of its
-    /// run, as long
-    /// as no byte was noticed at its links.
+    /// A node before its first event, and which of its links have a wire. Its processor may be at any point of its run,
+    /// as long as no byte was noticed at its links.
     pub fn new(processor: Processor, wired: [bool; 4]) -> Self
         requires { HasNoticedNothing processor.control }
         ensures { result ≡ fresh_node processor wired }
@@ -57,9 +54,8 @@ impl Node {
     /// Does one event.
     ///
     /// # Errors
-    /// `NotEnabled` where the machine does not enable the event: nothing has changed. `Frozen` where the event
-    /// breaks a rule:
-    /// the node is frozen with that break, and nothing else has changed.
+    /// `NotEnabled` where the machine does not enable the event: nothing has changed. `Frozen` where the event breaks a
+    /// rule: the node is frozen with that break, and nothing else has changed.
     #[inline]
     pub fn step(&mut self, event: NodeEvent) -> Result<Emitted, StepFault>
         ensures told { result ≡ node_answered (happens event self.old) }

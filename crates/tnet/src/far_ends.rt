@@ -1,4 +1,5 @@
 //! The table of far ends: where each link of each node leads to.
+
 ghost use Rattle.std.specs.Prelude.{◌≡◌, All, IfOk};
 ghost use Rattle.tnet.specs.Wires.{far_end};
 ghost use Rattle.tnet.specs.Sound.{IsEnd};

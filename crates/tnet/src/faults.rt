@@ -1,4 +1,5 @@
 //! The faults of a plan that show before anything is built.
+
 ghost use Rattle.std.specs.Prelude.{◌≡◌, ◌||◌, [], length, position, MatchOption};
 ghost use Rattle.std.specs.List.{list_any};
 ghost use Rattle.tnet.specs.Wires.{same_end, joins};

@@ -1,4 +1,5 @@
 //! The bytes of a message.
+
 ghost use Rattle.std.specs.Prelude.{◌≡◌, ◌≤◌, vec_capacity};
 ghost use Rattle.tword.specs.Stores.{bytes_at};
 

@@ -1,4 +1,5 @@
 //! A net of nodes and wires, with the packets that lie at the ends of its wires.
+
 ghost use Rattle.std.specs.Prelude.{◌≡◌, ◌≢◌, ◌≤◌, ℕ, length, IsTrue, IfOk, ◌↔◌};
 ghost use Rattle.tlink.specs.Node.{NodeState};
 ghost use Rattle.tnet.specs.Net.{NetState};
@@ -45,8 +46,7 @@ impl Model for Net {
 
 impl Net {
     /// The net of a plan: of each node the segments are loaded in their order, later over earlier, and then the
-    /// processes are
-    /// added in theirs; no packet and no byte is about.
+    /// processes are added in theirs; no packet and no byte is about.
     ///
     /// # Errors
     /// The lowest fault of the plan, with its first place; `OutOfMemory` where the allocator refused.
@@ -80,9 +80,8 @@ impl Net {
     /// Does one event. An event on a node, a link or a packet that is not there is not enabled.
     ///
     /// # Errors
-    /// `NotEnabled` where the machine does not enable the event: nothing has changed. `Frozen` where the event
-    /// breaks a rule:
-    /// its node is frozen with that break, and nothing else has changed.
+    /// `NotEnabled` where the machine does not enable the event: nothing has changed. `Frozen` where the event breaks a
+    /// rule: its node is frozen with that break, and nothing else has changed.
     #[inline]
     pub fn step(&mut self, event: Event) -> Result<Emitted, StepFault>
         ensures told { result ≡ answered (net_happens event self.old) }
@@ -101,14 +100,12 @@ impl Net {
     pub fn apply(&mut self, events: &[Event]) -> Result<(), usize>
         ensures exact { applied_from 0 events.now self.old ≡ (self.new, refused result) }
 
-        // the headline: whatever was done, what the net shows of it is one run of the rendezvous machine, in which
-        // each
+        // the headline: whatever was done, what the net shows of it is one run of the rendezvous machine, in which each
         // message that is complete is one step that copies it whole
         ensures run { IsSeenRun self.old (done events.now result) self.new }
 
-        // along every wire and in each direction the bytes are taken in the order in which they were sent, and at
-        // most one is
-        // not acknowledged
+        // along every wire and in each direction the bytes are taken in the order in which they were sent, and at most
+        // one is not acknowledged
         ensures wires { WiresCarryInOrder self.old (done events.now result) self.new }
     {
         self.know_sound();

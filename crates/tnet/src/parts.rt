@@ -1,4 +1,5 @@
 //! The parts of a net, and an event of one of its nodes.
+
 ghost use Rattle.std.specs.Prelude.{◌≡◌, ◌<◌, ℕ, not, [], slice_index_or, slice_set, Option, None, IfOk};
 ghost use Rattle.std.specs.List.{list_all};
 ghost use Rattle.tlink.specs.Node.{NodeState};

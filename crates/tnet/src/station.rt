@@ -1,6 +1,6 @@
-//! A node at its place in a net: what lies at its links, and what an event of it takes, emits and tells. Nets,
-//! rounds and
-//! free workers do their events by these.
+//! A node at its place in a net: what lies at its links, and what an event of it takes, emits and tells. Nets, rounds
+//! and free workers do their events by these.
+
 ghost use Rattle.std.specs.Prelude.{◌≡◌, None, slice_set, vec_capacity};
 ghost use Rattle.tlink.specs.Events.{happens, node_left_by};
 ghost use Rattle.tnet.specs.Stations as plain;
@@ -119,9 +119,8 @@ pub fn input_of(node: &Node, event: NodeEvent) -> Option<Offer>
     }
 }
 
-/// What an event told, by the answer to its caller and the node that it left. The bytes of a message go into
-/// `room`, which is
-/// used up.
+/// What an event told, by the answer to its caller and the node that it left. The bytes of a message go into `room`,
+/// which is used up.
 #[inline(always)]
 pub fn note_of(
     alloc: Global,
@@ -175,8 +174,7 @@ fn message_note(
 }
 
 /// Does an event of a node: what it emitted and told, or nothing where it is not enabled. The bytes of a message go
-/// into
-/// `room`, which is used up.
+/// into `room`, which is used up.
 #[inline(always)]
 pub fn act(
     alloc: Global,

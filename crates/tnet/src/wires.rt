@@ -1,4 +1,5 @@
 //! The wires of a net with the table of their far ends, and the parts of a net.
+
 ghost use Rattle.std.specs.Prelude.{◌≡◌};
 ghost use Rattle.tnet.specs.Wires.{far_end};
 ghost use Rattle.tnet.specs.FarEnds.{AgreesWith, IsRow};

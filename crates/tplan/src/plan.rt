@@ -1,4 +1,5 @@
 //! A plan: the nodes, images and wires of a net.
+
 ghost use Rattle.std.specs.Prelude.{◌≡◌};
 ghost use Rattle.tplan.specs.declared.plan.BuildFault.TheVariants.{OutOfMemory};
 

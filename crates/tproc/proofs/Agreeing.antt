@@ -1,24 +1,19 @@
--- Claims agree with a control after each change of its lists.
+-- Claims agree with a control after each change of its lists of processes.
 use Rattle.std.proofs.Common.{◌≡◌, ◌≢◌, ◌∙◌, ℕ, zero, suc, ◌+◌, ◌<◌, ◌≤◌, ◌%◌, refl, sym, ap, not, ◌&&◌, ◌||◌, Bool}
-use Rattle.std.proofs.Common.{true, false, List, [], ◌∷◌, ◌++◌, map, set, get_or, length, Some, None, Option, arith}
-use Rattle.std.proofs.Common.{AllPairs, length-append}
-use Rattle.std.specs.List.{list_any}
-use Rattle.std.specs.Prelude.{IsSome, IfSome, ◌==◌, option_map, option_to_list}
+use Rattle.std.proofs.Common.{true, false, List, [], ◌∷◌, ◌++◌, length, Some, None, Option, arith, AllPairs}
+use Rattle.std.proofs.Common.{length-append}
+use Rattle.std.specs.Prelude.{IsSome, IfSome, ◌==◌, option_to_list}
 use Rattle.std.proofs.lemmas.Bool.{eqb-true, eqb-false, eq-eqb, ne_eqb, or_right}
-use Rattle.std.proofs.lemmas.List.{map-append, map-set, set-get_or, length-map}
+use Rattle.std.proofs.lemmas.List.{map-append, length-map}
 use Rattle.std.proofs.lemmas.List.Folds.{list_any-append}
 use Rattle.tword.specs.Claims.{Claims, has_saved, saving}
-use Rattle.tproc.specs.Machine.{Control, buffer_of, workspace_of, descheduled}
+use Rattle.tproc.specs.Machine.{Control, workspace_of, descheduled}
 use Rattle.tproc.specs.ProcessStatus.{is_among, reason_of}
 use Rattle.tproc.specs.declared.waiter.Reason.{Reason}
 use Rattle.tproc.specs.declared.waiter.Waiter.{Waiter}
-use Rattle.tproc.specs.declared.waiter.LinkEnd.{LinkEnd}
 use Rattle.tproc.specs.Queues.{appended, waiting_for, without_waiter}
-use Rattle.tproc.specs.declared.offer.Offer.{Offer}
-use Rattle.tproc.specs.Channels.{Side, Input, Output}
-use Rattle.tproc.specs.LinkChannels.{link_end, with_link, quiet_end, ended_at, without_buffer}
-use Rattle.tproc.specs.Agreement.{AgreesWith, Agrees, Settles, Unsettles, Leaves, IsPlain, StillSaved, StillAgrees}
-use Rattle.tword.specs.Accesses.{Frees, with_input, with_output, without_input, without_output}
+use Rattle.tproc.specs.Agreement.{AgreesWith, Agrees, Settles, Unsettles, Leaves, IsPlain, StillSaved}
+use Rattle.tword.specs.Accesses.{Frees}
 use Rattle.tproc.proofs.Occurs.{occurs, occurs-append, occurring_once, found-occurs, same_once}
 use Rattle.tproc.proofs.ClaimState.{workspaces_of, HasWaiter}
 use Rattle.tproc.proofs.Waiters.{without, without_none, waiter_occurs, found_waiter, filter_step}
@@ -327,77 +322,6 @@ still_saved_forgotten process m m' k = λ c h v e.
         → is_among v (xs ++ zs) ≡ true
     more v xs ys zs f e = rw list_any-append (kept (is_among v xs) _ _ f (rw list_any-append at e))
 
--- a link that was set says the same where the new one does
-set_same : {X : Type 0} (f : LinkEnd → X) (ls : List LinkEnd) (l : ℕ) (e : LinkEnd) → f e ≡ f (get_or ls l quiet_end)
-    → map f (set ls l e) ≡ map f ls
-set_same f ls l e h =
-    map-set f ls l e ∙ rw h (sym (map-set f ls l (get_or ls l quiet_end)) ∙ ap (map f) (set-get_or ls l quiet_end))
-
--- a link is set, and claims change in the same way
-pub agrees_linked : (l : ℕ) (e : LinkEnd) (others : List ℕ) (c d : Claims) (m : Control) → AgreesWith others c m
-    → d.inputs ≡ set c.inputs l (option_map buffer_of e.input)
-    → d.outputs ≡ set c.outputs l (option_map buffer_of e.output) → d.saved ≡ c.saved
-    → AgreesWith others d (with_link l e m)
-agrees_linked l e others c d m h i o s =
-    record {
-      on =
-          record {
-            saved = λ v. ap (λ (xs : List ℕ). list_any (λ w. w == v) xs) s ∙ h.on.saved v;
-            count = rw s h.on.count;
-            inputs = i ∙ ap (λ xs. set xs l (option_map buffer_of e.input)) h.on.inputs
-                ∙ sym (map-set (λ (x : LinkEnd). option_map buffer_of x.input) m.links l e);
-            outputs = o ∙ ap (λ xs. set xs l (option_map buffer_of e.output)) h.on.outputs
-                ∙ sym (map-set (λ (x : LinkEnd). option_map buffer_of x.output) m.links l e);
-          };
-    }
-
--- the buffer of a link in the claims
-claimed_at : (f : LinkEnd → Option Offer) (ls : List LinkEnd) (l : ℕ) → f quiet_end ≡ None
-    → get_or (map (λ e. option_map buffer_of (f e)) ls) l None ≡ option_map buffer_of (f (get_or ls l quiet_end))
-claimed_at f [] l e = rw e refl
-claimed_at f (x ∷ xs) zero e = refl
-claimed_at f (x ∷ xs) (suc l) e = claimed_at f xs l e
-
-pub output_at : (others : List ℕ) (c : Claims) (m : Control) (l : ℕ) → AgreesWith others c m
-    → get_or c.outputs l None ≡ option_map buffer_of (link_end m l).output
-output_at others c m l h = rw h.on.outputs (claimed_at (λ e. e.output) m.links l refl)
-
-pub input_at : (others : List ℕ) (c : Claims) (m : Control) (l : ℕ) → AgreesWith others c m
-    → get_or c.inputs l None ≡ option_map buffer_of (link_end m l).input
-input_at others c m l h = rw h.on.inputs (claimed_at (λ e. e.input) m.links l refl)
-
--- so a link of which a half stays as it is has that half claimed as before
-pub output_stays : (others : List ℕ) (c : Claims) (m : Control) (l : ℕ) → AgreesWith others c m
-    → c.outputs ≡ set c.outputs l (option_map buffer_of (link_end m l).output)
-output_stays others c m l h = rw (← output_at others c m l h) (sym (set-get_or c.outputs l None))
-
-pub input_stays : (others : List ℕ) (c : Claims) (m : Control) (l : ℕ) → AgreesWith others c m
-    → c.inputs ≡ set c.inputs l (option_map buffer_of (link_end m l).input)
-input_stays others c m l h = rw (← input_at others c m l h) (sym (set-get_or c.inputs l None))
-
--- an output begins at a link, or an input
-pub agrees_output : (l : ℕ) (o : Offer) (others : List ℕ) (c d : Claims) (m m' : Control) → AgreesWith others c m
-    → d ≡ with_output l (buffer_of o) c → m' ≡ with_link l (record (link_end m l) { output = Some o }) m
-    → AgreesWith others d m'
-agrees_output l o others c d m m' h e k =
-    rw (e, k) (agrees_linked l (record (link_end m l) { output = Some o }) others c (with_output l (buffer_of o) c) m h
-    (input_stays others c m l h) refl refl)
-
-pub agrees_input : (l : ℕ) (o : Offer) (others : List ℕ) (c d : Claims) (m m' : Control) → AgreesWith others c m
-    → d ≡ with_input l (buffer_of o) c
-    → m' ≡ with_link l (record (link_end m l) { input = Some o; noticed = false; remembered = None }) m
-    → AgreesWith others d m'
-agrees_input l o others c d m m' h e k =
-    rw (e, k) (agrees_linked l (record (link_end m l) { input = Some o; noticed = false; remembered = None }) others c
-    (with_input l (buffer_of o) c) m h refl (output_stays others c m l h) refl)
-
--- a link is set that keeps its offers
-pub still_linked : (l : ℕ) (e : LinkEnd) (m m' : Control) → m' ≡ with_link l e m → e.output ≡ (link_end m l).output
-    → e.input ≡ (link_end m l).input → StillAgrees m m'
-still_linked l e m m' k o i = λ others c h.
-    rw k (agrees_linked l e others c c m h (rw i (input_stays others c m l h)) (rw o (output_stays others c m l h))
-    refl)
-
 -- the words of a workspace that no process has are freed
 pub agrees_freed : (w : ℕ) (c d : Claims) (m : Control) → AgreesWith (w ∷ []) c m → is_among w (descheduled m) ≡ false
     → Frees w c d → length d.saved + 1 ≡ length c.saved → (d.inputs ≡ c.inputs) × (d.outputs ≡ c.outputs) → Agrees d m
@@ -415,13 +339,3 @@ agrees_freed w c d m h f frees count same =
         → (not b && ((w == v) || is_among v (descheduled m))) ≡ is_among v (descheduled m)
     only v true k = rw (eqb-true v w k, f) refl
     only v false k = rw (ne_eqb w v (λ q. eqb-false v w k (sym q))) refl
-
--- what is pending at a half of a link is over
-pub agrees_ended : (side : Side) (l : ℕ) (others : List ℕ) (c d : Claims) (m m' : Control) → AgreesWith others c m
-    → d ≡ without_buffer side l c → m' ≡ with_link l (ended_at side (link_end m l)) m → AgreesWith others d m'
-agrees_ended Output l others c d m m' h e k =
-    rw (e, k) (agrees_linked l (record (link_end m l) { output = None }) others c (without_output l c) m h
-    (input_stays others c m l h) refl refl)
-agrees_ended Input l others c d m m' h e k =
-    rw (e, k) (agrees_linked l (record (link_end m l) { input = None }) others c (without_input l c) m h refl
-    (output_stays others c m l h) refl)

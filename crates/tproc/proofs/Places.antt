@@ -12,7 +12,7 @@ use Rattle.tproc.specs.Queues.{without_waiter}
 use Rattle.tproc.proofs.ClaimState.{HasWaiter}
 use Rattle.tproc.proofs.PlaceMoves.{population, ones, live-length}
 use Rattle.tproc.proofs.PlaceRows.{room_left}
-use Rattle.tproc.specs.Agreement.{Agrees, IsPlain, IsOwn, HasPlace, taken}
+use Rattle.tproc.specs.Agreement.{Agrees, IsPlain, IsOwn, HasPlace, descheduled_count}
 use Rattle.tproc.proofs.Agreeing.{a_waiter, once_waiting, one_less}
 
 pub place_admitted : (m : Control) → has_room m ≡ true → HasPlace m
@@ -41,7 +41,7 @@ place_released m process h e =
     omega (arith, few, one_less process m.waiting w.0 (once_waiting m h.distinct) w.1)
 
 pub taken_released : (m m' : Control) (process : ℕ) → IsPlain m → IsSome (reason_of m process)
-    → m' ≡ without_waiter process m → taken m' + 1 ≡ taken m
+    → m' ≡ without_waiter process m → descheduled_count m' + 1 ≡ descheduled_count m
 taken_released m m' process h e k =
     let w : (r : Reason) × HasWaiter m.waiting process r = a_waiter m process e in
     rw k (omega (arith, one_less process m.waiting w.0 (once_waiting m h.distinct) w.1))

@@ -11,7 +11,7 @@ use Rattle.tword.specs.Actions.{Action, answer, breaks, requiring, touching_word
 use Rattle.tword.specs.Actions.{writing_byte, copying, descheduling, reading_saved, setting_saved, unless, run}
 use Rattle.tword.specs.Actions.{run_from, ◌>>=◌, value_of}
 use Rattle.tcode.specs.declared.instruction.Instruction.{Instruction}
-use Rattle.tcode.specs.Chains.{Part, More, Last, part, is_listed, instruction, longest}
+use Rattle.tcode.specs.Chains.{Chained, More, Last, chained, is_listed, instruction, longest}
 use Rattle.tcode.specs.Decoding.{complete, fetch, decode}
 use Rattle.tcpu.specs.declared.registers.Registers.{Registers}
 use Rattle.tcpu.specs.declared.registers.Next.{Next}
@@ -72,7 +72,7 @@ reading_bind (reading_saved w k next) f old new c q = absurd q
 reading_bind (setting_saved w k v next) f old new c q = absurd q
 
 -- the bytes of an instruction
-complete-reading : (rest : ℤ → Action Instruction) (length : ℕ) (p : Part) → ((w : ℤ) → IsReading (rest w))
+complete-reading : (rest : ℤ → Action Instruction) (length : ℕ) (p : Chained) → ((w : ℤ) → IsReading (rest w))
     → IsReading (complete rest length p)
 complete-reading rest length (More w) h = h w
 complete-reading rest length (Last f w) h = by (is_listed f w)
@@ -84,7 +84,7 @@ complete-reading rest length (Last f w) h = by (is_listed f w)
 fetch-reading : (left had address : ℕ) (value : ℤ) → IsReading (fetch left had address value)
 fetch-reading zero had address value = tt
 fetch-reading (suc left) had address value =
-    λ byte. complete-reading (fetch left (suc had) (plus address 1)) (suc had) (part value byte)
+    λ byte. complete-reading (fetch left (suc had) (plus address 1)) (suc had) (chained value byte)
     (λ w. fetch-reading left (suc had) (plus address 1) w)
 
 -- what was decoded tells how a step begins

@@ -9,7 +9,7 @@ use Rattle.tcode.specs.declared.instruction.Function.TheVariants as function
 use Rattle.tcode.specs.declared.instruction.Operation.{Operation}
 use Rattle.tcode.specs.declared.instruction.Operation.TheVariants as op
 use Rattle.tcode.specs.declared.instruction.Instruction.{Instruction as Decoded}
-use Rattle.tcode.specs.Chains.{Part, More, Last, part, is_listed, instruction, longest}
+use Rattle.tcode.specs.Chains.{Chained, More, Last, chained, is_listed, instruction, longest}
 use Rattle.tcode.specs.Table.{operation_at}
 use Rattle.tcode.specs.Decoding.{complete, fetch, decode}
 use Rattle.tcpu.specs.declared.registers.Registers.{Registers}
@@ -20,7 +20,7 @@ use Rattle.tcpu.specs.Effects.{local_or_left, selected_effect, effect_at, effect
 use Rattle.tproc.proofs.SavedSets.{SetsNone}
 
 -- the bytes of an instruction
-complete-none : (rest : ℤ → Action Decoded) (length : ℕ) (p : Part) → ((w : ℤ) → SetsNone (rest w))
+complete-none : (rest : ℤ → Action Decoded) (length : ℕ) (p : Chained) → ((w : ℤ) → SetsNone (rest w))
     → SetsNone (complete rest length p)
 complete-none rest length (More w) h = h w
 complete-none rest length (Last f w) h = by (is_listed f w)
@@ -32,7 +32,7 @@ complete-none rest length (Last f w) h = by (is_listed f w)
 fetch-none : (left had address : ℕ) (value : ℤ) → SetsNone (fetch left had address value)
 fetch-none zero had address value = tt
 fetch-none (suc left) had address value =
-    λ byte. complete-none (fetch left (suc had) (plus address 1)) (suc had) (part value byte)
+    λ byte. complete-none (fetch left (suc had) (plus address 1)) (suc had) (chained value byte)
     (λ w. fetch-none left (suc had) (plus address 1) w)
 
 pub decode-none : (iptr : ℕ) → SetsNone (decode iptr)

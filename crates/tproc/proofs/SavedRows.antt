@@ -1,9 +1,9 @@
 -- What each row of a step and each action of a link sets of saved words: one queue link at most, where it queues a
 -- process behind another.
-use Rattle.std.proofs.Common.{◌≡◌, ℕ, zero, suc, ◌+◌, ◌%◌, ◌<◌, refl, sym, ap, subst, List, [], ◌∷◌, ◌++◌, Bool, true}
-use Rattle.std.proofs.Common.{false, not, ◌&&◌, ◌||◌, Option, Some, None, ◌⊎◌, inl, inr, arith}
+use Rattle.std.proofs.Common.{◌≡◌, ℕ, zero, suc, ◌+◌, ◌%◌, ◌<◌, refl, subst, List, [], ◌∷◌, Bool, true, false, not}
+use Rattle.std.proofs.Common.{◌&&◌, ◌||◌, Option, Some, None, inl, inr, arith}
 use Rattle.std.proofs.lemmas.Bool.{eqb-true}
-use Rattle.std.specs.Prelude.{◌==◌, if◌then◌else◌, nat_le, option_map}
+use Rattle.std.specs.Prelude.{◌==◌, if◌then◌else◌, nat_le}
 use Rattle.tword.specs.Words.{plus, minus, word_below}
 use Rattle.tword.specs.declared.breaks.Break.TheVariants.{AlreadyLive}
 use Rattle.tword.specs.Actions.{Deed, answer, done, ◌>>=◌, ◌>>◌, require, write_word, set_saved_word, deschedule}
@@ -18,55 +18,29 @@ use Rattle.tcpu.specs.Effects.{effect}
 use Rattle.tproc.specs.declared.offer.Offer.{Offer}
 use Rattle.tproc.specs.declared.offer.Ran.{Ran}
 use Rattle.tproc.specs.declared.offer.Ran.TheVariants.{Instruction}
-use Rattle.tproc.specs.Machine.{Control, workspace_of, priority_of}
+use Rattle.tproc.specs.Machine.{Control, workspace_of}
 use Rattle.tproc.specs.declared.waiter.LinkEnd.{LinkEnd}
 use Rattle.tproc.specs.declared.waiter.Suspended.{Suspended}
-use Rattle.tproc.specs.declared.waiter.Reason.TheVariants.{Receives, Sends, Chooses}
-use Rattle.tproc.specs.ProcessStatus.{ProcessStatus, Waits, Queued, Runs, Interrupted, standing, is_live, is_among}
-use Rattle.tproc.specs.ProcessStatus.{queue}
-use Rattle.tproc.specs.Queues.{appended, not_process, iptr_word, link_word, state_word, last_of, link_from, enqueue}
-use Rattle.tproc.specs.Queues.{release, without_waiter, at_rest, waiting_for, admit, add_process}
-use Rattle.tproc.specs.Channels.{enabling, waiting_state, ready, set_touched_word, Side, Input, Output, Request}
-use Rattle.tproc.specs.Channels.{waits_on_channel, exchanged, reason_for, input_meets, output_meets, meets}
-use Rattle.tproc.specs.Channels.{internal_message, goes_on, own_side}
-use Rattle.tproc.specs.LinkChannels.{offered, link_end, with_link, link_of, is_link, link_message, message, check_end}
-use Rattle.tproc.specs.LinkChannels.{check_free}
+use Rattle.tproc.specs.declared.waiter.Reason.TheVariants.{Sends, Chooses}
+use Rattle.tproc.specs.declared.process_status.ProcessStatus.{ProcessStatus}
+use Rattle.tproc.specs.declared.process_status.ProcessStatus.TheVariants.{Waits, Runs}
+use Rattle.tproc.specs.ProcessStatus.{status, is_live, is_among}
+use Rattle.tproc.specs.Queues.{not_process, iptr_word, state_word, enqueue, at_rest, waiting_for, admit, add_process}
+use Rattle.tproc.specs.declared.channels.Side.{Side}
+use Rattle.tproc.specs.declared.channels.Side.TheVariants.{Input, Output}
+use Rattle.tproc.specs.Channels.{enabling, waiting_state, ready, goes_on}
+use Rattle.tproc.specs.LinkChannels.{link_end, with_link, link_of, is_link, check_end, check_free}
 use Rattle.tproc.specs.Alternatives.{none_selected, sets_ready, enable_link, enable_found, enable_internal, enable}
 use Rattle.tproc.specs.Alternatives.{enables_channel, enables_skip, awaits_choice, disable_found, disable_internal}
 use Rattle.tproc.specs.Alternatives.{disable_link, disable, selects, disables_channel}
 use Rattle.tproc.specs.Scheduler.{counted, counted_by, yields, jumped_low, jumped, stops, ends, starts, runs}
 use Rattle.tproc.specs.Scheduler.{communicates, sends_from_workspace, operation_step}
 use Rattle.tproc.specs.Links.{wakes, readies_queued, readies_running, finished}
-use Rattle.tproc.specs.SavedWords.{IsRestOf}
 use Rattle.tproc.specs.Steps.{after, instruction_step, dispatch_low, dispatch_below, dispatch, low_step, running_step}
 use Rattle.tproc.specs.Steps.{control_step}
 use Rattle.tproc.proofs.SavedEffects.{decode-none, effect-none}
 use Rattle.tproc.proofs.SavedSets.{Sets, sets_bind, sets_if, SetsNone, sets_none}
-
--- the queue of a priority
-abbrev pub queue_of : ℕ → (high low : List ℕ) → List ℕ
-queue_of zero high low = high
-queue_of (suc p) high low = low
-
--- a workspace has come behind the others of the queue of a priority
-abbrev pub IsBehind : (priority workspace : ℕ) → (high low high' low' : List ℕ) → Type 0
-IsBehind zero w high low high' low' = (high' ≡ high ++ w ∷ []) × (low' ≡ low)
-IsBehind (suc p) w high low high' low' = (high' ≡ high) × (low' ≡ low ++ w ∷ [])
-
--- the queues after an action, by the link that it set: no link, and each queue is as it was or has lost its first; or
--- one process has come, and the last of its queue is linked to it
-abbrev pub Turns : (high low high' low' : List ℕ) → Option (ℕ × ℕ) → Type 0
-Turns high low high' low' link =
-    ((link ≡ None) × IsRestOf high high' × IsRestOf low low')
-    ⊎ ((p : ℕ) × (w : ℕ) × (link ≡ option_map (λ last. (last, w)) (last_of (queue_of p high low)))
-    × IsBehind p w high low high' low')
-
--- the answers of steps and of parts
-abbrev pub StepTurns : Control → Option (ℕ × ℕ) → Control × Ran → Type 0
-StepTurns m link r = Turns m.high m.low r.0.high r.0.low link
-
-abbrev pub PartTurns : Control → Option (ℕ × ℕ) → Control → Type 0
-PartTurns m link m' = Turns m.high m.low m'.high m'.low link
+use Rattle.tproc.proofs.QueueLinks.{StepTurns, PartTurns, stays, enqueue-turns, release-turns, message-turns}
 
 -- the answers of parts and of tests that leave the queues, and set no link
 abbrev PartStays : Control → Option (ℕ × ℕ) → Control → Type 0
@@ -75,121 +49,11 @@ PartStays m link m' = (link ≡ None) × (m'.high ≡ m.high) × (m'.low ≡ m.l
 abbrev AnswerStays : Control → Option (ℕ × ℕ) → Control × Bool → Type 0
 AnswerStays m link r = PartStays m link r.0
 
--- nothing of the queues changes
-pub stays : (high low : List ℕ) → Turns high low high low None
-stays high low = inl (refl, inl refl, inl refl)
-
 stays_so : (m m' : Control) (link : Option (ℕ × ℕ)) → PartStays m link m' → PartTurns m link m'
 stays_so m m' link h = inl (h.0, inl h.1, inl h.2)
 
-appended-turns : (p w : ℕ) (m : Control) (link : Option (ℕ × ℕ))
-    → link ≡ option_map (λ last. (last, w)) (last_of (queue m p)) → PartTurns m link (appended w p m)
-appended-turns zero w m link e = inr (zero, w, e, (refl, refl))
-appended-turns (suc p) w m link e = inr (suc p, w, e, (refl, refl))
-
-offered-stays : (side : Side) (q : Request) (m : Control) → PartTurns m None (offered q side m)
-offered-stays Input q m = stays m.high m.low
-offered-stays Output q m = stays m.high m.low
-
 -- D: the workspaces that are watched
 module _ (D : List ℕ) where
-  -- a process is queued, or queued after it waited
-  enqueue-turns : (process : ℕ) (m : Control) → Sets D (PartTurns m) None (enqueue process m)
-  unfolding enqueue
-  enqueue-turns process m = by (last_of (queue m (priority_of process))) refl
-    where
-      w : ℕ
-      w = workspace_of process
-
-      by : (o : Option ℕ) → last_of (queue m (priority_of process)) ≡ o
-          → Sets D (PartTurns m) None (link_from o w >>= (λ _. answer (appended w (priority_of process) m)))
-      by None e = appended-turns (priority_of process) w m None (ap (option_map (λ last. (last, w))) (sym e))
-      by (Some last) e =
-          inr (inr (
-            refl,
-            refl,
-            appended-turns (priority_of process) w m (Some (last, w)) (ap (option_map (λ v. (v, w))) (sym e)),
-          ))
-
-  release-turns : (process : ℕ) (m : Control) → Sets D (PartTurns m) None (release process m)
-  unfolding release
-  release-turns process m = enqueue-turns process (without_waiter process m)
-
-  -- messages on channels
-  exchanged-turns : (r : Registers) (q : Request) (other from to : ℕ) (m : Control)
-      → Sets D (StepTurns m) None (exchanged r q other from to m)
-  exchanged-turns r q other from to m =
-      sets_bind D (PartTurns m) (StepTurns m) (release other m) (goes_on r) None (release-turns other m) (λ l m' h. h)
-
-  input_meets-turns : (r : Registers) (q : Request) (other : ℕ) (at : ProcessStatus) (m : Control)
-      → Sets D (StepTurns m) None (input_meets r q other at m)
-  input_meets-turns r q other (Waits (Sends channel buffer length)) m =
-      λ _ _. exchanged-turns r q other buffer q.buffer m
-  input_meets-turns r q other _ m = tt
-
-  set_touched-turns : (w address v : ℕ) → is_among w D ≡ false
-      → Sets D (λ l _. l ≡ None) None (set_touched_word w address v)
-  set_touched-turns w address v fresh =
-      sets_if D Q (address == word_below w iptr_word) (set_saved_word w iptr_word v)
-      (if address == word_below w link_word then set_saved_word w link_word v
-      else (if address == word_below w state_word then set_saved_word w state_word v else write_word address v))
-      None (inl (fresh, refl))
-      (sets_if D Q (address == word_below w link_word) (set_saved_word w link_word v)
-      (if address == word_below w state_word then set_saved_word w state_word v else write_word address v) None
-      (inl (fresh, refl))
-      (sets_if D Q (address == word_below w state_word) (set_saved_word w state_word v) (write_word address v) None
-      (inl (fresh, refl)) refl))
-    where
-      Q : Option (ℕ × ℕ) → Unit {0} → Type 0
-      Q l _ = l ≡ None
-
-  output_meets-turns : (r : Registers) (q : Request) (other : ℕ) (at : ProcessStatus) (m : Control)
-      → Sets D (StepTurns m) None (output_meets r q other at m)
-  unfolding own_side
-  output_meets-turns r q other (Waits (Receives channel buffer length)) m =
-      λ _ _. exchanged-turns r q other q.buffer buffer m
-  output_meets-turns r q other (Waits Chooses) m = λ fresh. inl (
-    fresh,
-    inl (
-      fresh,
-      inr (inl (
-        refl,
-        sets_bind D (PartTurns m) (StepTurns m) (release other m)
-            (λ m'. answer (waiting_for q.process (reason_for q q.side) m', Instruction)) None (release-turns other m)
-            (λ l m' h. h),
-      )),
-    ),
-  )
-  output_meets-turns r q other Queued m = λ _ _ fresh. inl (fresh, inl (fresh, inr (inl (refl, stays m.high m.low))))
-  output_meets-turns r q other Interrupted m = λ _ _ fresh. inl (
-    fresh,
-    inl (
-      fresh,
-      sets_bind D (λ l _. l ≡ None) (StepTurns m)
-          (set_touched_word m.registers.wptr (word_below (workspace_of other) state_word) ready)
-          (λ _. answer (waiting_for q.process (reason_for q q.side) m, Instruction)) None
-          (set_touched-turns m.registers.wptr (word_below (workspace_of other) state_word) ready fresh)
-          (λ l _ h. inl (h, inl refl, inl refl)),
-    ),
-  )
-  output_meets-turns r q other _ m = tt
-
-  meets-turns : (side : Side) (r : Registers) (q : Request) (other : ℕ) (m : Control)
-      → Sets D (StepTurns m) None (meets side r q other m)
-  meets-turns Input r q other m = input_meets-turns r q other (standing m other) m
-  meets-turns Output r q other m = output_meets-turns r q other (standing m other) m
-
-  internal-turns : (r : Registers) (q : Request) (m : Control) → Sets D (StepTurns m) None (internal_message r q m)
-  unfolding own_side
-  internal-turns r q m = λ v.
-      sets_if D (StepTurns m) (v == not_process) (waits_on_channel q m) (meets q.side r q v m) None
-      (λ fresh. inl (fresh, inl (fresh, stays m.high m.low))) (meets-turns q.side r q v m)
-
-  message-turns : (r : Registers) (q : Request) (m : Control) → Sets D (StepTurns m) None (message r q m)
-  message-turns r q m =
-      sets_if D (StepTurns m) (is_link q.channel) (link_message q m) (internal_message r q m) None
-      (λ _ _ _ _ fresh. inl (fresh, offered-stays q.side q m)) (internal-turns r q m)
-
   -- alternatives
   enable_link-stays : (l process : ℕ) (e : LinkEnd) (m : Control)
       → Sets D (PartStays m) None (enable_link l process e m)
@@ -211,8 +75,8 @@ module _ (D : List ℕ) where
       (link_end m (link_of Input channel)) m)) (enable_internal channel process m) None
       (λ _ _ _. enable_link-stays (link_of Input channel) process (link_end m (link_of Input channel)) m)
       (λ v. sets_if D (PartStays m) (v == not_process) (write_word channel process >> answer m)
-      (enable_found channel process v (standing m v) m) None (refl, refl, refl)
-      (enable_found-stays channel process v (standing m v) m))
+      (enable_found channel process v (status m v) m) None (refl, refl, refl)
+      (enable_found-stays channel process v (status m v) m))
 
   disable_found-stays : (channel : ℕ) (at : ProcessStatus) (m : Control)
       → Sets D (AnswerStays m) None (disable_found channel at m)
@@ -227,8 +91,8 @@ module _ (D : List ℕ) where
       (check_free Input channel m >> disable_link (link_of Input channel) (link_end m (link_of Input channel)) m))
       (disable_internal channel m) None
       (λ _ _ _. (refl, refl, refl))
-      (λ v. sets_if D (AnswerStays m) (v == not_process) (answer (m, false)) (disable_found channel (standing m v) m)
-      None (refl, refl, refl) (disable_found-stays channel (standing m v) m))
+      (λ v. sets_if D (AnswerStays m) (v == not_process) (answer (m, false)) (disable_found channel (status m v) m)
+      None (refl, refl, refl) (disable_found-stays channel (status m v) m))
 
   enables_channel-turns : (process : ℕ) (m : Control) → Sets D (StepTurns m) None (enables_channel process m)
   enables_channel-turns process m = λ v _.
@@ -302,21 +166,21 @@ module _ (D : List ℕ) where
       inl (
         subst (λ w. is_among w D ≡ false) own fresh,
         sets_bind D (PartTurns m) (StepTurns m) (enqueue (m.registers.a + priority) m) (goes_on (pop (pop m.registers)))
-            None (enqueue-turns (m.registers.a + priority) m) (λ l m' h. h),
+            None (enqueue-turns D (m.registers.a + priority) m) (λ l m' h. h),
       )
 
   runs-turns : (m : Control) → Sets D (StepTurns m) None (runs m)
   unfolding admit
   runs-turns m =
       λ _ _ _ fresh. sets_bind D (PartTurns m) (StepTurns m) (enqueue m.registers.a m) (goes_on (pop m.registers)) None
-      (enqueue-turns m.registers.a m) (λ l m' h. h)
+      (enqueue-turns D m.registers.a m) (λ l m' h. h)
 
   yields-turns : (process : ℕ) (m : Control) → Sets D (StepTurns m) None (yields process m)
   yields-turns process m =
       λ fresh. inl (
         fresh,
         sets_bind D (PartTurns m) (StepTurns m) (enqueue process (at_rest m)) (λ m'. answer (m', Instruction))
-            None (enqueue-turns process (at_rest m)) (λ l m' h. h),
+            None (enqueue-turns D process (at_rest m)) (λ l m' h. h),
       )
 
   jumped_low-turns : (q : List ℕ) (m : Control) → Sets D (StepTurns m) None (jumped_low q m)
@@ -332,12 +196,12 @@ module _ (D : List ℕ) where
   communicates-turns : (side : Side) (process : ℕ) (m : Control)
       → Sets D (StepTurns m) None (communicates side process m)
   communicates-turns side process m = let r : Registers = m.registers in
-      message-turns (pop (pop (pop r)))
+      message-turns D (pop (pop (pop r)))
       (record { process = process; side = side; channel = r.b; buffer = r.c; length = r.a }) m
 
   sends-turns : (length process : ℕ) (m : Control) → Sets D (StepTurns m) None (sends_from_workspace length process m)
   sends-turns length process m = let r : Registers = m.registers in
-      message-turns (pop (pop r))
+      message-turns D (pop (pop r))
       (record { process = process; side = Output; channel = r.b; buffer = r.wptr; length = length }) m
 
   -- an operation
@@ -411,7 +275,7 @@ module _ (D : List ℕ) where
 
   -- the actions of links
   pub wakes-turns : (process : ℕ) (m : Control) → Sets D (PartTurns m) None (wakes process m)
-  wakes-turns process m = inr (inl (refl, release-turns process m))
+  wakes-turns process m = inr (inl (refl, release-turns D process m))
 
   pub readies_queued-turns : (process : ℕ) (m : Control) → Sets D (PartTurns m) None (readies_queued process m)
   readies_queued-turns process m = λ v. by (v == enabling)
@@ -433,9 +297,9 @@ module _ (D : List ℕ) where
 
   pub finished-turns : (o : Option Offer) (m : Control) → Sets D (PartTurns m) None (finished o m)
   finished-turns None m = stays m.high m.low
-  finished-turns (Some o) m = release-turns o.wdesc m
+  finished-turns (Some o) m = release-turns D o.wdesc m
 
   -- a process that is added
   pub added-turns : (process iptr : ℕ) (m : Control) → Sets D (PartTurns m) None (add_process process iptr m)
   unfolding admit
-  added-turns process iptr m = λ _ _ _ fresh. inl (fresh, enqueue-turns process m)
+  added-turns process iptr m = λ _ _ _ fresh. inl (fresh, enqueue-turns D process m)

@@ -19,7 +19,9 @@ use Rattle.tproc.specs.declared.offer.Ran.{Ran}
 use Rattle.tproc.specs.Machine.{Control, Machine, descheduled, buffer_of, claims_of}
 use Rattle.tproc.specs.declared.waiter.LinkEnd.{LinkEnd}
 use Rattle.tproc.specs.declared.waiter.Reason.TheVariants.{Chooses}
-use Rattle.tproc.specs.ProcessStatus.{ProcessStatus, Waits, Queued, Runs, Interrupted, standing, is_among, queue}
+use Rattle.tproc.specs.declared.process_status.ProcessStatus.{ProcessStatus}
+use Rattle.tproc.specs.declared.process_status.ProcessStatus.TheVariants.{Waits, Queued, Runs, Interrupted}
+use Rattle.tproc.specs.ProcessStatus.{status, is_among, queue}
 use Rattle.tproc.specs.Queues.{iptr_word, link_word, last_of, add_process}
 use Rattle.tproc.specs.LinkChannels.{link_end, with_link}
 use Rattle.tproc.specs.Placement.{IsWord, IsWorkspace, IsPlaced}
@@ -42,8 +44,9 @@ use Rattle.tproc.proofs.Pending.{at_some}
 use Rattle.tproc.proofs.Handing.{Lies, buffer_lies}
 use Rattle.tproc.proofs.SavedSets.{Sets}
 use Rattle.tproc.proofs.SavedRuns.{Leaves, LinkIs, IsFine, leaves_self, put_leaves, sets_run}
-use Rattle.tproc.proofs.SavedRows.{Turns, StepTurns, PartTurns, stays, control-turns, wakes-turns, readies_queued-turns}
-use Rattle.tproc.proofs.SavedRows.{readies_running-turns, finished-turns, added-turns}
+use Rattle.tproc.proofs.QueueLinks.{Turns, StepTurns, PartTurns, stays}
+use Rattle.tproc.proofs.SavedRows.{control-turns, wakes-turns, readies_queued-turns, readies_running-turns}
+use Rattle.tproc.proofs.SavedRows.{finished-turns, added-turns}
 
 -- what a move leaves of the queues and of the store, by the link that it set
 abbrev Told : Machine → Machine → Type 0
@@ -136,7 +139,7 @@ module _ (n : Machine) (p : IsPlaced n) where
       → Told n (notify o (record n { control = record n.control { links = links } }))
   told_notify links None = told_same
   told_notify links (Some process) =
-      told_notify_at links (standing (record n.control { links = links }) process) process
+      told_notify_at links (status (record n.control { links = links }) process) process
 
   -- a notice
   told_notice : (l : ℕ) → Told n (notice l n)

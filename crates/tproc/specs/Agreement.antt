@@ -62,12 +62,12 @@ pub record IsReady (claims : Claims) (m : Control) : Type 0 where
   pub agrees : Agrees claims m
 
 -- how many are queued or wait
-abbrev pub taken : Control → ℕ
-taken m = length m.high + length m.low + length m.waiting
+abbrev pub descheduled_count : Control → ℕ
+descheduled_count m = length m.high + length m.low + length m.waiting
 
 -- there is a place in each list for one more
 abbrev pub HasPlace : Control → Type 0
-HasPlace m = taken m < 512
+HasPlace m = descheduled_count m < 512
 
 -- the descriptor of the process that runs
 pub record IsOwn (process : ℕ) (m : Control) : Type 0 where

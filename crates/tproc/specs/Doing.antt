@@ -47,14 +47,14 @@ onward (Ok x) rest = rest x
 onward (Err b) rest = Err b
 
 -- the part of an action is done: the rest of any step goes on from these claims and this store; or its break is named
-abbrev pub Part : {A : Type 0} → Action A → Claims → Store → Result A Break → Claims → Store → Type 0
-Part {A} x claims cells result claims' cells' =
+abbrev pub DoesAction : {A : Type 0} → Action A → Claims → Store → Result A Break → Claims → Store → Type 0
+DoesAction {A} x claims cells result claims' cells' =
     (f : A → StepAction) (old : Store) → length old ≡ length cells
     → run_from (x >>= f) old claims cells ≡ onward result (λ a. run_from (f a) old claims' cells')
 
 -- the same, where the row has first laid a word down. from: the store with it
-abbrev pub PartFrom : {A : Type 0} → Action A → Claims → Store → Store → Result A Break → Claims → Store → Type 0
-PartFrom {A} x claims cells from result claims' cells' =
+abbrev pub DoesActionFrom : {A : Type 0} → Action A → Claims → Store → Store → Result A Break → Claims → Store → Type 0
+DoesActionFrom {A} x claims cells from result claims' cells' =
     (f : A → StepAction) (old : Store) → length old ≡ length cells
     → run_from (x >>= f) old claims from ≡ onward result (λ a. run_from (f a) old claims' cells')
 

@@ -5,6 +5,8 @@ use Rattle.std.specs.Prelude.{find, option_map, option_to_list, if◌then◌else
 use Rattle.std.specs.List.{list_any}
 use Rattle.tproc.specs.Machine.{Control, priority_of, workspace_of, descheduled}
 use Rattle.tproc.specs.declared.waiter.Reason.{Reason}
+use Rattle.tproc.specs.declared.process_status.ProcessStatus.{ProcessStatus}
+use Rattle.tproc.specs.declared.process_status.ProcessStatus.TheVariants.{Waits, Queued, Runs, Interrupted, Unknown}
 
 -- the workspace is in the list
 abbrev pub is_among : ℕ → List ℕ → Bool
@@ -36,11 +38,6 @@ abbrev pub is_that : Option ℕ → ℕ → Bool
 is_that None process = false
 is_that (Some p) process = p == process
 
--- where a descriptor is found: a process that waits, that is queued, that runs, that was interrupted, or none
-pub data ProcessStatus : Type 0 where
-  Waits : Reason → ProcessStatus
-  Queued Runs Interrupted Unknown : ProcessStatus
-
 -- where a descriptor is found that does not wait; a queued one comes first, since the current process may have moved
 -- onto its workspace
 abbrev pub not_waiting : Control → ℕ → ProcessStatus
@@ -51,13 +48,13 @@ not_waiting m process =
     else Unknown
 
 -- what a process waits for, if it waits, else where it is found
-abbrev pub standing_by : Option Reason → ProcessStatus → ProcessStatus
-standing_by (Some reason) otherwise = Waits reason
-standing_by None otherwise = otherwise
+abbrev pub status_by : Option Reason → ProcessStatus → ProcessStatus
+status_by (Some reason) otherwise = Waits reason
+status_by None otherwise = otherwise
 
 -- where a descriptor is found
-abbrev pub standing : Control → ℕ → ProcessStatus
-standing m process = standing_by (reason_of m process) (not_waiting m process)
+abbrev pub status : Control → ℕ → ProcessStatus
+status m process = status_by (reason_of m process) (not_waiting m process)
 
 -- the workspaces of all live processes
 abbrev pub live : Control → List ℕ

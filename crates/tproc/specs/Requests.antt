@@ -1,47 +1,37 @@
--- Requests, and where a process stands, as the machine sees them.
+-- Touches, requests, and where a process stands, as the machine sees them.
 -- Source: own choice, words for contracts.
-use Rattle.std.specs.Prelude.{◌≡◌, ℕ, Bool, ◌||◌, ◌==◌, Option, Some, None, IfSome}
+use Rattle.std.specs.Prelude.{◌≡◌, ℕ, Bool, ◌||◌, ◌==◌, Option, Some, None, Result, IfSome}
 use Rattle.tword.specs.declared.breaks.Break.{Break}
 use Rattle.tword.specs.declared.breaks.Break.TheVariants.{Unaligned, WrongEnd}
 use Rattle.tword.specs.Words.{word_below}
 use Rattle.tword.specs.Claims.{Claims, saving}
-use Rattle.tword.specs.Touches.{Writes, is_aligned, first_break, span_break, word_break, deschedule_break}
-use Rattle.tword.specs.Actions.{unmet}
+use Rattle.tword.specs.Touches.{Mode, Writes, is_aligned, first_break, span_break, word_break, deschedule_break}
+use Rattle.tword.specs.Actions.{or_break, unmet}
 use Rattle.tproc.specs.Channels as channels
 use Rattle.tproc.specs.LinkChannels.{is_right_end, message}
 use Rattle.tcpu.specs.Outcomes.{pop}
 use Rattle.tproc.specs.Machine.{Control}
-use Rattle.tproc.specs.ProcessStatus as standing
 use Rattle.tproc.specs.declared.waiter.Reason.{Reason}
 use Rattle.tproc.specs.declared.channels.Side.{Side}
-use Rattle.tproc.specs.declared.channels.Side.TheVariants as side
+use Rattle.tproc.specs.declared.channels.Side.TheVariants.{Output}
 use Rattle.tproc.specs.declared.channels.Request.{Request}
 use Rattle.tproc.specs.declared.process_status.ProcessStatus.{ProcessStatus}
-use Rattle.tproc.specs.declared.process_status.ProcessStatus.TheVariants as stands
+use Rattle.tproc.specs.declared.process_status.ProcessStatus.TheVariants.{Waits, Queued}
 
--- the side of a request
-abbrev pub side_of : Side → channels.Side
-side_of side.Input = channels.Input
-side_of side.Output = channels.Output
+-- the check of a touch of some bytes: its break, if it has one
+abbrev pub may_touch : (memory_size : ℕ) (claims : Claims) (mode : Mode) (start size : ℕ) → Result (Unit {0}) Break
+may_touch memory_size claims mode start size =
+    or_break (span_break memory_size claims mode (record { start = start; size = size })) tt
 
 -- a request, without the registers that go on and the word that is laid down
 abbrev pub request : Request → channels.Request
 request q = record {
   process = q.process;
-  side = side_of q.side;
+  side = q.side;
   channel = q.channel;
   buffer = q.buffer;
-  length =
-      q.length;
+  length = q.length;
 }
-
--- where a process stands
-abbrev pub standing_of : ProcessStatus → standing.ProcessStatus
-standing_of (stands.Waits reason) = standing.Waits reason
-standing_of stands.Queued = standing.Queued
-standing_of stands.Runs = standing.Runs
-standing_of stands.Interrupted = standing.Interrupted
-standing_of stands.Unknown = standing.Unknown
 
 -- the first word, if there is one, may be laid into the workspace of the process that asks
 abbrev pub MayLay : (size : ℕ) (claims : Claims) (workspace : ℕ) (first : Option ℕ) → Type 0
@@ -63,18 +53,18 @@ abbrev pub offers_at_workspace : ℕ → ℕ → Control → channels.StepAction
 offers_at_workspace length process m =
     let r = m.registers in
     message (pop (pop r))
-    (record { process = process; side = channels.Output; channel = r.b; buffer = r.wptr; length = length }) m
+    (record { process = process; side = Output; channel = r.b; buffer = r.wptr; length = length }) m
 
 -- what a process waits for that stands so
 abbrev pub reason_in : ProcessStatus → Option Reason
-reason_in (stands.Waits reason) = Some reason
+reason_in (Waits reason) = Some reason
 reason_in _ = None
 
 -- a process that stands so is queued, if that is said
 abbrev pub IfQueued : ProcessStatus → Type 0 → Type 0
-IfQueued stands.Queued fact = fact
+IfQueued Queued fact = fact
 IfQueued _ fact = Unit {0}
 
 -- the break of a link channel that is not aligned, or the wrong end
-abbrev pub end_break : channels.Side → ℕ → Option Break
+abbrev pub end_break : Side → ℕ → Option Break
 end_break side channel = first_break (unmet (is_aligned channel) Unaligned) (unmet (is_right_end side channel) WrongEnd)

@@ -18,9 +18,11 @@ use Rattle.tcpu.specs.Outcomes.{flag}
 use Rattle.tproc.specs.declared.offer.Ran.TheVariants.{Instruction}
 use Rattle.tproc.specs.declared.waiter.Reason.TheVariants.{Sends}
 use Rattle.tproc.specs.Machine.{Machine, claims_of}
-use Rattle.tproc.specs.ProcessStatus.{ProcessStatus, Waits, standing}
+use Rattle.tproc.specs.declared.process_status.ProcessStatus.{ProcessStatus}
+use Rattle.tproc.specs.declared.process_status.ProcessStatus.TheVariants.{Waits}
+use Rattle.tproc.specs.ProcessStatus.{status}
 use Rattle.tproc.specs.Queues.{not_process}
-use Rattle.tproc.specs.Channels.{Input}
+use Rattle.tproc.specs.declared.channels.Side.TheVariants.{Input}
 use Rattle.tproc.specs.LinkChannels.{is_link, link_of, link_end}
 use Rattle.tproc.specs.Alternatives.{none_selected}
 use Rattle.tproc.specs.Placement.{IsPlaced}
@@ -54,7 +56,7 @@ abbrev pub is_ready : ℕ → Machine → Bool
 is_ready channel n =
     if is_link channel then (link_end n.control (link_of Input channel)).noticed
     else not (word_at n.store channel == not_process) && outputs_on channel
-    (standing n.control (word_at n.store channel))
+    (status n.control (word_at n.store channel))
 
 -- a guard at the moment when it is disabled: its offset, the channel that it looks at, and whether it is true and ready
 pub record Guard : Type 0 where

@@ -94,7 +94,7 @@ fn enable_internal(
         claimed.set_word(channel, process);
         return Ok(());
     }
-    match &state.standing(found) {
+    match &state.status(found) {
         ProcessStatus::Waits(Reason::Sends { channel: other, .. }) => {
             require(*other == channel, Break::ChannelMisuse)?;
             claimed.set_word(below(state.registers.wptr, STATE_WORD), Word::new(READY));
@@ -205,7 +205,7 @@ pub fn enable_skip(state: &mut State, claimed: &mut ClaimedMemory) -> Result<Ran
 }
 
 /// A process waits for a guard of its alternative, or goes on where one is ready.
-#[tactic(auto, using(crate::proofs::Places::place_own, crate::proofs::Places::room_own, crate::proofs::Agreeing::agrees_but, crate::proofs::Agreeing::saved_itself))]
+#[tactic(auto, using(crate::proofs::Descheduling::own_process, crate::proofs::Agreeing::saved_itself))]
 pub fn await_choice(
     state: &mut State,
     claimed: &mut ClaimedMemory,

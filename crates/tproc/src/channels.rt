@@ -2,12 +2,11 @@
 
 ghost use Rattle.std.specs.Prelude.{◌≡◌, ◌<◌, ◌∷◌, ℕ, Ok, Some, true, IfErr, OnOk, length};
 ghost use Rattle.tword.specs.Claims.{has_saved, saving};
-ghost use Rattle.tword.specs.Actions.{or_break, run_from};
-ghost use Rattle.tword.specs.Touches.{span_break};
+ghost use Rattle.tword.specs.Actions.{run_from};
 ghost use Rattle.tproc.specs.Channels.{mode_of, own_side, reason_for, waits_on_channel, is_choosing as choosing};
 ghost use Rattle.tproc.specs.Agreement.{Agrees, IsOwn, IsReady};
-ghost use Rattle.tproc.specs.Doing.{Does, PartFrom, Refuses, laid};
-ghost use Rattle.tproc.specs.Requests.{request, MayLeave, MayLay};
+ghost use Rattle.tproc.specs.Doing.{Does, DoesActionFrom, Refuses, laid};
+ghost use Rattle.tproc.specs.Requests.{may_touch, request, MayLeave, MayLay};
 
 use crate::claimed_memory::ClaimedMemory;
 use crate::offer::Ran;
@@ -94,9 +93,8 @@ pub fn lay(claimed: &mut ClaimedMemory, workspace: Word, first: Option<Word>)
 /// Whether the buffer of a request may be touched, once the words of a workspace are saved.
 pub fn may_touch_beside(claimed: &ClaimedMemory, workspace: Word, q: &Request) -> Result<(), Break>
     ensures { result
-        ≡ or_break
-        (span_break (length claimed.now.memory) (saving workspace claimed.now.marks) (mode_of (request q.now).side)
-        (record { start = q.now.buffer; size = q.now.length })) tt }
+        ≡ may_touch (length claimed.now.memory) (saving workspace claimed.now.marks) (mode_of (request q.now).side)
+        q.now.buffer q.now.length }
 {
     match q.side {
         Side::Input => claimed.may_write_beside(workspace, q.buffer, q.length),
@@ -119,12 +117,12 @@ pub fn may_leave(state: &State, claimed: &ClaimedMemory, q: &Request) -> Result<
 }
 
 /// The first of two processes leaves its descriptor in the channel and its buffer in its workspace.
-#[tactic(auto, using(crate::proofs::Agreeing::saved_itself, crate::proofs::Saved::saved_beside), unfolding(crate::specs::Channels::own_side))]
+#[tactic(auto, using(crate::proofs::Descheduling::saved_words), unfolding(crate::specs::Channels::own_side))]
 pub fn leave(state: &State, claimed: &mut ClaimedMemory, q: &Request)
     requires first { MayLay (length claimed.old.memory) claimed.old.marks state.now.registers.wptr q.now.first }
     requires free { MayLeave (length claimed.old.memory) claimed.old.marks state.now.registers.wptr (request q.now) }
     requires room { length claimed.old.marks.saved < 512 }
-    ensures done { PartFrom (own_side (request q.now) state.now) claimed.old.marks claimed.old.memory
+    ensures done { DoesActionFrom (own_side (request q.now) state.now) claimed.old.marks claimed.old.memory
         (laid q.now.first state.now.registers.wptr claimed.old.memory) (Ok tt) claimed.new.marks
         claimed.new.memory }
     ensures claims { claimed.new.marks ≡ saving state.now.registers.wptr claimed.old.marks }
@@ -140,7 +138,7 @@ pub fn leave(state: &State, claimed: &mut ClaimedMemory, q: &Request)
 }
 
 /// The first of two processes waits on the channel.
-#[tactic(auto, using(crate::proofs::Places::place_own, crate::proofs::Places::room_own, crate::proofs::Agreeing::agrees_but))]
+#[tactic(auto, using(crate::proofs::Descheduling::own_process))]
 pub fn wait_on_channel(
     state: &mut State,
     claimed: &mut ClaimedMemory,

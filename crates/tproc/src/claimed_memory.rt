@@ -7,10 +7,11 @@ ghost use Rattle.tword.specs.Accesses.{without_output, without_input};
 ghost use Rattle.tword.specs.declared.breaks.Break.TheVariants.{SavedWord};
 ghost use Rattle.tword.specs.Stores.{word_at, with_word, with_cells, cells, as_cells, byte_at};
 ghost use Rattle.tword.specs.Claims.{saving, has_saved, saved_words, overlap};
-ghost use Rattle.tword.specs.Touches.{Reads, Writes, word_break, span_break, copy_break, deschedule_break};
+ghost use Rattle.tword.specs.Touches.{Reads, Writes, word_break, copy_break, deschedule_break};
 ghost use Rattle.tword.specs.Touches.{is_inside, byte_span};
 ghost use Rattle.tword.specs.Words.{word_below};
 ghost use Rattle.tword.specs.Actions.{or_break, is_slot, unmet};
+ghost use Rattle.tproc.specs.Requests.{may_touch};
 
 use crate::workspace::below;
 use std::alloc::{AllocError, Global};
@@ -144,19 +145,14 @@ impl ClaimedMemory {
 
     /// Whether some bytes may be read.
     pub fn may_read(&self, start: Word, size: u32) -> Result<(), Break>
-        ensures { result
-            ≡ or_break
-            (span_break (length self.now.memory) self.now.marks Reads (record { start = start; size = size })) tt }
+        ensures { result ≡ may_touch (length self.now.memory) self.now.marks Reads start size }
     {
         self.memory.may_read(&self.marks, start, size)
     }
 
     /// The same, once the words of a workspace are saved.
     pub fn may_read_beside(&self, workspace: Word, start: Word, size: u32) -> Result<(), Break>
-        ensures { result
-            ≡ or_break
-            (span_break (length self.now.memory) (saving workspace self.now.marks) Reads
-            (record { start = start; size = size })) tt }
+        ensures { result ≡ may_touch (length self.now.memory) (saving workspace self.now.marks) Reads start size }
     {
         self.memory.may_read(&self.marks, start, size)?;
         keep_clear(workspace, start, size)
@@ -164,19 +160,14 @@ impl ClaimedMemory {
 
     /// Whether some bytes may be written.
     pub fn may_write(&self, start: Word, size: u32) -> Result<(), Break>
-        ensures { result
-            ≡ or_break
-            (span_break (length self.now.memory) self.now.marks Writes (record { start = start; size = size })) tt }
+        ensures { result ≡ may_touch (length self.now.memory) self.now.marks Writes start size }
     {
         self.memory.may_write(&self.marks, start, size)
     }
 
     /// The same, once the words of a workspace are saved.
     pub fn may_write_beside(&self, workspace: Word, start: Word, size: u32) -> Result<(), Break>
-        ensures { result
-            ≡ or_break
-            (span_break (length self.now.memory) (saving workspace self.now.marks) Writes
-            (record { start = start; size = size })) tt }
+        ensures { result ≡ may_touch (length self.now.memory) (saving workspace self.now.marks) Writes start size }
     {
         self.memory.may_write(&self.marks, start, size)?;
         keep_clear(workspace, start, size)

@@ -58,7 +58,7 @@ fn internal_guard(state: &State, claimed: &ClaimedMemory, channel: Word) -> Resu
     if found.get() == NOT_PROCESS {
         return Ok(Guard::NotReady);
     }
-    match &state.standing(found) {
+    match &state.status(found) {
         ProcessStatus::Waits(Reason::Sends { channel: other, .. }) => {
             require(*other == channel, Break::ChannelMisuse)?;
             Ok(Guard::Ready)

@@ -7,7 +7,7 @@ ghost use Rattle.tproc.specs.LinkChannels.{is_link as names_link, link_of, is_fr
 ghost use Rattle.tproc.specs.LinkChannels.{link_message as messaging, link_end, offered, ran_link, with_link};
 ghost use Rattle.tproc.specs.Agreement.{Agrees, AgreesWith, HasPlace, IsOwn, IsPlain, IsReady};
 ghost use Rattle.tproc.specs.Doing.{Does, laid};
-ghost use Rattle.tproc.specs.Requests.{request, side_of, end_break, MayLay};
+ghost use Rattle.tproc.specs.Requests.{request, end_break, MayLay};
 
 use crate::channels::{Request, Side, lay, may_touch_beside};
 use crate::claimed_memory::ClaimedMemory;
@@ -32,7 +32,7 @@ pub fn is_link(channel: Word) -> bool
 /// `Unaligned`, or `WrongEnd` for an input on an output's channel or the other way round.
 pub fn link_at(side: Side, channel: Word) -> Result<u8, Break>
     requires { names_link channel ≡ true }
-    ensures checks { result ≡ or_break (end_break (side_of side) channel) (link_of (side_of side) channel) }
+    ensures checks { result ≡ or_break (end_break side channel) (link_of side channel) }
     ensures within { IfOk result (λ l. l < 4) }
 {
     let index = (channel.get() - MOST_NEG) / 4;
@@ -54,7 +54,7 @@ impl State {
     pub fn is_free(&self, side: Side, link: u8) -> bool
         requires link { link < 4 }
         requires plain { IsPlain self.now }
-        ensures { result ≡ end_free (side_of side) (link_end self.now link) self.now }
+        ensures { result ≡ end_free side (link_end self.now link) self.now }
     {
         let end = self.link(link);
         match side {
@@ -141,7 +141,7 @@ fn wait_on_link(state: &mut State, claimed: &mut ClaimedMemory, q: &Request, lin
 }
 
 /// A message on a link: its process waits until the whole message has gone over.
-#[tactic(auto, using(crate::proofs::Places::place_own, crate::proofs::Places::room_own, crate::proofs::Agreeing::agrees_but, crate::proofs::Agreeing::saved_itself))]
+#[tactic(auto, using(crate::proofs::Descheduling::own_process, crate::proofs::Agreeing::saved_itself))]
 pub fn link_message(
     state: &mut State,
     claimed: &mut ClaimedMemory,

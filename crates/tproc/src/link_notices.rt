@@ -2,14 +2,13 @@
 
 ghost use Rattle.std.specs.Prelude.{◌≡◌, ◌<◌, ◌∷◌, [], Some, None, true, IfSome, IsSome, Ok};
 ghost use Rattle.tword.specs.Actions.{run};
-ghost use Rattle.tproc.specs.ProcessStatus.{is_queued, reason_of, standing};
+ghost use Rattle.tproc.specs.ProcessStatus.{is_queued, reason_of, status};
 ghost use Rattle.tproc.specs.LinkChannels.{ended_at, link_end, pending_at, with_link, without_buffer};
 ghost use Rattle.tproc.specs.Opening.{Adds, added};
 ghost use Rattle.tproc.specs.Links.{wakes, readies_queued, readies_running, act_or_unchanged, notify_at};
 ghost use Rattle.tproc.specs.Links.{notice as noticing, finished};
 ghost use Rattle.tproc.specs.Agreement.{Agrees, IsReady};
 ghost use Rattle.tproc.specs.Doing.{Does, adding, as_step};
-ghost use Rattle.tproc.specs.Requests.{side_of};
 
 use crate::channels::{ENABLING, READY, Side};
 use crate::claimed_memory::ClaimedMemory;
@@ -138,11 +137,11 @@ fn tell_running(state: &State, claimed: &mut ClaimedMemory, process: Word)
 fn tell(state: &mut State, claimed: &mut ClaimedMemory, process: Word)
     requires ready { IsReady claimed.old.marks state.old }
     ensures done { record { control = state.new; store = claimed.new.memory }
-        ≡ notify_at (standing state.old process) process
+        ≡ notify_at (status state.old process) process
         (record { control = state.old; store = claimed.old.memory }) }
     ensures agrees { Agrees claimed.new.marks state.new }
 {
-    match &state.standing(process) {
+    match &state.status(process) {
         ProcessStatus::Waits(Reason::Chooses) => {
             tell_waiting(state, claimed, process);
         }
@@ -182,7 +181,7 @@ pub fn notice(state: &mut State, claimed: &mut ClaimedMemory, link: u8)
 impl LinkEnd {
     /// What is pending at a half of a link.
     fn pending(&self, side: Side) -> Option<Offer>
-        ensures { result ≡ pending_at (side_of side) self.now }
+        ensures { result ≡ pending_at side self.now }
     {
         match side {
             Side::Output => self.output,
@@ -192,7 +191,7 @@ impl LinkEnd {
 
     /// The link end where nothing is pending any more at a half.
     fn ended(&self, side: Side) -> LinkEnd
-        ensures { result ≡ ended_at (side_of side) self.now }
+        ensures { result ≡ ended_at side self.now }
     {
         match side {
             Side::Output => LinkEnd {
@@ -211,7 +210,7 @@ impl LinkEnd {
 fn release_buffer(claimed: &mut ClaimedMemory, side: Side, link: u8)
     requires { link < 4 }
     ensures cells { claimed.new.memory ≡ claimed.old.memory }
-    ensures claims { claimed.new.marks ≡ without_buffer (side_of side) link claimed.old.marks }
+    ensures claims { claimed.new.marks ≡ without_buffer side link claimed.old.marks }
 {
     match side {
         Side::Output => claimed.release_output(link),
@@ -223,12 +222,12 @@ fn release_buffer(claimed: &mut ClaimedMemory, side: Side, link: u8)
 pub fn finish(state: &mut State, claimed: &mut ClaimedMemory, side: Side, link: u8) -> Ran
     requires link { link < 4 }
     requires ready { IsReady claimed.old.marks state.old }
-    requires pending { IsSome (pending_at (side_of side) (link_end state.old link)) }
-    requires waits { IfSome (pending_at (side_of side) (link_end state.old link))
+    requires pending { IsSome (pending_at side (link_end state.old link)) }
+    requires waits { IfSome (pending_at side (link_end state.old link))
         (λ o. IsSome (reason_of state.old o.wdesc)) }
     ensures done { Does (run
-        (as_step (finished (pending_at (side_of side) (link_end state.old link))
-        (with_link link (ended_at (side_of side) (link_end state.old link)) state.old))) claimed.old.memory
+        (as_step (finished (pending_at side (link_end state.old link))
+        (with_link link (ended_at side (link_end state.old link)) state.old))) claimed.old.memory
         claimed.old.marks) state.old claimed.old.memory (Ok result) state.new claimed.new.memory }
     ensures agrees { Agrees claimed.new.marks state.new }
 {

@@ -2,10 +2,10 @@
 
 ghost use Rattle.std.specs.Prelude.{◌≡◌, true};
 ghost use Rattle.tproc.specs.ProcessStatus.{is_live, is_queued as the_queued, reason_of as the_reason};
-ghost use Rattle.tproc.specs.ProcessStatus.{standing as the_standing};
+ghost use Rattle.tproc.specs.ProcessStatus.{status as the_status};
 ghost use Rattle.tproc.specs.LinkChannels.{is_running};
 ghost use Rattle.tproc.specs.Agreement.{IsPlain, IsReady};
-ghost use Rattle.tproc.specs.Requests.{standing_of, reason_in, IfQueued};
+ghost use Rattle.tproc.specs.Requests.{reason_in, IfQueued};
 
 use crate::claimed_memory::ClaimedMemory;
 use crate::state::{State, workspace_of};
@@ -79,9 +79,9 @@ impl State {
 
     /// Where a descriptor is found.
     #[tactic(auto, using(crate::proofs::Entries::queued_not_waiting))]
-    pub fn standing(&self, process: Word) -> ProcessStatus
+    pub fn status(&self, process: Word) -> ProcessStatus
         requires { IsPlain self.now }
-        ensures stands { standing_of result ≡ the_standing self.now process }
+        ensures stands { result ≡ the_status self.now process }
         ensures waits { the_reason self.now process ≡ reason_in result }
         ensures queued { IfQueued result (the_queued self.now process ≡ true) }
     {
@@ -109,9 +109,9 @@ impl State {
     /// Whether a descriptor is found as the process that runs.
     pub fn runs(&self, process: Word) -> bool
         requires { IsPlain self.now }
-        ensures { result ≡ is_running (the_standing self.now process) }
+        ensures { result ≡ is_running (the_status self.now process) }
     {
-        match &self.standing(process) {
+        match &self.status(process) {
             ProcessStatus::Runs => true,
             _ => false,
         }

@@ -9,8 +9,8 @@ ghost use Rattle.tproc.specs.ProcessStatus.{queue, reason_of, has_room};
 ghost use Rattle.tproc.specs.Queues.{admit as admission, enqueue as queueing, release as releasing, last_of};
 ghost use Rattle.tproc.specs.Queues.{appended, waiting_for, without_waiter};
 ghost use Rattle.tproc.specs.Agreement.{Agrees, AgreesWith, AreSaved, HasPlace, IsPlain, IsReady, Leaves, Settles};
-ghost use Rattle.tproc.specs.Agreement.{StillAgrees, StillSaved, Unsettles, taken};
-ghost use Rattle.tproc.specs.Doing.{Part};
+ghost use Rattle.tproc.specs.Agreement.{StillAgrees, StillSaved, Unsettles, descheduled_count};
+ghost use Rattle.tproc.specs.Doing.{DoesAction};
 
 use crate::claimed_memory::ClaimedMemory;
 use crate::state::{State, workspace_of};
@@ -52,7 +52,7 @@ impl State {
         requires place { HasPlace self.old }
         ensures done { self.new ≡ appended workspace priority self.old }
         ensures settles { Settles workspace self.old self.new }
-        ensures more { taken self.new ≡ taken self.old + 1 }
+        ensures more { descheduled_count self.new ≡ descheduled_count self.old + 1 }
     {
         let number = if priority == 0 {
             self.high.push(workspace)
@@ -124,7 +124,7 @@ impl State {
         ensures done { self.new ≡ without_waiter process self.old }
         ensures place { HasPlace self.new }
         ensures unsettles { Unsettles (the_workspace process) self.old self.new }
-        ensures fewer { taken self.new + 1 ≡ taken self.old }
+        ensures fewer { descheduled_count self.new + 1 ≡ descheduled_count self.old }
         ensures saved { StillSaved self.old self.new }
     {
         self.waiting.remove(process, &self.hints);
@@ -135,11 +135,11 @@ impl State {
 ///
 /// # Errors
 /// `Unaligned`, `AlreadyLive`, `TooManyProcesses`, or the first failing check of the words below the workspace.
-#[tactic(auto, using(crate::proofs::Places::place_admitted, crate::proofs::Places::room_admitted, crate::proofs::Agreeing::agrees_but), unfolding(crate::specs::Queues::admit))]
+#[tactic(auto, using(crate::proofs::Descheduling::admitted_process), unfolding(crate::specs::Queues::admit))]
 pub fn admit(state: &State, claimed: &mut ClaimedMemory, process: Word) -> Result<(), Break>
     requires ready { IsReady claimed.old.marks state.now }
-    ensures done { Part (admission process state.now) claimed.old.marks claimed.old.memory result claimed.new.marks
-        claimed.new.memory }
+    ensures done { DoesAction (admission process state.now) claimed.old.marks claimed.old.memory result
+        claimed.new.marks claimed.new.memory }
     ensures agrees { IfOk result (λ _. AgreesWith (the_workspace process ∷ []) claimed.new.marks state.now) }
     ensures kept { OnErr result (claimed.new.marks ≡ claimed.old.marks) }
     ensures place { IfOk result (λ _. HasPlace state.now) }
@@ -159,11 +159,11 @@ pub fn admit(state: &State, claimed: &mut ClaimedMemory, process: Word) -> Resul
 pub fn enqueue(state: &mut State, claimed: &mut ClaimedMemory, process: Word)
     requires place { HasPlace state.old }
     requires saved { AreSaved claimed.old.marks state.old }
-    ensures done { Part (queueing process state.old) claimed.old.marks claimed.old.memory (Ok state.new)
+    ensures done { DoesAction (queueing process state.old) claimed.old.marks claimed.old.memory (Ok state.new)
         claimed.new.marks
         claimed.new.memory }
     ensures settles { Settles (the_workspace process) state.old state.new }
-    ensures more { taken state.new ≡ taken state.old + 1 }
+    ensures more { descheduled_count state.new ≡ descheduled_count state.old + 1 }
     ensures claims { claimed.new.marks ≡ claimed.old.marks }
     ensures size { length claimed.new.memory ≡ length claimed.old.memory }
 {
@@ -191,11 +191,11 @@ pub fn release(state: &mut State, claimed: &mut ClaimedMemory, process: Word)
     requires plain { IsPlain state.old }
     requires waits { IsSome (reason_of state.old process) }
     requires saved { AreSaved claimed.old.marks state.old }
-    ensures done { Part (releasing process state.old) claimed.old.marks claimed.old.memory (Ok state.new)
+    ensures done { DoesAction (releasing process state.old) claimed.old.marks claimed.old.memory (Ok state.new)
         claimed.new.marks
         claimed.new.memory }
     ensures agrees { StillAgrees state.old state.new }
-    ensures same { taken state.new ≡ taken state.old }
+    ensures same { descheduled_count state.new ≡ descheduled_count state.old }
     ensures claims { claimed.new.marks ≡ claimed.old.marks }
     ensures size { length claimed.new.memory ≡ length claimed.old.memory }
 {

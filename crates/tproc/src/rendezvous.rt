@@ -6,14 +6,16 @@ ghost use Rattle.tword.specs.Actions.{answer, run_from};
 ghost use Rattle.tword.specs.Touches.{Writes, word_break};
 ghost use Rattle.tword.specs.Words.{word_below};
 ghost use Rattle.tproc.specs.Machine.{workspace_of as the_workspace};
-ghost use Rattle.tproc.specs.ProcessStatus.{reason_of, standing, Queued, Interrupted};
-ghost use Rattle.tproc.specs.Channels.{Input, Output, own_side, reason_for, set_touched_word as setting_touched};
+ghost use Rattle.tproc.specs.declared.process_status.ProcessStatus.TheVariants.{Queued, Interrupted};
+ghost use Rattle.tproc.specs.ProcessStatus.{reason_of, status};
+ghost use Rattle.tproc.specs.declared.channels.Side.TheVariants.{Input, Output};
+ghost use Rattle.tproc.specs.Channels.{own_side, reason_for, set_touched_word as setting_touched};
 ghost use Rattle.tproc.specs.Channels.{exchanged, met, wakes_choice, input_meets, output_meets, meets};
 ghost use Rattle.tproc.specs.Channels.{internal_message as meeting, ready};
 ghost use Rattle.tproc.specs.Queues.{waiting_for};
 ghost use Rattle.tproc.specs.declared.offer.Ran.TheVariants as ran;
 ghost use Rattle.tproc.specs.Agreement.{Agrees, IsOwn, IsReady};
-ghost use Rattle.tproc.specs.Doing.{Does, Part, RefusesAfter, in_turn, laid};
+ghost use Rattle.tproc.specs.Doing.{Does, DoesAction, RefusesAfter, in_turn, laid};
 ghost use Rattle.tproc.specs.Requests.{request, MayLeave, is_own_word as own_word, MayLay};
 
 use crate::channels::{
@@ -65,7 +67,7 @@ fn receive(
     requires side { (request q.now).side ≡ Input }
     requires ready { IsReady claimed.old.marks state.old }
     requires free { MayLay (length claimed.old.memory) claimed.old.marks state.old.registers.wptr q.now.first }
-    ensures done { Does (run_from (input_meets q.now.after (request q.now) other (standing state.old other) state.old)
+    ensures done { Does (run_from (input_meets q.now.after (request q.now) other (status state.old other) state.old)
         claimed.old.memory claimed.old.marks (laid q.now.first state.old.registers.wptr claimed.old.memory))
         state.old claimed.old.memory result state.new claimed.new.memory }
     ensures agrees { Agrees claimed.new.marks state.new }
@@ -115,7 +117,7 @@ fn deliver(
 }
 
 /// An output finds a process that waits for its alternative: that becomes ready.
-#[tactic(auto, using(crate::proofs::Places::place_own, crate::proofs::Places::room_own, crate::proofs::Agreeing::agrees_but, crate::proofs::Saved::are_saved_beside))]
+#[tactic(auto, using(crate::proofs::Descheduling::own_process, crate::proofs::Saved::are_saved_beside))]
 fn wake_choice(
     state: &mut State,
     claimed: &mut ClaimedMemory,
@@ -141,7 +143,7 @@ fn wake_choice(
 }
 
 /// An output finds a queued process that has enabled the channel: its alternative becomes ready.
-#[tactic(auto, using(crate::proofs::Places::place_own, crate::proofs::Places::room_own, crate::proofs::Agreeing::agrees_but))]
+#[tactic(auto, using(crate::proofs::Descheduling::own_process))]
 fn ready_queued(
     state: &mut State,
     claimed: &mut ClaimedMemory,
@@ -208,7 +210,7 @@ fn set_touched_word(claimed: &mut ClaimedMemory, workspace: Word, address: Word,
     requires saved { has_saved claimed.old.marks workspace ≡ true }
     requires free { own_word workspace address ≡ false
         → word_break (length claimed.old.memory) claimed.old.marks Writes address ≡ None }
-    ensures done { Part (setting_touched workspace address value) claimed.old.marks claimed.old.memory (Ok tt)
+    ensures done { DoesAction (setting_touched workspace address value) claimed.old.marks claimed.old.memory (Ok tt)
         claimed.new.marks claimed.new.memory }
     ensures claims { claimed.new.marks ≡ claimed.old.marks }
     ensures size { length claimed.new.memory ≡ length claimed.old.memory }
@@ -225,7 +227,7 @@ fn set_touched_word(claimed: &mut ClaimedMemory, workspace: Word, address: Word,
 }
 
 /// A process waits on the channel, and the alternative of another that does not becomes ready.
-#[tactic(auto, using(crate::proofs::Places::place_own, crate::proofs::Places::room_own, crate::proofs::Agreeing::agrees_but))]
+#[tactic(auto, using(crate::proofs::Descheduling::own_process))]
 fn wait_and_set(
     state: &mut State,
     claimed: &mut ClaimedMemory,
@@ -292,12 +294,12 @@ fn send(
     requires own { IsOwn q.now.process state.old }
     requires ready { IsReady claimed.old.marks state.old }
     requires free { MayLay (length claimed.old.memory) claimed.old.marks state.old.registers.wptr q.now.first }
-    ensures done { Does (run_from (output_meets q.now.after (request q.now) other (standing state.old other) state.old)
+    ensures done { Does (run_from (output_meets q.now.after (request q.now) other (status state.old other) state.old)
         claimed.old.memory claimed.old.marks (laid q.now.first state.old.registers.wptr claimed.old.memory))
         state.old claimed.old.memory result state.new claimed.new.memory }
     ensures agrees { Agrees claimed.new.marks state.new }
 {
-    match &state.standing(other) {
+    match &state.status(other) {
         ProcessStatus::Waits(
             Reason::Receives {
                 channel,

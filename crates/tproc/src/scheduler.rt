@@ -4,7 +4,7 @@ ghost use Rattle.std.specs.Prelude.{◌≡◌, ◌<◌, ◌+◌, ◌∷◌, [], 
 ghost use Rattle.tword.specs.Stores.{Store, with_word};
 ghost use Rattle.tword.specs.Touches.{Writes, deschedule_break, word_break};
 ghost use Rattle.tword.specs.Actions.{run, run_from};
-ghost use Rattle.tcpu.specs.Outcomes.{push};
+ghost use Rattle.tcpu.specs.Outcomes.{pop, push};
 ghost use Rattle.tproc.specs.Channels.{goes_on};
 ghost use Rattle.tproc.specs.LinkChannels.{message as messaging};
 ghost use Rattle.tproc.specs.Scheduler.{stops, starts, runs, ends, yields, jumped as jumping, communicates};
@@ -12,7 +12,7 @@ ghost use Rattle.tproc.specs.Scheduler.{sends_from_workspace};
 ghost use Rattle.tproc.specs.declared.offer.Ran.TheVariants as ran;
 ghost use Rattle.tproc.specs.Agreement.{Agrees, IsOwn, IsReady, StillAgrees, is_over};
 ghost use Rattle.tproc.specs.Doing.{Does, laid};
-ghost use Rattle.tproc.specs.Requests.{offers_at_workspace, request, side_of, MayLay};
+ghost use Rattle.tproc.specs.Requests.{offers_at_workspace, request, MayLay};
 
 use crate::channels::{Request, Side};
 use crate::claimed_memory::ClaimedMemory;
@@ -68,7 +68,7 @@ pub fn load_priority(state: &mut State, priority: u8) -> Ran
 }
 
 /// A new process starts, at an address relative to the next instruction.
-#[tactic(auto, using(crate::proofs::Saved::itself_saved, crate::proofs::Saved::are_saved, crate::proofs::Agreeing::own_workspace))]
+#[tactic(auto, using(crate::proofs::Descheduling::started_process))]
 pub fn start(state: &mut State, claimed: &mut ClaimedMemory, priority: u8) -> Result<Ran, Break>
     requires priority { priority < 2 }
     requires ready { IsReady claimed.old.marks state.old }
@@ -144,7 +144,7 @@ pub fn end(state: &mut State, claimed: &mut ClaimedMemory) -> Result<Ran, Break>
 }
 
 /// The low process that runs goes behind the others of its queue.
-#[tactic(auto, using(crate::proofs::Places::place_running, crate::proofs::Places::room_running, crate::proofs::Agreeing::agrees_but, crate::proofs::Agreeing::saved_itself, crate::proofs::Agreeing::own_workspace, crate::proofs::Saved::are_saved))]
+#[tactic(auto, using(crate::proofs::Descheduling::running_process))]
 #[inline(never)]
 fn yield_now(state: &mut State, claimed: &mut ClaimedMemory)
     requires running { state.old.current ≡ Some 1 }
@@ -204,6 +204,18 @@ fn message(state: &mut State, claimed: &mut ClaimedMemory, q: &Request) -> Resul
     }
 }
 
+/// The registers with which a process goes on behind a message: what asked for it is popped from the stack.
+#[inline]
+fn behind_message(registers: Registers) -> Registers
+    ensures { result ≡ pop (pop registers) }
+{
+    Registers {
+        a: registers.c,
+        b: registers.c,
+        ..registers
+    }
+}
+
 /// A process asks for a message, or offers one, with length, channel and buffer on its stack.
 pub fn communicate(
     state: &mut State,
@@ -213,8 +225,7 @@ pub fn communicate(
 ) -> Result<Ran, Break>
     requires running { state.old.current ≡ Some priority }
     requires ready { IsReady claimed.old.marks state.old }
-    ensures done { Does (run (communicates (side_of side) (state.old.registers.wptr + priority) state.old)
-        claimed.old.memory
+    ensures done { Does (run (communicates side (state.old.registers.wptr + priority) state.old) claimed.old.memory
         claimed.old.marks) state.old claimed.old.memory result state.new claimed.new.memory }
     ensures agrees { Agrees claimed.new.marks state.new }
 {
@@ -226,11 +237,7 @@ pub fn communicate(
         buffer: r.c,
         length: r.a.get(),
         first: None,
-        after: Registers {
-            a: r.c,
-            b: r.c,
-            ..r
-        },
+        after: behind_message(r),
     };
     message(state, claimed, &q)
 }
@@ -260,11 +267,7 @@ fn send_laid(
         buffer: r.wptr,
         length: size,
         first: Some(r.a),
-        after: Registers {
-            a: r.c,
-            b: r.c,
-            ..r
-        },
+        after: behind_message(r),
     };
     message(state, claimed, &q)
 }

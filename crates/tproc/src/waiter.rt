@@ -1,4 +1,5 @@
 //! What processes wait for, and the state of a link.
+
 use crate::offer::Offer;
 use tcpu::Registers;
 use tword::Word;

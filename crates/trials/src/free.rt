@@ -16,12 +16,10 @@ use tnet::Net;
 use tplan::Act;
 use trounds::{Ending, run_rounds};
 
-/// How many events the turns of the message do, in rotation. One worker of both nodes: both run until they wait,
-/// and the
-/// first byte comes in; it is taken; then twice an acknowledge, the next byte, its arrival and its taking; then the
-/// same with
-/// the end of the receiver; then the last acknowledge with that of the sender. Two workers do the same, each its
-/// part.
+/// How many events the turns of the message do, in rotation. One worker of both nodes: both run until they wait, and
+/// the first byte comes in; it is taken; then twice an acknowledge, the next byte, its arrival and its taking; then
+/// the same with the end of the receiver; then the last acknowledge with that of the sender. Two workers do the same,
+/// each its part.
 const TURNS: [(usize, &[u64]); 2] = [
     (1, &[14, 1, 4, 4, 6, 3, 0]),
     (2, &[7, 7, 0, 1, 2, 2, 2, 2, 2, 4, 3, 0, 0, 0]),

@@ -94,8 +94,7 @@ fn runners(alloc: Global, count: usize) -> Result<Plan, AllocError> {
 }
 
 /// Nodes, workers, and the pairs that are due in five rounds: each worker has as many nodes as the others, the last
-/// fewer, and
-/// one that would have none does not start.
+/// fewer, and one that would have none does not start.
 const ENTRIES: [(usize, usize, u64); 8] = [
     (6, 1, 0x1f),
     (6, 3, 0x1f_1f1f),

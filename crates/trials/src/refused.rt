@@ -1,4 +1,5 @@
 //! Free workers, where a request for memory is refused.
+
 ghost use Rattle.tfree.specs.Opened.{ComeFromOneOpen};
 
 use crate::plans::transfer;

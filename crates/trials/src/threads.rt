@@ -1,4 +1,5 @@
 //! Three free workers on three threads.
+
 ghost use Rattle.std.specs.Prelude.{◌≡◌, ◌∷◌, [], IfSome};
 ghost use Rattle.tfree.specs.Opened.{ComeFromOneOpen};
 
@@ -122,8 +123,7 @@ fn once_on_threads<R: Threads + Wait + Sync>(
 }
 
 /// Three workers on three threads, again and again until they do nothing there: so all is done, however the threads
-/// are
-/// timed. None where a thread cannot be started.
+/// are timed. None where a thread cannot be started.
 pub fn on_threads_until_idle<R: Threads + Wait + Sync>(
     rt: &R,
     alloc: Global,

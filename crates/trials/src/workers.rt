@@ -1,4 +1,5 @@
 //! Free workers that turn one after another, and are gathered.
+
 ghost use Rattle.std.specs.Prelude.{◌≡◌, ◌<◌, ◌≤◌, length, IfOk};
 ghost use Rattle.std.specs.List.{insert};
 ghost use Rattle.tfree.specs.Opened.{ComeFromOneOpen};

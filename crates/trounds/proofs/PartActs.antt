@@ -1,5 +1,5 @@
--- What an act does to a node of a round: how much it writes down, after which run there is none, and which room for
--- messages stands.
+-- What an act does to a round node: how much it writes down, after which run there is none, and which room for messages
+-- stands.
 use Rattle.std.proofs.Common.{◌≡◌, ◌≢◌, ℕ, ◌≤◌, refl, sym, ap, ◌∙◌, subst, List, length, get_or, set, map, Bool, true}
 use Rattle.std.proofs.Common.{false, Option, Some, None, Err, IfSome, ◌⊎◌, inl, inr, arith}
 use Rattle.std.specs.Prelude.{is_none, if◌then◌else◌}

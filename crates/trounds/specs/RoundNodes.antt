@@ -1,4 +1,4 @@
--- A node of a round as the part of a round that it does, and the room that it has.
+-- Round nodes, each with its inboxes and its outbox: the station of one, its part of a round so far, and its room.
 -- Source: own choice, how rounds are shared out.
 use Rattle.std.specs.Prelude.{◌≡◌, ℕ, ◌+◌, ◌<◌, ◌≤◌, ◌++◌, length, List, [], map, vec_len, vec_capacity, slice_index_or}
 use Rattle.std.specs.Prelude.{IfSome}
@@ -16,19 +16,19 @@ use Rattle.trounds.specs.declared.lending.Frame.{Frame}
 use Rattle.tnet.specs.Net.{NetState}
 use Rattle.trounds.specs.Parts.{Station, Part, parts, stations_after, net_of, ArePlaced}
 
--- its station
+-- the station of a round node
 abbrev pub station_of : RoundNode → Station
-station_of c = record { number = c.number; node = c.node; inboxes = c.inboxes; far = c.far }
+station_of r = record { number = r.number; node = r.node; inboxes = r.inboxes; far = r.far }
 
 -- its part so far
 abbrev pub part_of : RoundNode → Part
-part_of c = record { station = station_of c; outbox = c.outbox.items; events = c.events.items; notes = c.notes.items }
+part_of r = record { station = station_of r; outbox = r.outbox.items; events = r.events.items; notes = r.notes.items }
 
 -- what it has sent, done and told
 abbrev pub told_of : RoundNode → List Sending × List Event × List Note
-told_of c = (c.outbox.items, c.events.items, c.notes.items)
+told_of r = (r.outbox.items, r.events.items, r.notes.items)
 
--- the stations of nodes of a round
+-- the stations of round nodes
 abbrev pub stations_of : List RoundNode → List Station
 stations_of round_nodes = map station_of round_nodes
 
@@ -37,35 +37,35 @@ abbrev pub parts_of : List RoundNode → List Part
 parts_of round_nodes = map part_of round_nodes
 
 -- there is room for so many events, notes and sendings
-pub record HasRoom (e n m : ℕ) (c : RoundNode) : Type 0 where
-  pub events : vec_len c.events + e ≤ vec_capacity c.events
-  pub notes : vec_len c.notes + n ≤ vec_capacity c.notes
-  pub outbox : vec_len c.outbox + m ≤ vec_capacity c.outbox
+pub record HasRoom (e n m : ℕ) (r : RoundNode) : Type 0 where
+  pub events : vec_len r.events + e ≤ vec_capacity r.events
+  pub notes : vec_len r.notes + n ≤ vec_capacity r.notes
+  pub outbox : vec_len r.outbox + m ≤ vec_capacity r.outbox
 
 -- no more than so many were written down
-pub record Spends (e n m : ℕ) (c c' : RoundNode) : Type 0 where
-  pub events : vec_len c'.events ≤ vec_len c.events + e
-  pub event_room : vec_capacity c'.events ≡ vec_capacity c.events
-  pub notes : vec_len c'.notes ≤ vec_len c.notes + n
-  pub note_room : vec_capacity c'.notes ≡ vec_capacity c.notes
-  pub outbox : vec_len c'.outbox ≤ vec_len c.outbox + m
-  pub outbox_room : vec_capacity c'.outbox ≡ vec_capacity c.outbox
+pub record Spends (e n m : ℕ) (r r' : RoundNode) : Type 0 where
+  pub events : vec_len r'.events ≤ vec_len r.events + e
+  pub event_room : vec_capacity r'.events ≡ vec_capacity r.events
+  pub notes : vec_len r'.notes ≤ vec_len r.notes + n
+  pub note_room : vec_capacity r'.notes ≡ vec_capacity r.notes
+  pub outbox : vec_len r'.outbox ≤ vec_len r.outbox + m
+  pub outbox_room : vec_capacity r'.outbox ≡ vec_capacity r.outbox
 
 -- the room for the message of a link
 abbrev pub spare_room : RoundNode → ℕ → ℕ
-spare_room c l = slice_index_or (map (λ v. vec_capacity v) c.spare) l 0
+spare_room r l = slice_index_or (map (λ v. vec_capacity v) r.spare) l 0
 
 -- room for the message of a link whose input is pending
 abbrev pub HasMessageRoom : RoundNode → ℕ → Type 0
-HasMessageRoom c l = IfSome (input_at c.node l) (λ (o : Offer). o.length ≤ spare_room c l)
+HasMessageRoom r l = IfSome (input_at r.node l) (λ (o : Offer). o.length ≤ spare_room r l)
 
 -- room for the messages of the links from one on
 abbrev pub HasBytes : ℕ → RoundNode → Type 0
-HasBytes from c = (l : ℕ) → from ≤ l → l < 4 → HasMessageRoom c l
+HasBytes from r = (l : ℕ) → from ≤ l → l < 4 → HasMessageRoom r l
 
 -- room for the message of an act
 abbrev pub HasMessage : Act → RoundNode → Type 0
-HasMessage act c = (l : ℕ) → act ≡ Take l → HasMessageRoom c l
+HasMessage act r = (l : ℕ) → act ≡ Take l → HasMessageRoom r l
 
 -- the link of an act; 0 where it has none
 abbrev pub link_of : Act → ℕ
@@ -80,13 +80,13 @@ abbrev pub sendings_of : Act → ℕ
 sendings_of Run = 0
 sendings_of _ = 1
 
--- a node of a round is ready for a round with so many runs
-pub record IsReady (slice : ℕ) (c : RoundNode) : Type 0 where
-  pub room : HasRoom (slice + 16) 17 16 c
-  pub bytes : HasBytes 0 c
-  pub no_outbox : c.outbox.items ≡ []
-  pub no_events : c.events.items ≡ []
-  pub no_notes : c.notes.items ≡ []
+-- a round node is ready for a round with so many runs
+pub record IsReady (slice : ℕ) (r : RoundNode) : Type 0 where
+  pub room : HasRoom (slice + 16) 17 16 r
+  pub bytes : HasBytes 0 r
+  pub no_outbox : r.outbox.items ≡ []
+  pub no_events : r.events.items ≡ []
+  pub no_notes : r.notes.items ≡ []
 
 -- a round is done: the parts by themselves, then their sendings; what was done and told is behind what was before
 pub record Advances (holds : List Hold) (slice r : ℕ) (stations : List Station) (events : List Event)

@@ -1,4 +1,5 @@
 //! Holds: which packets they cover, and which of them are bad.
+
 ghost use Rattle.std.specs.Prelude.{◌≡◌, not, nat_lt, length, position, Some, None, if◌then◌else◌};
 ghost use Rattle.trounds.specs.Rounds as plain;
 ghost use Rattle.trounds.specs.Reports.{refusal};

@@ -1,4 +1,5 @@
-//! The nodes of a net, each with what it needs to do its part of a round by itself, and back.
+//! The nodes of a net, taken out of it as round nodes, and put back.
+
 ghost use Rattle.std.specs.Prelude.{◌≡◌, ◌≤◌, vec_len, IfOk, IfErr};
 ghost use Rattle.trounds.specs.Parts.{net_of};
 ghost use Rattle.tnet.specs.Sound.{IsSound};
@@ -17,7 +18,7 @@ pub struct Frame {
     pub inboxes: Vec<[Inbox; 4]>,
 }
 
-/// Takes the nodes of a net out of it, each into its node of a round.
+/// Takes the nodes of a net out of it, each into its round node.
 ///
 /// # Errors
 /// The allocator refused: the net as it was.

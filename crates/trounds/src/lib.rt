@@ -1,9 +1,8 @@
 //! Rounds of a net by any number of workers, and lists of events done again.
 //!
 //! `run_rounds` answers what the plain definition on one list of nodes says (`specs/Rounds.antt`), for every number
-//! of workers and
-//! every list of holds; `replay` does a list of events, and tells their notes. The headline is in the contracts of
-//! both.
+//! of workers and every list of holds; `replay` does a list of events, and tells their notes. The headline is in
+//! the contracts of both.
 #![tactic(auto)]
 
 mod holds;

@@ -1,4 +1,5 @@
 //! One round, shared out among workers.
+
 ghost use Rattle.std.specs.Prelude.{◌≡◌, ◌+◌, ◌*◌, ◌^◌, ◌<◌, All, length};
 ghost use Rattle.std.specs.Thread.{IsSync};
 ghost use Rattle.trounds.specs.Parts.{parts};
@@ -9,25 +10,25 @@ use crate::round_node::RoundNode;
 use std::thread::{Threads, join_mut};
 use tplan::Hold;
 
-/// The part of one worker, which has entered: each of its nodes in turn.
-fn do_part<G: Gate>(
+/// The share of one worker, which has entered: each of its nodes does its part of the round.
+fn do_share<G: Gate>(
     _gate: &G,
     _worker: usize,
     holds: &[Hold],
     slice: u32,
     round: u32,
-    part: &mut [RoundNode],
+    share: &mut [RoundNode],
 )
     requires entered { G.has_entered _gate.now _worker round }
-    requires ready { All (IsReady slice) part.old }
-    ensures { parts_of part.new ≡ parts holds.now slice round (stations_of part.old) }
+    requires ready { All (IsReady slice) share.old }
+    ensures { parts_of share.new ≡ parts holds.now slice round (stations_of share.old) }
 {
-    for place in 0..part.len() {
-        part[place].part_of_round(holds, slice, round);
+    for place in 0..share.len() {
+        share[place].part_of_round(holds, slice, round);
     }
 }
 
-/// How many parts of `size` nodes the first half takes, where there are at least two.
+/// How many shares of `size` nodes the first half takes, where there are at least two.
 fn half_of(len: usize, size: usize) -> usize
     requires size { 0 < size }
     requires two { size < len }
@@ -37,11 +38,10 @@ fn half_of(len: usize, size: usize) -> usize
     len.div_ceil(size) / 2
 }
 
-/// One round of each node. The nodes are split down to parts of `size` nodes, each done by a thread of its own
-/// where one can
-/// be started; with one part none is.
+/// One round of each node. The nodes are split down to shares of `size` nodes, each done by a thread of its own
+/// where one can be started; with one share none is.
 #[cycle(split)]
-pub fn do_parts<R: Threads + Sync, G: Gate + Sync>(
+pub fn do_shares<R: Threads + Sync, G: Gate + Sync>(
     rt: &R,
     gate: &G,
     holds: &[Hold],
@@ -49,21 +49,21 @@ pub fn do_parts<R: Threads + Sync, G: Gate + Sync>(
     round: u32,
     size: usize,
     worker: usize,
-    part: &mut [RoundNode],
+    share: &mut [RoundNode],
 )
     requires size { 0 < size }
-    requires worker { worker + length part.old < 2 ^ 64 }
-    requires ready { All (IsReady slice) part.old }
-    ensures { parts_of part.new ≡ parts holds.now slice round (stations_of part.old) }
+    requires worker { worker + length share.old < 2 ^ 64 }
+    requires ready { All (IsReady slice) share.old }
+    ensures { parts_of share.new ≡ parts holds.now slice round (stations_of share.old) }
 {
-    if part.len() <= size {
+    if share.len() <= size {
         gate.enter(worker, round);
-        do_part(gate, worker, holds, slice, round, part);
+        do_share(gate, worker, holds, slice, round, share);
         return;
     }
-    let half = half_of(part.len(), size);
+    let half = half_of(share.len(), size);
     let mid = half * size;
-    let (front, back) = part.split_at_mut(mid);
+    let (front, back) = share.split_at_mut(mid);
     do_both(
         rt,
         gate,
@@ -105,11 +105,11 @@ fn do_both<R: Threads + Sync, G: Gate + Sync>(
         requires { IsSync R.row × IsSync G.row × (0 < size) × (worker + length front.now < 2 ^ 64)
             × All (IsReady slice) front.now }
         ensures { parts_of front.exit.now ≡ parts holds.entry.now slice round (stations_of front.entry.now) }
-    { do_parts(rt, gate, holds, slice, round, size, worker, front) };
+    { do_shares(rt, gate, holds, slice, round, size, worker, front) };
     let mut second = ||
         requires { IsSync R.row × IsSync G.row × (0 < size) × (next + length back.now < 2 ^ 64)
             × All (IsReady slice) back.now }
         ensures { parts_of back.exit.now ≡ parts holds.entry.now slice round (stations_of back.entry.now) }
-    { do_parts(rt, gate, holds, slice, round, size, next, back) };
+    { do_shares(rt, gate, holds, slice, round, size, next, back) };
     join_mut(rt, &mut first, &mut second);
 }

@@ -16,8 +16,7 @@ use tplan::{BuildFault, WiringFault};
 use trounds::{NetFault, ReplayFault};
 
 /// Writes the line of a fault (own choice of format), as `temu: net N6 EndTwice 1`, and answers the exit status of
-/// the
-/// program: 2 for bad input, 3 where the output failed, 4 where there was no memory.
+/// the program: 2 for bad input, 3 where the output failed, 4 where there was no memory.
 ///
 /// # Errors
 /// Where the writer fails or takes nothing. Just so many of the first bytes are written as the fault tells.

@@ -31,20 +31,15 @@ use trounds::NetFault;
 use tword::Items;
 
 /// Runs the net of a wiring and the files of its images, one file a node, by free workers: each makes so many turns
-/// as the
-/// options have rounds, on a thread of its own where one can be started, or stops at a full clock, or when none
-/// finds anything
-/// more to do; then they are gathered. It
-/// writes the trace, the dump of each node and a last line `end quiet`, or `end turns` where the net is not quiet.
-/// What the
-/// wiring holds is ignored. Nothing is written before the workers are gathered.
+/// as the options have rounds, on a thread of its own where one can be started, or stops at a full clock, or when
+/// none finds anything more to do; then they are gathered. It writes the trace, the dump of each node and a last
+/// line `end quiet`, or `end turns` where the net is not quiet. What the wiring holds is ignored. Nothing is
+/// written before the workers are gathered.
 ///
 /// # Errors
 /// The first of these: `Image` for the first file that is no image, `Net` for the lowest fault of the plan,
-/// `Rounds` with
-/// `BadWorkers` outside 1 to 64, `Output` where the writer failed. `Memory` where the allocator refused, in a turn
-/// too. But for
-/// `Output` nothing was written.
+/// `Rounds` with `BadWorkers` outside 1 to 64, `Output` where the writer failed. `Memory` where the allocator
+/// refused, in a turn too. But for `Output` nothing was written.
 pub fn free_text<R: Threads + Sync, W: Write>(
     rt: &R,
     alloc: Global,
@@ -63,8 +58,7 @@ pub fn free_text<R: Threads + Sync, W: Write>(
     ensures text { IfOk result (λ g. Appends (W.contents out.old) (W.contents out.new) (spec.free_text g)) }
 
     // the headline: this is the text of one run of the rendezvous machine, in which each message that is complete
-    // is one step
-    // that copies it whole
+    // is one step that copies it whole
     ensures run { IfOk result
         (λ g. ShowsOneRun wiring.now files.now g.history (free_last g) (W.contents out.old) (W.contents out.new)) }
 

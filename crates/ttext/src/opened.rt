@@ -19,8 +19,7 @@ use tword::Items;
 ///
 /// # Errors
 /// `Image` with the number of the first node whose file is no image, else `Net` with the lowest fault of the plan.
-/// `Memory`
-/// where the allocator refused.
+/// `Memory` where the allocator refused.
 pub fn open_net(alloc: Global, wiring: &Wiring, files: &[Items<u8>]) -> Result<Net, Fault>
     requires { length files.now ≡ length wiring.now.nodes }
     ensures answer { MatchResult result (λ net. opened_of wiring.now files.now ≡ Ok net)

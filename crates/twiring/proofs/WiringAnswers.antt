@@ -11,7 +11,7 @@ use Rattle.tplan.specs.declared.wiring.WiringFault.{WiringFault}
 use Rattle.tplan.specs.declared.wiring.WiringFault.TheVariants.{OutOfMemory, Syntax, UnknownKey, MissingKey, WrongType}
 use Rattle.tplan.specs.declared.wiring.WiringFault.TheVariants.{BadVersion, BadNumber}
 use Rattle.twiring.specs.Wirings.{Names, is_one_of, has_unknown, IsWiringAnswer}
-use Rattle.twiring.specs.WiringParts.{Part, lower, both, made, known, table_in, one_more, more_in, end_in}
+use Rattle.twiring.specs.WiringParts.{Reading, lower, both, made, known, table_in, one_more, more_in, end_in}
 
 -- want of memory is the lowest fault
 lower-memory : (f : WiringFault) → lower OutOfMemory f ≡ OutOfMemory
@@ -32,30 +32,31 @@ memory-lower WrongType = refl
 memory-lower BadVersion = refl
 memory-lower BadNumber = refl
 
-both-memory : {A B : Type 0} (a : Part A) → both {B = B} a (Err OutOfMemory) ≡ Err OutOfMemory
+both-memory : {A B : Type 0} (a : Reading A) → both {B = B} a (Err OutOfMemory) ≡ Err OutOfMemory
 both-memory (Ok a) = refl
 both-memory (Err f) = ap (λ (f : WiringFault). Err f) (memory-lower f)
 
-memory-both : {A B : Type 0} (b : Part B) → both {A = A} (Err OutOfMemory) b ≡ Err OutOfMemory
+memory-both : {A B : Type 0} (b : Reading B) → both {A = A} (Err OutOfMemory) b ≡ Err OutOfMemory
 memory-both (Ok b) = refl
 memory-both (Err f) = ap (λ (f : WiringFault). Err f) (lower-memory f)
 
 -- what is told is an answer
-pub answer-told : {A : Type 0} (told answer : Part A) → answer ≡ told → IsWiringAnswer told answer
+pub answer-told : {A : Type 0} (told answer : Reading A) → answer ≡ told → IsWiringAnswer told answer
 answer-told told answer e = inr e
 
-pub answer-both : {A B : Type 0} (a x : Part A) (b y : Part B) (answer : Part (A × B)) → IsWiringAnswer a x
+pub answer-both : {A B : Type 0} (a x : Reading A) (b y : Reading B) (answer : Reading (A × B)) → IsWiringAnswer a x
     → IsWiringAnswer b y → answer ≡ both x y → IsWiringAnswer (both a b) answer
 answer-both a x b y answer (inl h) k e = inl (e ∙ ap (λ x. both x y) h ∙ memory-both y)
 answer-both a x b y answer (inr h) (inl k) e = inl (e ∙ ap (both x) k ∙ both-memory x)
 answer-both a x b y answer (inr h) (inr k) e = inr (e ∙ ap₂ both h k)
 
-pub answer-made : {A B : Type 0} (f : A → B) (a x : Part A) → IsWiringAnswer a x → IsWiringAnswer (made f a) (made f x)
+pub answer-made : {A B : Type 0} (f : A → B) (a x : Reading A) → IsWiringAnswer a x
+    → IsWiringAnswer (made f a) (made f x)
 answer-made f a x (inl h) = inl (ap (made f) h)
 answer-made f a x (inr h) = inr (ap (made f) h)
 
 -- one more table
-pub answer-one_more : {A : Type 0} (told found : Part (List A)) (part next : Part A) (answer : Part (List A))
+pub answer-one_more : {A : Type 0} (told found : Reading (List A)) (part next : Reading A) (answer : Reading (List A))
     → IsWiringAnswer told found → IsWiringAnswer part next
     → IsWiringAnswer (one_more found next) answer → IsWiringAnswer (one_more told part) answer
 answer-one_more told found part next answer h k (inl e) = inl e
@@ -67,18 +68,18 @@ answer-one_more told found part next answer h k (inr e) =
     by (inr m) = inr (e ∙ m)
 
 -- the last table of some
-pub more_in-last : {A : Type 0} (part : Members → Part A) (found : Part (List A)) (vs : List Value) (v : Value)
+pub more_in-last : {A : Type 0} (part : Members → Reading A) (found : Reading (List A)) (vs : List Value) (v : Value)
     → more_in part found (items_view (vs ++ v ∷ []))
     ≡ one_more (more_in part found (items_view vs)) (table_in part (view v))
 more_in-last part found [] v = refl
 more_in-last part found (x ∷ vs) v = more_in-last part (one_more found (table_in part (view x))) vs v
 
 -- nothing is left to say
-abbrev pub done : Part (Unit {0})
+abbrev pub done : Reading (Unit {0})
 done = Ok tt
 
 -- a table whose keys are known is read on
-known-ok : {A : Type 0} (names : Names) (t : Members) (p : Part A) → known names t done ≡ done → known names t p ≡ p
+known-ok : {A : Type 0} (names : Names) (t : Members) (p : Reading A) → known names t done ≡ done → known names t p ≡ p
 known-ok names t p = by (has_unknown names t)
   where
     by : (b : Bool) → (if b then Err UnknownKey else done) ≡ done → (if b then Err UnknownKey else p) ≡ p
@@ -86,7 +87,7 @@ known-ok names t p = by (has_unknown names t)
     by false h = refl
 
 -- a table with known keys is what its parts make
-pub answer-known : {A B : Type 0} (f : A → B) (names : Names) (t : Members) (told x : Part A) (answer : Part B)
+pub answer-known : {A B : Type 0} (f : A → B) (names : Names) (t : Members) (told x : Reading A) (answer : Reading B)
     → known names t done ≡ done → IsWiringAnswer told x → made f x ≡ answer
     → IsWiringAnswer (known names t (made f told)) answer
 answer-known f names t told x answer k h e = by (answer-made f told x h)

@@ -13,11 +13,11 @@ use Rattle.tplan.specs.declared.wiring.WiringFault.TheVariants.{BadNumber}
 use Rattle.twiring.specs.Wirings.{Names, has_unknown, tables_in, tables_of, is_integer, is_text, is_end, is_kind}
 use Rattle.twiring.specs.Wirings.{are_tables, is_tables, fails, is_bad_number, is_version, number_of, text_of, end_of}
 use Rattle.twiring.specs.Wirings.{kind_of}
-use Rattle.twiring.specs.WiringParts.{Part, both, made, known, value_or, number, number_in, text_in, end_in, kind_in}
+use Rattle.twiring.specs.WiringParts.{Reading, both, made, known, value_or, number, number_in, text_in, end_in, kind_in}
 use Rattle.twiring.specs.WiringParts.{version, version_in, one_more, more_in, array_in}
 
 -- the first test that holds names the fault; where none holds, there is a value
-abbrev pub judged : {A : Type 0} → Bool → Bool → Bool → Bool → Bool → A → Part A
+abbrev pub judged : {A : Type 0} → Bool → Bool → Bool → Bool → Bool → A → Reading A
 judged unknown missing wrong version number x =
     if unknown then Err UnknownKey else if missing then Err MissingKey else if wrong then Err WrongType else if version
     then Err BadVersion
@@ -87,8 +87,8 @@ same_judged u p m q w r v s n t x y a b c d e f =
     ∙ ap (judged p q r s t) f
 
 -- a value that has to be there, by the tests of a value
-pub required-judged : {A : Type 0} (f : Data → Part A) (wrong version number : Option Data → Bool) (value : Option Data
-    → A)
+pub required-judged : {A : Type 0} (f : Data → Reading A) (wrong version number : Option Data → Bool)
+    (value : Option Data → A)
     → ((d : Data) → f d ≡ judged false false (wrong (Some d)) (version (Some d)) (number (Some d)) (value (Some d)))
     → (o : Option Data)
     → value_or (Err MissingKey) f o ≡ judged false (is_none o) (wrong o) (version o) (number o) (value o)
@@ -176,13 +176,13 @@ end_from p = record { node = p.0; link = p.1 }
 abbrev pair_of : Data → Data → Data
 pair_of n l = array (item n (item l no_items))
 
-abbrev pair_tests : Data → Data → Part End
+abbrev pair_tests : Data → Data → Reading End
 pair_tests n l =
     judged false false (not (is_integer n) || not (is_integer l)) false
     (not (is_good_number n) || not (is_good_number l))
     (end_from (number_of (Some n) 0, number_of (Some l) 0))
 
-abbrev end_tests : Data → Part End
+abbrev end_tests : Data → Reading End
 end_tests d = judged false false (not (is_end d)) false (not (is_good_number d)) (end_of (Some d))
 
 pos_pair : (b c : Bool) (e : End)
@@ -258,13 +258,13 @@ end_in-judged (datetime t) = refl
 end_in-judged (table t) = refl
 
 -- arrays of tables
-module _ {A : Type 0} (part : Members → Part A) (unknown missing wrong number : Members → Bool) (value : Members → A)
+module _ {A : Type 0} (part : Members → Reading A) (unknown missing wrong number : Members → Bool) (value : Members → A)
     (parts : (t : Members) → part t ≡ judged (unknown t) (missing t) (wrong t) false (number t) (value t)) where
   abbrev seen : (Members → Bool) → Items → Bool
   seen test items = list_any test (tables_in items)
 
   -- what was found before an array, and the array
-  abbrev more_tests : (u m w n : Bool) → List A → Items → Part (List A)
+  abbrev more_tests : (u m w n : Bool) → List A → Items → Reading (List A)
   more_tests u m w n xs items =
       judged (u || seen unknown items) (m || seen missing items) (w || (not (are_tables items) || seen wrong items))
       false (n || seen number items)

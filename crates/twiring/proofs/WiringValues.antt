@@ -14,7 +14,7 @@ use Rattle.twiring.specs.Wirings.{has_unknown, root_keys, node_keys, wire_keys, 
 use Rattle.twiring.specs.Wirings.{is_integer, is_text, is_end, is_kind, is_tables, is_wrong, is_bad, is_version, fails}
 use Rattle.twiring.specs.Wirings.{number_of, number_at, text_of, end_of, kind_of, default_timeslice, wiring_value}
 use Rattle.twiring.specs.Wirings.{wiring_of}
-use Rattle.twiring.specs.WiringParts.{Part, both, made, known, required, number_in, text_in, end_in, kind_in}
+use Rattle.twiring.specs.WiringParts.{Reading, both, made, known, required, number_in, text_in, end_in, kind_in}
 use Rattle.twiring.specs.WiringParts.{version_in, node_in, wire_in, hold_in, held_in, array_at, head_in, arrays_in}
 use Rattle.twiring.specs.WiringParts.{wiring_in}
 use Rattle.twiring.proofs.WiringTests.{judged, same_judged, both-judged, made-judged, known-judged, required-judged}
@@ -72,7 +72,7 @@ node_in-judged t =
     let m : Bool = is_none (get_member (codes "memory") t) in
     let i : Bool = is_none (get_member (codes "image") t) in
     let b : Bool = node_bad t in
-    ap (λ (p : Part (ℕ × List ℕ)). known node_keys t (made node_from p))
+    ap (λ (p : Reading (ℕ × List ℕ)). known node_keys t (made node_from p))
     (ap₂ both (number-judged (codes "memory") t) (text-judged (codes "image") t)
     ∙ both-judged false m (is_wrong is_integer (codes "memory") t) false b false i (is_wrong is_text (codes "image") t)
     false false (number_at (codes "memory") t) (text_of (get_member (codes "image") t)))
@@ -103,7 +103,7 @@ wire_in-judged : (t : Members)
 wire_in-judged t =
     let a : Bool = is_none (get_member (codes "a") t) in
     let b : Bool = is_none (get_member (codes "b") t) in
-    ap (λ (p : Part (End × End)). known wire_keys t (made wire_from p))
+    ap (λ (p : Reading (End × End)). known wire_keys t (made wire_from p))
     (ap₂ both (end-judged (codes "a") t) (end-judged (codes "b") t)
     ∙ both-judged false a (is_wrong is_end (codes "a") t) false (is_bad (codes "a") t) false b
     (is_wrong is_end (codes "b") t) false (is_bad (codes "b") t) (end_of (get_member (codes "a") t))
@@ -172,7 +172,7 @@ hold_in-judged : (t : Members)
     → hold_in t ≡ judged (has_unknown hold_keys t) (lacks_one hold_keys t) (hold_wrong t) false (hold_bad t)
     (hold_value t)
 hold_in-judged t =
-    ap (λ (p : Part ((End × PacketKind) × (ℕ × ℕ))). known hold_keys t (made hold_from p)) (held_in-judged t)
+    ap (λ (p : Reading ((End × PacketKind) × (ℕ × ℕ))). known hold_keys t (made hold_from p)) (held_in-judged t)
     ∙ ap (known hold_keys t)
     (made-judged hold_from false (lacks_one hold_keys t) (hold_wrong t) false (hold_bad t) (hold_parts t))
     ∙ known-judged hold_keys t false (lacks_one hold_keys t) (hold_wrong t) false (hold_bad t) (hold_value t)
@@ -309,7 +309,7 @@ wiring_in-whole t =
     let rb : Bool = is_bad (codes "timeslice") t in
     let ab : Bool = in_arrays node_bad wire_bad hold_bad t in
     let value : ℕ × Arrays = (number_of s default_timeslice, arrays_value t) in
-    ap (λ (p : Part (ℕ × Arrays)). known root_keys t (made wiring_from p))
+    ap (λ (p : Reading (ℕ × Arrays)). known root_keys t (made wiring_from p))
     (ap₂ both (head_in-judged t) (arrays_in-judged t)
     ∙ both-judged false rm rt rv rb au am (arrays_wrong t) false ab value.0 value.1)
     ∙ ap (known root_keys t)

@@ -16,8 +16,8 @@ use Rattle.tplan.specs.declared.wiring.WiringNode.{WiringNode}
 use Rattle.twiring.specs.Wirings.{Names, has_unknown, root_keys, node_keys, wire_keys, hold_keys, default_timeslice}
 
 -- what a part stands for, or its lowest fault
-abbrev pub Part : Type 0 → Type 0
-Part A = Result A WiringFault
+abbrev pub Reading : Type 0 → Type 0
+Reading A = Result A WiringFault
 
 -- the place of a fault in the order in which faults are told
 abbrev pub rank : WiringFault → ℕ
@@ -34,130 +34,130 @@ abbrev pub lower : WiringFault → WiringFault → WiringFault
 lower f g = if nat_lt (rank g) (rank f) then g else f
 
 -- two parts, or the lower of their faults
-abbrev pub both : {A B : Type 0} → Part A → Part B → Part (A × B)
+abbrev pub both : {A B : Type 0} → Reading A → Reading B → Reading (A × B)
 both (Ok a) (Ok b) = Ok (a, b)
 both (Ok a) (Err f) = Err f
 both (Err f) (Ok b) = Err f
 both (Err f) (Err g) = Err (lower f g)
 
 -- what is made of a part
-abbrev pub made : {A B : Type 0} → (A → B) → Part A → Part B
+abbrev pub made : {A B : Type 0} → (A → B) → Reading A → Reading B
 made f (Ok a) = Ok (f a)
 made f (Err e) = Err e
 
 -- a table whose keys are all listed
-abbrev pub known : {A : Type 0} → Names → Members → Part A → Part A
+abbrev pub known : {A : Type 0} → Names → Members → Reading A → Reading A
 known names t p = if has_unknown names t then Err UnknownKey else p
 
 -- a value that is there, or what its absence means
-abbrev pub value_or : {A : Type 0} → Part A → (Data → Part A) → Option Data → Part A
+abbrev pub value_or : {A : Type 0} → Reading A → (Data → Reading A) → Option Data → Reading A
 value_or absent f None = absent
 value_or absent f (Some d) = f d
 
 -- a value that has to be there
-abbrev pub required : {A : Type 0} → (Data → Part A) → List ℕ → Members → Part A
+abbrev pub required : {A : Type 0} → (Data → Reading A) → List ℕ → Members → Reading A
 required f key t = value_or (Err MissingKey) f (get_member key t)
 
 -- a number of 32 bits
-abbrev pub number : ℤ → Part ℕ
+abbrev pub number : ℤ → Reading ℕ
 number (pos n) = if nat_lt n (2 ^ 32) then Ok n else Err BadNumber
 number (negsuc n) = Err BadNumber
 
-abbrev pub number_in : Data → Part ℕ
+abbrev pub number_in : Data → Reading ℕ
 number_in (integer z) = number z
 number_in _ = Err WrongType
 
 -- a text
-abbrev pub text_in : Data → Part (List ℕ)
+abbrev pub text_in : Data → Reading (List ℕ)
 text_in (string s) = Ok s
 text_in _ = Err WrongType
 
 -- an end: its node and its link
-abbrev pub end_in : Data → Part End
+abbrev pub end_in : Data → Reading End
 end_in (array (item n (item l no_items))) =
     made (λ p. record { node = p.0; link = p.1 }) (both (number_in n) (number_in l))
 end_in _ = Err WrongType
 
 -- a kind of packet
-abbrev pub kind_of_text : List ℕ → Part PacketKind
+abbrev pub kind_of_text : List ℕ → Reading PacketKind
 kind_of_text s =
     if bytes_eq s (codes "ack") then Ok kind.Ack else if bytes_eq s (codes "data") then Ok kind.Data else Err WrongType
 
-abbrev pub kind_in : Data → Part PacketKind
+abbrev pub kind_in : Data → Reading PacketKind
 kind_in (string s) = kind_of_text s
 kind_in _ = Err WrongType
 
 -- the version, which is 1
-abbrev pub version : ℤ → Part (Unit {0})
+abbrev pub version : ℤ → Reading (Unit {0})
 version (pos n) = if n == 1 then Ok tt else Err BadVersion
 version (negsuc n) = Err BadVersion
 
-abbrev pub version_in : Data → Part (Unit {0})
+abbrev pub version_in : Data → Reading (Unit {0})
 version_in (integer z) = version z
 version_in _ = Err WrongType
 
 -- a node
-abbrev pub node_in : Members → Part WiringNode
+abbrev pub node_in : Members → Reading WiringNode
 node_in t =
     known node_keys t (made (λ p. record { memory = p.0; image = p.1 })
     (both (required number_in (codes "memory") t) (required text_in (codes "image") t)))
 
 -- a wire
-abbrev pub wire_in : Members → Part Wire
+abbrev pub wire_in : Members → Reading Wire
 wire_in t =
     known wire_keys t (made (λ p. record { a = p.0; b = p.1 })
     (both (required end_in (codes "a") t) (required end_in (codes "b") t)))
 
 -- where packets are held, and for which rounds
-abbrev pub held_in : Members → Part ((End × PacketKind) × (ℕ × ℕ))
+abbrev pub held_in : Members → Reading ((End × PacketKind) × (ℕ × ℕ))
 held_in t =
     both (both (required end_in (codes "end") t) (required kind_in (codes "kind") t))
     (both (required number_in (codes "from") t) (required number_in (codes "until") t))
 
 -- a hold
-abbrev pub hold_in : Members → Part Hold
+abbrev pub hold_in : Members → Reading Hold
 hold_in t =
     known hold_keys t
     (made (λ p. record { «end» = p.0.0; kind = p.0.1; from = p.1.0; until = p.1.1 }) (held_in t))
 
 -- a table of an array
-abbrev pub table_in : {A : Type 0} → (Members → Part A) → Data → Part A
+abbrev pub table_in : {A : Type 0} → (Members → Reading A) → Data → Reading A
 table_in part (table t) = part t
 table_in part _ = Err WrongType
 
 -- one more part behind those before it
-abbrev pub one_more : {A : Type 0} → Part (List A) → Part A → Part (List A)
+abbrev pub one_more : {A : Type 0} → Reading (List A) → Reading A → Reading (List A)
 one_more found next = made (λ p. p.0 ++ p.1 ∷ []) (both found next)
 
 -- the tables of an array behind those before it
-abbrev pub more_in : {A : Type 0} → (Members → Part A) → Part (List A) → Items → Part (List A)
+abbrev pub more_in : {A : Type 0} → (Members → Reading A) → Reading (List A) → Items → Reading (List A)
 more_in part found no_items = found
 more_in part found (item d rest) = more_in part (one_more found (table_in part d)) rest
 
 -- an array of tables
-abbrev pub array_in : {A : Type 0} → (Members → Part A) → Data → Part (List A)
+abbrev pub array_in : {A : Type 0} → (Members → Reading A) → Data → Reading (List A)
 array_in part (array items) = more_in part (Ok []) items
 array_in part _ = Err WrongType
 
 -- the tables at a key, none where it is absent
-abbrev pub array_at : {A : Type 0} → (Members → Part A) → List ℕ → Members → Part (List A)
+abbrev pub array_at : {A : Type 0} → (Members → Reading A) → List ℕ → Members → Reading (List A)
 array_at part key t = value_or (Ok []) (array_in part) (get_member key t)
 
 -- the version and the timeslice
-abbrev pub head_in : Members → Part ℕ
+abbrev pub head_in : Members → Reading ℕ
 head_in t =
     made (λ p. p.1)
     (both (required version_in (codes "version") t)
     (value_or (Ok default_timeslice) number_in (get_member (codes "timeslice") t)))
 
 -- nodes, wires and holds
-abbrev pub arrays_in : Members → Part (List WiringNode × (List Wire × List Hold))
+abbrev pub arrays_in : Members → Reading (List WiringNode × (List Wire × List Hold))
 arrays_in t =
     both (array_at node_in (codes "node") t)
     (both (array_at wire_in (codes "wire") t) (array_at hold_in (codes "hold") t))
 
 -- a wiring
-abbrev pub wiring_in : Members → Part Wiring
+abbrev pub wiring_in : Members → Reading Wiring
 wiring_in t =
     known root_keys t
     (made (λ p. record { timeslice = p.0; nodes = p.1.0; wires = p.1.1.0; holds = p.1.1.1 })

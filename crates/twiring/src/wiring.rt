@@ -15,7 +15,7 @@ use tword::Items;
 pub const DEFAULT_TIMESLICE: u32 = 1_024;
 
 /// What a part of a wiring stands for, or its lowest fault.
-type Part<T> = Result<T, WiringFault>;
+type Reading<T> = Result<T, WiringFault>;
 
 /// The wiring that a text stands for (own choice of format), as TOML: `version`, which is 1, `timeslice`, which may
 /// be absent,
@@ -37,7 +37,7 @@ pub fn read_wiring(alloc: Global, text: &str) -> Result<Wiring, WiringFault>
 }
 
 /// The whole.
-fn wiring(alloc: Global, root: &Table) -> Part<Wiring>
+fn wiring(alloc: Global, root: &Table) -> Reading<Wiring>
     ensures { IsWiringAnswer (spec.wiring_in (table_view root.now)) result }
 {
     known_keys(root, &["version", "timeslice", "node", "wire", "hold"])?;
@@ -54,7 +54,7 @@ fn wiring(alloc: Global, root: &Table) -> Part<Wiring>
 }
 
 /// The timeslice of a whole whose version is 1.
-fn head(root: &Table) -> Part<u32>
+fn head(root: &Table) -> Reading<u32>
     ensures { result ≡ spec.head_in (table_view root.now) }
 {
     let (_, timeslice) = both(version_at(root), timeslice_at(root))?;
@@ -70,14 +70,14 @@ trait Section: Drop {
     ghost told: { Members → Result Self WiringFault };
 
     /// What a table stands for.
-    fn read(alloc: Global, table: &Table) -> Part<Self>
+    fn read(alloc: Global, table: &Table) -> Reading<Self>
         ensures { IsWiringAnswer (told (table_view table.now)) result };
 }
 
 impl Section for WiringNode {
     ghost told = { spec.node_in };
 
-    fn read(alloc: Global, table: &Table) -> Part<WiringNode> {
+    fn read(alloc: Global, table: &Table) -> Reading<WiringNode> {
         known_keys(table, &["memory", "image"])?;
         let (memory, image) = both(number_at(table, "memory"), text_at(alloc, table, "image"))?;
         Ok(WiringNode { memory, image })
@@ -87,7 +87,7 @@ impl Section for WiringNode {
 impl Section for Wire {
     ghost told = { spec.wire_in };
 
-    fn read(_alloc: Global, table: &Table) -> Part<Wire> {
+    fn read(_alloc: Global, table: &Table) -> Reading<Wire> {
         known_keys(table, &["a", "b"])?;
         let (a, b) = both(end_at(table, "a"), end_at(table, "b"))?;
         Ok(Wire { a, b })
@@ -97,7 +97,7 @@ impl Section for Wire {
 impl Section for Hold {
     ghost told = { spec.hold_in };
 
-    fn read(_alloc: Global, table: &Table) -> Part<Hold> {
+    fn read(_alloc: Global, table: &Table) -> Reading<Hold> {
         known_keys(table, &["end", "kind", "from", "until"])?;
         let place = both(end_at(table, "end"), kind_at(table, "kind"));
         let rounds = both(number_at(table, "from"), number_at(table, "until"));
@@ -112,7 +112,7 @@ impl Section for Hold {
 }
 
 /// The tables of the array at a key, none where it is absent.
-fn array_at<T: Section>(alloc: Global, table: &Table, key: &str) -> Part<Items<T>>
+fn array_at<T: Section>(alloc: Global, table: &Table, key: &str) -> Reading<Items<T>>
     ensures { IsWiringAnswer (spec.array_at T.told key.now (table_view table.now)) result }
 {
     let Some(value) = value_at(table, key) else {
@@ -125,7 +125,7 @@ fn array_at<T: Section>(alloc: Global, table: &Table, key: &str) -> Part<Items<T
 }
 
 /// Each value as a table.
-fn tables<T: Section>(alloc: Global, array: &[Value]) -> Part<Items<T>>
+fn tables<T: Section>(alloc: Global, array: &[Value]) -> Reading<Items<T>>
     ensures { IsWiringAnswer (spec.more_in T.told (Ok []) (items_view array.now)) result }
 {
     let mut found = Ok(Items::new(Vec::new(alloc)));
@@ -136,7 +136,7 @@ fn tables<T: Section>(alloc: Global, array: &[Value]) -> Part<Items<T>>
 }
 
 /// A table.
-fn table<T: Section>(alloc: Global, value: &Value) -> Part<T>
+fn table<T: Section>(alloc: Global, value: &Value) -> Reading<T>
     ensures { IsWiringAnswer (spec.table_in T.told (view value.now)) result }
 {
     match value.as_table() {
@@ -146,7 +146,7 @@ fn table<T: Section>(alloc: Global, value: &Value) -> Part<T>
 }
 
 /// One more behind those that were found.
-fn one_more<T: Drop>(found: Part<Items<T>>, next: Part<T>) -> Part<Items<T>>
+fn one_more<T: Drop>(found: Reading<Items<T>>, next: Reading<T>) -> Reading<Items<T>>
     ensures { IsWiringAnswer (spec.one_more found next) result }
 {
     let (found, next) = both(found, next)?;
@@ -156,7 +156,7 @@ fn one_more<T: Drop>(found: Part<Items<T>>, next: Part<T>) -> Part<Items<T>>
 }
 
 /// Both parts, or the lower of their faults.
-fn both<A: Drop, B: Drop>(a: Part<A>, b: Part<B>) -> Part<(A, B)>
+fn both<A: Drop, B: Drop>(a: Reading<A>, b: Reading<B>) -> Reading<(A, B)>
     ensures { result ≡ spec.both a b }
 {
     match a {
@@ -172,7 +172,7 @@ fn both<A: Drop, B: Drop>(a: Part<A>, b: Part<B>) -> Part<(A, B)>
 }
 
 /// Each key is one of these.
-fn known_keys(table: &Table, names: &[&str]) -> Part<()>
+fn known_keys(table: &Table, names: &[&str]) -> Reading<()>
     ensures { result ≡ spec.known (map (λ name. name.now) names.now) (table_view table.now) (Ok tt) }
 {
     for key in table.keys() {
@@ -191,7 +191,7 @@ fn is_one_of(key: &str, names: &[&str]) -> bool
 }
 
 /// The version, which has to be there and to be 1.
-fn version_at(root: &Table) -> Part<()>
+fn version_at(root: &Table) -> Reading<()>
     ensures { result ≡ spec.required spec.version_in (codes "version") (table_view root.now) }
 {
     match required(root, "version")?.as_integer() {
@@ -202,7 +202,7 @@ fn version_at(root: &Table) -> Part<()>
 }
 
 /// The timeslice, which may be absent.
-fn timeslice_at(root: &Table) -> Part<u32>
+fn timeslice_at(root: &Table) -> Reading<u32>
     ensures { result ≡ spec.value_or (Ok default_timeslice) spec.number_in
         (get_member (codes "timeslice") (table_view root.now)) }
 {
@@ -213,35 +213,35 @@ fn timeslice_at(root: &Table) -> Part<u32>
 }
 
 /// The number at a key.
-fn number_at(table: &Table, key: &str) -> Part<u32>
+fn number_at(table: &Table, key: &str) -> Reading<u32>
     ensures { result ≡ spec.required spec.number_in key.now (table_view table.now) }
 {
     number(required(table, key)?)
 }
 
 /// The end at a key.
-fn end_at(table: &Table, key: &str) -> Part<End>
+fn end_at(table: &Table, key: &str) -> Reading<End>
     ensures { result ≡ spec.required spec.end_in key.now (table_view table.now) }
 {
     end(required(table, key)?)
 }
 
 /// The kind at a key.
-fn kind_at(table: &Table, key: &str) -> Part<PacketKind>
+fn kind_at(table: &Table, key: &str) -> Reading<PacketKind>
     ensures { result ≡ spec.required spec.kind_in key.now (table_view table.now) }
 {
     kind(required(table, key)?)
 }
 
 /// The text at a key.
-fn text_at(alloc: Global, table: &Table, key: &str) -> Part<Items<u8>>
+fn text_at(alloc: Global, table: &Table, key: &str) -> Reading<Items<u8>>
     ensures { IsWiringAnswer (spec.required spec.text_in key.now (table_view table.now)) result }
 {
     text(alloc, required(table, key)?)
 }
 
 /// A number of 32 bits.
-fn number(value: &Value) -> Part<u32>
+fn number(value: &Value) -> Reading<u32>
     ensures { result ≡ spec.number_in (view value.now) }
 {
     match value.as_integer() {
@@ -254,7 +254,7 @@ fn number(value: &Value) -> Part<u32>
 }
 
 /// An end: a node and its link.
-fn end(value: &Value) -> Part<End>
+fn end(value: &Value) -> Reading<End>
     ensures { result ≡ spec.end_in (view value.now) }
 {
     let Some(array) = value.as_array() else {
@@ -268,7 +268,7 @@ fn end(value: &Value) -> Part<End>
 }
 
 /// A kind of packet.
-fn kind(value: &Value) -> Part<PacketKind>
+fn kind(value: &Value) -> Reading<PacketKind>
     ensures { result ≡ spec.kind_in (view value.now) }
 {
     match value.as_str() {
@@ -279,7 +279,7 @@ fn kind(value: &Value) -> Part<PacketKind>
 }
 
 /// A text, as its bytes.
-fn text(alloc: Global, value: &Value) -> Part<Items<u8>>
+fn text(alloc: Global, value: &Value) -> Reading<Items<u8>>
     ensures { IsWiringAnswer (spec.text_in (view value.now)) result }
 {
     match value.as_str() {
@@ -289,7 +289,7 @@ fn text(alloc: Global, value: &Value) -> Part<Items<u8>>
 }
 
 /// The value at a key that has to be there.
-fn required<'a>(table: &'a Table, key: &str) -> Part<&'a Value>
+fn required<'a>(table: &'a Table, key: &str) -> Reading<&'a Value>
     ensures { MatchResult result
         (λ value. get_member key.now (table_view table.now) ≡ Some (view value.now))
         (λ fault. (get_member key.now (table_view table.now) ≡ None) × (fault ≡ WiringFault.MissingKey)) }

@@ -18,8 +18,8 @@ impl Memory {
     /// Whether the bytes of a span lie in the memory, where programs may use them.
     ///
     /// # Errors
-    /// `BadAddress` where one lies outside, else `Reserved` where one lies below the first address that programs
-    /// may use. A span without bytes passes.
+    /// `BadAddress` where one lies outside, else `Reserved` where one lies below the first address that programs may
+    /// use. A span without bytes passes.
     #[inline(always)]
     fn lies_open(&self, start: Word, size: u32) -> Result<(), Break>
         ensures { result ≡ or_break (place_break (length self.now) (record { start = start; size = size })) tt }

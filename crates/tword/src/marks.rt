@@ -42,14 +42,11 @@ impl Marks {
         ensures none { IfOk result (λ m. m ≡ no_claims) }
         ensures fault { IfErr result (λ fault. fault ≡ MemoryFault.OutOfMemory) }
     {
-        match Saved::new(alloc) {
-            Ok(saved) => Ok(Marks {
-                inputs: LinkBuffers::new(),
-                outputs: LinkBuffers::new(),
-                saved,
-            }),
-            Err(_) => Err(MemoryFault::OutOfMemory),
-        }
+        Ok(Marks {
+            inputs: LinkBuffers::new(),
+            outputs: LinkBuffers::new(),
+            saved: Saved::new(alloc)?,
+        })
     }
 
     /// The same claims, with the same room.
@@ -158,28 +155,6 @@ impl Marks {
         Ok(())
     }
 
-    /// Claims the three words below a workspace, for a caller that knows that it may.
-    pub fn claim_saved_known(&mut self, workspace: Word)
-        requires workspace { IsClaimableWorkspace workspace }
-        requires room { length self.old.saved < 512 }
-        requires free { claim_break self.old Writes (saved_words workspace) ≡ None }
-        ensures { self.new ≡ saving workspace self.old }
-    {
-        self.saved.insert(workspace);
-    }
-
-    /// Gives the words below a workspace free, if they are saved. The order in which the others are kept is left
-    /// open.
-    pub fn release_saved(&mut self, workspace: Word)
-        ensures frees { Frees workspace self.old self.new }
-        ensures counts { has_saved self.old workspace ≡ true → length self.new.saved + 1 ≡ length self.old.saved }
-        ensures same { has_saved self.old workspace ≡ false → self.new ≡ self.old }
-        ensures inputs { self.new.inputs ≡ self.old.inputs }
-        ensures outputs { self.new.outputs ≡ self.old.outputs }
-    {
-        self.saved.remove(workspace);
-    }
-
     /// Claims the buffer of a pending link input, where the claims that there are let it be written.
     ///
     /// # Errors
@@ -192,14 +167,6 @@ impl Marks {
         self.may_write(start, size)?;
         self.claim_in_known(link, start, size);
         Ok(())
-    }
-
-    /// Claims the buffer of a pending link input, for a caller that knows that it may.
-    pub fn claim_in_known(&mut self, link: u8, start: Word, size: u32)
-        requires { link < 4 }
-        ensures { self.new ≡ with_input link (record { start = start; size = size }) self.old }
-    {
-        self.inputs.claim(link, Span { start, size });
     }
 
     /// Claims the buffer of a pending link output, where the claims that there are let it be read: two outputs may
@@ -217,12 +184,42 @@ impl Marks {
         Ok(())
     }
 
+    /// Claims the three words below a workspace, for a caller that knows that it may.
+    pub fn claim_saved_known(&mut self, workspace: Word)
+        requires workspace { IsClaimableWorkspace workspace }
+        requires room { length self.old.saved < 512 }
+        requires free { claim_break self.old Writes (saved_words workspace) ≡ None }
+        ensures { self.new ≡ saving workspace self.old }
+    {
+        self.saved.insert(workspace);
+    }
+
+    /// Claims the buffer of a pending link input, for a caller that knows that it may.
+    pub fn claim_in_known(&mut self, link: u8, start: Word, size: u32)
+        requires { link < 4 }
+        ensures { self.new ≡ with_input link (record { start = start; size = size }) self.old }
+    {
+        self.inputs.claim(link, Span { start, size });
+    }
+
     /// Claims the buffer of a pending link output, for a caller that knows that it may.
     pub fn claim_out_known(&mut self, link: u8, start: Word, size: u32)
         requires { link < 4 }
         ensures { self.new ≡ with_output link (record { start = start; size = size }) self.old }
     {
         self.outputs.claim(link, Span { start, size });
+    }
+
+    /// Gives the words below a workspace free, if they are saved. The order in which the others are kept is left
+    /// open.
+    pub fn release_saved(&mut self, workspace: Word)
+        ensures frees { Frees workspace self.old self.new }
+        ensures counts { has_saved self.old workspace ≡ true → length self.new.saved + 1 ≡ length self.old.saved }
+        ensures same { has_saved self.old workspace ≡ false → self.new ≡ self.old }
+        ensures inputs { self.new.inputs ≡ self.old.inputs }
+        ensures outputs { self.new.outputs ≡ self.old.outputs }
+    {
+        self.saved.remove(workspace);
     }
 
     /// Gives the buffer of a link input free.

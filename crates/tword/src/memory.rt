@@ -18,8 +18,7 @@ use byteorder::{ByteOrder, LittleEndian};
 use std::alloc::{AllocError, Global};
 use std::marker::Model;
 
-/// The memory of a node: its bytes from address #80000000 on. Contracts see it as a store whose cells are all
-/// there.
+/// The memory of a node: its bytes from address #80000000 on. Contracts see it as a store whose cells are all there.
 #[derive(Drop)]
 pub struct Memory {
     bytes: Vec<u8>,
@@ -50,10 +49,9 @@ impl Memory {
         if size < SMALLEST_MEMORY || LARGEST_MEMORY < size || size % 4 != 0 {
             return Err(MemoryFault::BadSize);
         }
-        match vec![in alloc; 0; size as usize] {
-            Ok(bytes) => Ok(Memory { bytes }),
-            Err(_) => Err(MemoryFault::OutOfMemory),
-        }
+        Ok(Memory {
+            bytes: vec![in alloc; 0; size as usize]?,
+        })
     }
 
     /// A memory of the same bytes.
@@ -89,8 +87,8 @@ impl Memory {
     /// The word at an address. A word has its lowest byte first (the Compiler Writer's Guide).
     ///
     /// # Errors
-    /// The first of `Unaligned`, `BadAddress`, `Reserved`, `InTransit`, `SavedWord` that holds of a read of the
-    /// word (own choice of the checks).
+    /// The first of `Unaligned`, `BadAddress`, `Reserved`, `InTransit`, `SavedWord` that holds of a read of the word
+    /// (own choice of the checks).
     #[inline(always)]
     pub fn read_word(&self, marks: &Marks, address: Word) -> Result<Word, Break>
         ensures { result ≡ or_break (word_break (length self.now) marks.now Reads address)
@@ -146,8 +144,8 @@ impl Memory {
     /// Sets the byte at an address.
     ///
     /// # Errors
-    /// The first of `BadAddress`, `Reserved`, `InTransit`, `SavedWord` that holds of a write of the byte; nothing
-    /// is changed then.
+    /// The first of `BadAddress`, `Reserved`, `InTransit`, `SavedWord` that holds of a write of the byte; nothing is
+    /// changed then.
     #[inline(always)]
     pub fn write_byte(&mut self, marks: &Marks, address: Word, value: u8) -> Result<(), Break>
         ensures changes { Changing (span_break (length self.old) marks.now Writes (byte_span address)) self.old

@@ -1,4 +1,5 @@
 //! Bytes in a row.
+
 ghost use Rattle.std.specs.Prelude.{◌≡◌, ◌+◌, ◌<◌, ◌^◌};
 ghost use Rattle.tword.specs.Claims.{overlap};
 

@@ -1,4 +1,6 @@
+pub mod AcceptedRows
 pub mod WordWalks
+pub mod LevelRows
 pub mod WordAnswers
 pub mod WordReads
 pub mod WordParsers

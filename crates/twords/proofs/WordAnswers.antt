@@ -23,8 +23,8 @@ use Rattle.std.specs.Box.{box_value}
 use Rattle.clap.proofs.ValueTestLemmas.{accepts-Accepts}
 use Rattle.twords.specs.CommandLines.{HasText, HasNumber, IsRun, IsWhole, between, program, refusals, running_shape}
 use Rattle.twords.specs.CommandLines.{run_shape, free_shape, replay_shape, dis_shape, file_rule, number_rule}
-use Rattle.twords.proofs.WordWalks.{Each, IsFit, Holds, Rows, Found, default_found, each_found, level_passes, neither}
-use Rattle.twords.proofs.WordWalks.{required_found, subcommand_wanted}
+use Rattle.twords.proofs.AcceptedRows.{Each, IsFit, Holds, Rows, each_found, neither}
+use Rattle.twords.proofs.LevelRows.{Found, default_found, level_passes, required_found, subcommand_wanted}
 
 -- ---- what a row gives
 

@@ -1,7 +1,6 @@
 -- What the words of a command line ask for, by what `clap` reads of them for these commands.
 -- Source: the forms of the commands, their defaults and their ranges are our own choice; `Rattle.clap.specs` says how
--- `clap`
--- reads words, and why it refuses them.
+-- `clap` reads words, and why it refuses them.
 use Rattle.std.specs.Prelude.{refl, ℕ, ◌≡◌, ◌≤◌, pos, true, false, List, [], ◌∷◌, Option, Some, None, is_some}
 use Rattle.std.specs.Prelude.{option_map, codes, bytes_eq, if◌then◌else◌}
 use Rattle.std.specs.Option.{option_map_or}

@@ -12,8 +12,7 @@ use std::alloc::{AllocError, Global};
 use tplan::Options;
 
 /// Why no command was read: help was asked for, or the words are a mistake, or there was no memory (`kind`).
-/// `print` writes
-/// its text where `use_stderr` says.
+/// `print` writes its text where `use_stderr` says.
 pub type CommandFault = clap::Error;
 
 /// What a command line asks for.
@@ -44,8 +43,7 @@ pub enum Command {
 }
 
 /// What the words of a command line ask for, of which the first is the program's name: each option is the value
-/// that the
-/// words give or its default.
+/// that the words give or its default.
 ///
 /// # Errors
 /// Where help is asked for, or the words are a mistake: `clap`'s error of it, else `OutOfMemory` where the

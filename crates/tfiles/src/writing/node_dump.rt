@@ -20,8 +20,7 @@ const LINE_BYTES: usize = 16;
 
 /// The dump of a node (own choice of format): a line `node 3 ok`, `node 3 halted` or `node 3 frozen NAME`, and then
 /// a line for each sixteen bytes that are not all zero, as `800000f0: 00 00 .. 80`. A byte that a pending link
-/// input is to
-/// write, whose spans are given, is shown as `--`, and is not zero.
+/// input is to write, whose spans are given, is shown as `--`, and is not zero.
 pub(crate) fn put_node_dump<W: Write>(
     out: &mut Output<'_, W>,
     node: usize,

@@ -15,8 +15,7 @@ use tplan::plan::End;
 use tword::Break;
 
 /// Writes the trace (own choice of format): for each note, in order, a line `msg 0.1 1.2 4 01020304` (from, to,
-/// length and bytes),
-/// `halt 0` or `freeze 1 LengthMismatch`.
+/// length and bytes), `halt 0` or `freeze 1 LengthMismatch`.
 ///
 /// # Errors
 /// Where the writer fails or takes nothing. Just so many of the first bytes are written as the fault tells.

@@ -1,5 +1,4 @@
-use Rattle.std.proofs.Common.{◌≡◌, ◌∙◌, ap, sym, Some, None, List, [], ◌∷◌, ◌++◌, arith, rules}
-use Rattle.std.proofs.lemmas.Grind.{common_steps}
+use Rattle.std.proofs.Common.{◌≡◌, ◌∙◌, ap, sym, Some, None, List, rules}
 use Rattle.tplan.specs.declared.plan.Process.{Process}
 use Rattle.tfiles.specs.Images.{process_in}
 use Rattle.tfiles.proofs.PartLoops.{parts-more, parts-none}
@@ -14,8 +13,6 @@ returns-in_default c =
 pub loop-place-preserved : goal.loop-place-preserved
 loop-place-preserved c =
     let read : process_in c.loop-place.rest.now ≡ Some (c.in-Some.process, c.in-Some.behind.now) = search rules in
-    let pushed : c.push.new.self.items ≡ c.loop-place.processes.items ++ c.in-Some.process ∷ [] =
-    grind (arith, common_steps) in
     parts-more process_in c.loop-place._place c.args.bytes.now c.loop-place.rest.now c.in-Some.behind.now
     c.loop-place.processes.items c.in-Some.process c.loop-place.invariant read
-    ∙ ap (λ (xs : List Process). Some (xs, c.in-Some.behind.now)) (sym pushed)
+    ∙ ap (λ (xs : List Process). Some (xs, c.in-Some.behind.now)) (sym c.in_ok-push.ensures.items)

@@ -6,7 +6,7 @@ use Rattle.tfree.specs.Ends.{in_view, out_view, ins_view, outs_view}
 use Rattle.tfree.specs.Shares.{share}
 use Rattle.tfree.specs.Rings.{part_of}
 use Rattle.tfree.specs.Opened.{first_of, owned_of}
-use Rattle.tfree.specs.Allotments.{IsSeat, AreSeats}
+use Rattle.tfree.specs.Allotments.{IsAllotment, AreAllotments}
 use Rattle.tfree.proofs.Portions.{first_more, owned_is, portion, rest}
 use Rattle.tfree.proofs.SharingOut.{allotments_more}
 use Rattle.tfree.proofs.allotments.allotments_with.Goals as goal
@@ -30,7 +30,7 @@ loop-allotment-preserved c =
     let next : 4 * first_of n w k + 4 * owned_of n w k ≡ 4 * first_of n w (k + 1) = omega (arith, more) in
     let all_ins = ins_view c.args.ins.items in
     let all_outs = outs_view c.args.outs.items in
-    let is : IsSeat net w all_ins all_outs k s =
+    let is : IsAllotment net w all_ins all_outs k s =
     record {
       opened_is = ap net_of_parts c.in_ok-make_allotment.ensures.opened;
       wires = c.in_ok-make_allotment.ensures.wires;
@@ -53,7 +53,7 @@ loop-allotment-preserved c =
           ∙ rest (option_map out_view) outs all_outs (4 * first_of n w k) (4 * c.min-owned.result) inv.outs
           ∙ ap (λ (m : ℕ). drop m all_outs) moved;
       allotments =
-          subst (AreSeats net w all_ins all_outs 0) (sym c.in_ok-push.ensures.items)
+          subst (AreAllotments net w all_ins all_outs 0) (sym c.in_ok-push.ensures.items)
           (allotments_more net w all_ins all_outs 0 k c.loop-allotment.allotments.items s inv.allotments
           (omega (arith, inv.all)) is);
       all = omega (

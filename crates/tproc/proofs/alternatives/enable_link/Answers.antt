@@ -1,5 +1,5 @@
 use Rattle.std.proofs.Common.{rules}
-use Rattle.tproc.proofs.Agreeing.{still_linked}
+use Rattle.tproc.proofs.AgreeingLinks.{still_linked}
 use Rattle.tproc.proofs.alternatives.enable_link.Goals as goal
 
 pub returns-else-end-clause-agrees : goal.returns-else-end-clause-agrees

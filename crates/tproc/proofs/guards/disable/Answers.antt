@@ -1,5 +1,5 @@
 use Rattle.std.proofs.Common.{rules}
-use Rattle.tproc.proofs.Agreeing.{still_linked}
+use Rattle.tproc.proofs.AgreeingLinks.{still_linked}
 use Rattle.tproc.proofs.guards.disable.Goals as goal
 
 pub returns-in-Link-clause-agrees : goal.returns-in-Link-clause-agrees

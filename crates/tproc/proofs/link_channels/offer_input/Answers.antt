@@ -1,5 +1,5 @@
 use Rattle.std.proofs.Common.{rules}
-use Rattle.tproc.proofs.Agreeing.{agrees_input}
+use Rattle.tproc.proofs.AgreeingLinks.{agrees_input}
 use Rattle.tproc.proofs.link_channels.offer_input.Goals as goal
 
 pub returns-clause-agrees : goal.returns-clause-agrees

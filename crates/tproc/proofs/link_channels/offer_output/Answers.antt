@@ -1,5 +1,5 @@
 use Rattle.std.proofs.Common.{rules}
-use Rattle.tproc.proofs.Agreeing.{agrees_output}
+use Rattle.tproc.proofs.AgreeingLinks.{agrees_output}
 use Rattle.tproc.proofs.link_channels.offer_output.Goals as goal
 
 pub returns-clause-agrees : goal.returns-clause-agrees

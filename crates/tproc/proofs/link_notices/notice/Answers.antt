@@ -1,5 +1,5 @@
 use Rattle.std.proofs.Common.{[], rules}
-use Rattle.tproc.proofs.Agreeing.{still_linked}
+use Rattle.tproc.proofs.AgreeingLinks.{still_linked}
 use Rattle.tproc.proofs.link_notices.notice.Goals as goal
 
 pub tell-requires : goal.tell-requires

@@ -3,7 +3,7 @@ use Rattle.tword.specs.Stores.{as_cells}
 use Rattle.tword.proofs.AsCells.{as_cells-replicate}
 use Rattle.tword.proofs.memory.Memory.new.Goals as goal
 
-pub returns-in-Ok-clause-zeros : goal.returns-in-Ok-clause-zeros
-returns-in-Ok-clause-zeros c =
-    ap (λ (bs : List ℕ). as_cells bs) (c.in-Ok.ensures.items_if_clones_equal (λ y e. search rules))
+pub returns-clause-zeros : goal.returns-clause-zeros
+returns-clause-zeros c =
+    ap (λ (bs : List ℕ). as_cells bs) (c.in_ok-vec.ensures.items_if_clones_equal (λ y e. search rules))
     ∙ as_cells-replicate c.args.size 0
