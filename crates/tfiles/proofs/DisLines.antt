@@ -28,7 +28,8 @@ chained_within : (rest : ℤ → Result Instruction DecodeFault) (p : Chained) (
     → EndsWithin had (byte ∷ bytes) i
 chained_within rest (More value) had byte bytes i later h = let k : EndsWithin (suc had) bytes i = later value h in
     (omega (arith, k.0), omega (arith, k.1))
-chained_within rest (Last f value) had byte bytes i later h = listed_within (is_listed f value) f value had byte bytes i h
+chained_within rest (Last f value) had byte bytes i later h =
+    listed_within (is_listed f value) f value had byte bytes i h
 
 fetched_within : (left had : ℕ) (bytes : List ℕ) (value : ℤ) (i : Instruction) → fetch_in left had bytes value ≡ Ok i
     → EndsWithin had bytes i
