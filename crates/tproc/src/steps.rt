@@ -9,6 +9,7 @@ ghost use Rattle.tcpu.specs.Local.{would_jump, StandsWhereLeft, StaysWhereJumped
 ghost use Rattle.tproc.specs.Scheduler.{operation_step, counted, counted_by};
 ghost use Rattle.tproc.specs.Steps.{instruction_step, control_step};
 ghost use Rattle.tproc.specs.Agreement.{Agrees, IsReady, is_over};
+ghost use Rattle.tproc.specs.SavedWords.{AreThreaded};
 ghost use Rattle.tproc.specs.Doing.{Begins, Does, Foresees, jumps_as, moved_on, rest_of, with_registers};
 
 use crate::alternatives::{await_choice, begin_choice, enable_channel, enable_skip, end_choice};
@@ -194,6 +195,7 @@ fn instruction(state: &mut State, claimed: &mut ClaimedMemory, priority: u8) -> 
 #[inline(always)]
 pub fn step(state: &mut State, claimed: &mut ClaimedMemory) -> Result<Ran, Break>
     requires ready { IsReady claimed.old.marks state.old }
+    requires threaded { AreThreaded (record { control = state.old; store = claimed.old.memory }) }
     ensures done { Does (run (control_step state.old.halted state.old) claimed.old.memory claimed.old.marks) state.old
         claimed.old.memory result state.new claimed.new.memory }
     ensures agrees { Agrees claimed.new.marks state.new }
@@ -205,7 +207,7 @@ pub fn step(state: &mut State, claimed: &mut ClaimedMemory) -> Result<Ran, Break
         None => return Ok(dispatch(state, claimed)),
         Some(0) => 0,
         Some(_) => {
-            if let Some(workspace) = state.take_high() {
+            if let Some(workspace) = state.take_high(claimed) {
                 state.suspend();
                 start_queued(state, claimed, workspace, 0);
                 return Ok(Ran::Dispatch);

@@ -1,7 +1,7 @@
 use Rattle.std.proofs.Common.{arith}
 use Rattle.std.proofs.lemmas.List.{take_all}
 use Rattle.tproc.proofs.Entries.{absent_from}
-use Rattle.tproc.proofs.waiting_list.search.Goals as goal
+use Rattle.tproc.proofs.process_table.search.Goals as goal
 
 pub returns-clause-none : goal.returns-clause-none
 returns-clause-none c = λ _.

@@ -2,7 +2,7 @@ use Rattle.std.proofs.Common.{None, refl, arith}
 use Rattle.std.proofs.lemmas.List.{length-set}
 use Rattle.tproc.specs.Entries.{present, IsEntryAt}
 use Rattle.tproc.proofs.Entries.{emptied, emptied_length, once_each, unfound_stays}
-use Rattle.tproc.proofs.waiting_list.WaitingList.remove.Goals as goal
+use Rattle.tproc.proofs.process_table.ProcessTable.remove.Goals as goal
 
 pub overflow_sub-self : goal.overflow_sub-self
 overflow_sub-self c =
