@@ -3,6 +3,8 @@ use Rattle.std.proofs.Common.{◌≡◌, ℕ, zero, suc, ◌+◌, ◌<◌, ◌�
 use Rattle.std.proofs.Common.{get_or, length, Bool, true, false, Some, None, Option, arith, length-append}
 use Rattle.std.specs.Prelude.{◌==◌, filter, find, is_some, not}
 use Rattle.std.specs.List.{list_any}
+use Rattle.std.proofs.Common.{take, drop, append-nil, append_assoc}
+use Rattle.std.proofs.lemmas.List.{drop_all, drop-set-lt, length-set, take_more_set}
 use Rattle.std.proofs.lemmas.List.Elements.{filter_map-append}
 use Rattle.std.proofs.lemmas.Bool.{eqb-true, eq-eqb, ne_eqb, or_right}
 use Rattle.tword.specs.Claims.{Claims, has_saved}
@@ -127,17 +129,6 @@ unsaved_absent c (x ∷ xs) p h u =
         cc
     by rest false k = rw k rest
 
--- the empty entries are closed up
-pub closed_up : (es : List (Option Entry)) → present (filter is_some es) ≡ present es
-closed_up [] = refl
-closed_up (None ∷ es) = closed_up es
-closed_up (Some e ∷ es) = ap (λ (xs : List Entry). e ∷ xs) (closed_up es)
-
-pub closed_up_length : (es : List (Option Entry)) → length (filter is_some es) ≡ length (present es)
-closed_up_length [] = refl
-closed_up_length (None ∷ es) = closed_up_length es
-closed_up_length (Some e ∷ es) = ap suc (closed_up_length es)
-
 -- a process that is not found is not taken out
 pub unfound_stays : (t : List Entry) (p : ℕ) → find (λ e. e.process == p) t ≡ None → t ≡ gone p t
 unfound_stays [] p h = refl
@@ -147,3 +138,64 @@ unfound_stays (x ∷ xs) p h = by (unfound_stays xs p) (x.process == p) refl
         → x ∷ xs ≡ gone p (x ∷ xs)
     by rest true k = let f : ◌≡◌ {A = Option Entry} (Some x) None = rw k at h in cc
     by rest false k = rw k (ap (λ (ys : List Entry). x ∷ ys) (rest (rw k at h)))
+
+-- the empty entries are closed up: those before a place that are kept, and those from another on: together they are all
+pub record AreClosedUpTo (kept place : ℕ) (es first : List (Option Entry)) : Type 0 where
+  pub before : kept ≤ place
+  pub size : length es ≡ length first
+  pub all : present (take kept es) ++ present (drop place es) ≡ present first
+  pub full : length (present (take kept es)) ≡ kept
+
+pub closed_up_none : (es : List (Option Entry)) → AreClosedUpTo 0 0 es es
+closed_up_none es = record { before = omega arith; size = refl; all = refl; full = refl }
+
+-- the entry at a place, and those behind it
+here_on : (es : List (Option Entry)) (place : ℕ) (o : Option Entry) → place < length es → get_or es place None ≡ o
+    → drop place es ≡ o ∷ drop (suc place) es
+here_on [] place o l e = absurd (omega (arith, l))
+here_on (x ∷ xs) zero o l e = rw e refl
+here_on (x ∷ xs) (suc place) o l e = here_on xs place o (omega (arith, l)) e
+
+here : (es : List (Option Entry)) (place : ℕ) (o : Option Entry) → place < length es → get_or es place None ≡ o
+    → drop place es ≡ o ∷ drop (place + 1) es
+here es place o l e = let one : place + 1 ≡ suc place = omega arith in rw one (here_on es place o l e)
+
+-- an empty one is passed over
+pub closed_up_past : (kept place : ℕ) (es first : List (Option Entry)) → AreClosedUpTo kept place es first
+    → place < length es → get_or es place None ≡ None → AreClosedUpTo kept (place + 1) es first
+closed_up_past kept place es first h l e =
+    record {
+      before = omega (arith, h.before);
+      size = h.size;
+      all = ap (λ ds. present (take kept es) ++ present ds) (sym (here es place None l e)) ∙ h.all;
+      full = h.full;
+    }
+
+-- one that is not is moved down
+pub closed_up_one : (kept place : ℕ) (es first : List (Option Entry)) (x : Entry) → AreClosedUpTo kept place es first
+    → place < length es → get_or es place None ≡ Some x
+    → AreClosedUpTo (kept + 1) (place + 1) (set es kept (Some x)) first
+closed_up_one kept place es first x h l e =
+    record {
+      before = omega (arith, h.before);
+      size = length-set es kept (Some x) ∙ h.size;
+      all = rw (moved, rest, pushed (take kept es) x, append_assoc (present (take kept es)) (x ∷ []) _)
+          (ap (λ ds. present (take kept es) ++ present ds) (sym (here es place (Some x) l e)) ∙ h.all);
+      full = rw moved (omega (arith, pushed_length (take kept es) x, h.full));
+    }
+  where
+    moved : take (kept + 1) (set es kept (Some x)) ≡ take kept es ++ Some x ∷ []
+    moved = take_more_set es kept (Some x) (omega (arith, h.before, l))
+
+    rest : drop (place + 1) (set es kept (Some x)) ≡ drop (place + 1) es
+    rest = drop-set-lt (place + 1) es kept (Some x) (omega (arith, h.before))
+
+-- at the end all of them are those that are kept
+pub closed_up_all : (kept place : ℕ) (es first : List (Option Entry)) → AreClosedUpTo kept place es first
+    → length es ≤ place → (present (take kept es) ≡ present first) × (length (present first) ≡ kept)
+closed_up_all kept place es first h l =
+    let none : drop place es ≡ [] = drop_all place es l in
+    let all : present (take kept es) ≡ present first =
+    sym (append-nil (present (take kept es)))
+    ∙ ap (λ ds. present (take kept es) ++ present ds) (sym none) ∙ h.all in
+    (all, (sym (ap (λ (t : List Entry). length t) all) ∙ h.full))

@@ -118,12 +118,9 @@ impl ProcessTable {
         requires { ShareNoWorkspace self.old }
         ensures { self.new ≡ filter (λ e. not (e.process == process)) self.old }
     {
-        match place_of(self.entries.as_slice(), process, self.hints.of(process)) {
-            Some(place) => {
-                self.entries[place] = None;
-                self.count -= 1;
-            }
-            None => {}
+        if let Some(place) = place_of(self.entries.as_slice(), process, self.hints.of(process)) {
+            self.entries[place] = None;
+            self.count -= 1;
         }
     }
 }
@@ -188,7 +185,7 @@ fn make_room(entries: &mut Vec<Option<Entry>>, hints: &mut Hints)
     }
 }
 
-/// Closes the empty entries up.
+/// Closes the empty entries up, and notes where each process comes to be.
 #[inline(never)]
 fn close_up(entries: &mut Vec<Option<Entry>>, hints: &mut Hints)
     requires few { length (present entries.old.items) < 1024 }
@@ -196,15 +193,13 @@ fn close_up(entries: &mut Vec<Option<Entry>>, hints: &mut Hints)
     ensures room { vec_len entries.new < 1024 }
     ensures capacity { vec_capacity entries.new ≡ vec_capacity entries.old }
 {
-    entries.retain(|entry| entry.is_some());
-    note_all(hints, entries.as_slice());
-}
-
-/// Notes where each process is.
-fn note_all(hints: &mut Hints, entries: &[Option<Entry>]) {
-    for (i, entry) in entries.iter().enumerate() {
-        if let Some(entry) = entry {
-            hints.note(entry.process, (i % 65_536) as u16);
+    let mut kept = 0;
+    for place in 0..entries.len() {
+        if let Some(entry) = entries[place] {
+            hints.note(entry.process, (kept % 65_536) as u16);
+            entries[kept] = Some(entry);
+            kept += 1;
         }
     }
+    entries.truncate(kept);
 }

@@ -23,7 +23,7 @@ use crate::scheduler::{
     stop_on_error,
 };
 use crate::state::State;
-use tcode::{Instruction, Operation, decode};
+use tcode::{Function, Instruction, Operation, decode};
 use tcpu::{Next, Registers, local};
 use tword::{Break, Word};
 
@@ -35,13 +35,28 @@ fn fetch(claimed: &ClaimedMemory, iptr: Word) -> Result<Instruction, Break>
     decode(&claimed.memory, &claimed.marks, iptr)
 }
 
-/// Whether the instruction of a step jumps.
-#[inline(never)]
-fn jumps(claimed: &ClaimedMemory, i: &Instruction, registers: &Registers) -> Result<bool, Break>
-    ensures told { result ≡ would_jump (run (effect i.now registers.now) claimed.now.memory claimed.now.marks) }
-    ensures foreseen { Foresees (effect i.now registers.now) claimed.now.marks claimed.now.memory registers.now result }
+/// Whether the instruction of a step jumps. That of a `j` is plain to see.
+#[inline(always)]
+fn jumps(claimed: &ClaimedMemory, i: Instruction, registers: &Registers) -> Result<bool, Break>
+    ensures told { result ≡ would_jump (run (effect i registers.now) claimed.now.memory claimed.now.marks) }
+    ensures foreseen { Foresees (effect i registers.now) claimed.now.marks claimed.now.memory registers.now result }
 {
-    tcpu::jumps(registers, &claimed.memory, &claimed.marks, *i)
+    match i.function {
+        Function::J => Ok(true),
+        _ => jumps_otherwise(claimed, i, registers),
+    }
+}
+
+/// Whether any instruction of a step jumps.
+#[inline(never)]
+fn jumps_otherwise(
+    claimed: &ClaimedMemory,
+    i: Instruction,
+    registers: &Registers,
+) -> Result<bool, Break>
+    ensures { result ≡ would_jump (run (effect i registers.now) claimed.now.memory claimed.now.marks) }
+{
+    tcpu::jumps(registers, &claimed.memory, &claimed.marks, i)
 }
 
 /// The effect of the instruction of a step.
@@ -153,7 +168,7 @@ fn foresee(
         → would_jump (run (effect i.now state.now.registers) claimed.now.memory claimed.now.marks) ≡ Ok true
         → deschedule_break (length claimed.now.memory) claimed.now.marks state.now.registers.wptr ≡ None) }
 {
-    if state.will_be_over(priority) && jumps(claimed, i, &state.registers)? {
+    if state.will_be_over(priority) && jumps(claimed, *i, &state.registers)? {
         claimed.may_deschedule(state.registers.wptr)?;
     }
     Ok(())

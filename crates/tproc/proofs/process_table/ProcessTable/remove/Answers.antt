@@ -30,8 +30,8 @@ returns-in-Some c =
     let apart = rw (← c.self.view_is) at c.requires in
     rw (← c.self.view_is) (emptied es c.in-Some.place c.args.process (once_each (present es) apart) at)
 
-pub returns-in-None : goal.returns-in-None
-returns-in-None c =
+pub returns-in_default : goal.returns-in_default
+returns-in_default c =
     let es = c.self.inside.entries.items in
-    let none = rw c.as_slice.ensures.value at (c.in-None.ensures.none refl) in
+    let none = rw c.as_slice.ensures.value at (c.in_default.ensures.none refl) in
     rw (← c.self.view_is) (unfound_stays (present es) c.args.process none)
