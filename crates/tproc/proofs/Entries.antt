@@ -1,10 +1,10 @@
 -- The entries of the processes that are queued or wait, of which some are empty, and the table of those that are not.
 use Rattle.std.proofs.Common.{◌≡◌, ℕ, zero, suc, ◌+◌, ◌<◌, ◌≤◌, refl, sym, ap, ◌∙◌, List, [], ◌∷◌, ◌++◌, set}
 use Rattle.std.proofs.Common.{get_or, length, Bool, true, false, Some, None, Option, arith, length-append}
-use Rattle.std.specs.Prelude.{◌==◌, filter, find, is_some, not}
+use Rattle.std.specs.Prelude.{◌==◌, filter, find, not}
 use Rattle.std.specs.List.{list_any}
 use Rattle.std.proofs.Common.{take, drop, append-nil, append_assoc}
-use Rattle.std.proofs.lemmas.List.{drop_all, drop-set-lt, length-set, take_more_set}
+use Rattle.std.proofs.lemmas.List.{get_or_read, drop_all, drop-set-lt, length-set, take_more_set}
 use Rattle.std.proofs.lemmas.List.Elements.{filter_map-append}
 use Rattle.std.proofs.lemmas.Bool.{eqb-true, eq-eqb, ne_eqb, or_right}
 use Rattle.tword.specs.Claims.{Claims, has_saved}
@@ -24,6 +24,11 @@ IsOnce table = (w : ℕ) → occurs w (workspaces table) ≤ 1
 
 pub once_each : (table : List Entry) → ShareNoWorkspace table → IsOnce table
 once_each table h w = occurring_once (workspaces table) h w
+
+-- an entry that was read and is that of a process
+pub entry_read : (es : List (Option Entry)) (i p : ℕ) (x : Option Entry) → i < length es → x ≡ get_or es i x
+    → true ≡ is_entry_of p x → IsEntryAt es i p
+entry_read es i p x within e h = (within, sym (rw (get_or_read es i x within e None) at h))
 
 -- the workspace of an entry stands among those of the table
 entry_occurs : (es : List (Option Entry)) (i p : ℕ) → IsEntryAt es i p

@@ -88,16 +88,21 @@ impl ProcessTable {
         requires saved { AreSavedOf claimed.now.marks self.now }
         ensures { result ≡ find (λ e. e.process == process) self.now }
     {
-        let noted = self.hints.of(process);
-        if !is_at(self.entries.as_slice(), noted, process)
-            && !claimed.has_saved(workspace_of(process))
-        {
+        let noted = self.noted(process);
+        if noted < self.entries.len() && is_of(&self.entries[noted], process) {
+            return self.entries[noted];
+        }
+        if !claimed.has_saved(workspace_of(process)) {
             return None;
         }
-        match place_of(self.entries.as_slice(), process, noted) {
-            Some(place) => self.entries[place],
-            None => None,
-        }
+        let place = search(self.entries.as_slice(), process)?;
+        self.entries[place]
+    }
+
+    /// Where a process was put, if it was and no other has taken its slot.
+    #[inline]
+    fn noted(&self, process: Word) -> usize {
+        usize::from(self.hints.of(process))
     }
 
     /// One more process is queued or waits.
@@ -118,7 +123,22 @@ impl ProcessTable {
         requires { ShareNoWorkspace self.old }
         ensures { self.new ≡ filter (λ e. not (e.process == process)) self.old }
     {
-        if let Some(place) = place_of(self.entries.as_slice(), process, self.hints.of(process)) {
+        let noted = self.noted(process);
+        if noted < self.entries.len() && is_of(&self.entries[noted], process) {
+            self.entries[noted] = None;
+            self.count -= 1;
+        } else {
+            self.remove_sought(process);
+        }
+    }
+
+    /// The same, where the process is sought.
+    #[inline(never)]
+    fn remove_sought(&mut self, process: Word)
+        requires { ShareNoWorkspace self.old }
+        ensures { self.new ≡ filter (λ e. not (e.process == process)) self.old }
+    {
+        if let Some(place) = search(self.entries.as_slice(), process) {
             self.entries[place] = None;
             self.count -= 1;
         }
@@ -134,27 +154,6 @@ fn is_of(entry: &Option<Entry>, process: Word) -> bool
         Some(entry) => entry.process == process,
         None => false,
     }
-}
-
-/// Whether the entry of a process is at a place.
-#[inline]
-fn is_at(entries: &[Option<Entry>], place: u16, process: Word) -> bool
-    ensures { result ≡ true → IsEntryAt entries.now place process }
-{
-    let place = usize::from(place);
-    place < entries.len() && is_of(&entries[place], process)
-}
-
-/// Where the entry of a process is, which is first looked for at a place that was noted.
-#[inline]
-fn place_of(entries: &[Option<Entry>], process: Word, noted: u16) -> Option<usize>
-    ensures found { IfSome result (λ i. IsEntryAt entries.now i process) }
-    ensures none { result ≡ None → find (λ e. e.process == process) (present entries.now) ≡ None }
-{
-    if is_at(entries, noted, process) {
-        return Some(usize::from(noted));
-    }
-    search(entries, process)
 }
 
 /// Where the entry of a process is.

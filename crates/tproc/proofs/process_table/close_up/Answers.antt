@@ -1,8 +1,7 @@
-use Rattle.std.proofs.Common.{◌≡◌, ◌∙◌, ◌<◌, ap, refl, sym, subst, length, take, arith, Some, None, get_or}
-use Rattle.std.specs.Prelude.{vec_len}
+use Rattle.std.proofs.Common.{◌≡◌, ◌∙◌, ◌<◌, ap, refl, sym, length, take, arith, None}
 use Rattle.std.proofs.lemmas.List.{get_or_read}
 use Rattle.tproc.specs.Entries.{present}
-use Rattle.tproc.proofs.Entries.{AreClosedUpTo, closed_up_all, closed_up_none, closed_up_one, closed_up_past}
+use Rattle.tproc.proofs.Entries.{closed_up_all, closed_up_none, closed_up_one, closed_up_past}
 use Rattle.tproc.proofs.process_table.close_up.Goals as goal
 use Rattle.tproc.proofs.process_table.close_up.Goals.{in-Some, in_default}
 

@@ -1,4 +1,4 @@
-use Rattle.std.proofs.Common.{◌≡◌, Ok, true}
+use Rattle.std.proofs.Common.{Ok, true}
 use Rattle.tproc.proofs.Quiet.{foresees, jump_jumps}
 use Rattle.tproc.proofs.steps.jumps.Goals as goal
 
