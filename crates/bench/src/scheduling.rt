@@ -1,6 +1,7 @@
 //! Programs on a whole processor.
 
 ghost use Rattle.std.specs.Prelude.{◌≡◌, ◌*◌, IfOk};
+ghost use Rattle.tproc.specs.Opening.{HasNobody};
 
 use crate::answer::{Answer, BEGIN, Fault, checksum, mixed};
 use crate::programs::{IDLE, LOOP, PING, PONG, SIZE, START, WAIT};
@@ -56,7 +57,10 @@ pub enum Job {
 ///
 /// # Errors
 /// `BadAddress` where they do not lie in it.
-fn put(p: &mut Processor, start: u32, bytes: &[u8]) -> Result<(), Break> {
+fn put(p: &mut Processor, start: u32, bytes: &[u8]) -> Result<(), Break>
+    requires { HasNobody p.old }
+    ensures { HasNobody p.new }
+{
     let size = p.bytes().len();
     if start < 0x8000_0000 {
         return Err(Break::BadAddress);
@@ -70,7 +74,10 @@ fn put(p: &mut Processor, start: u32, bytes: &[u8]) -> Result<(), Break> {
 }
 
 /// Puts words into the memory.
-fn put_words(p: &mut Processor, start: u32, words: &[u32]) -> Result<(), Break> {
+fn put_words(p: &mut Processor, start: u32, words: &[u32]) -> Result<(), Break>
+    requires { HasNobody p.old }
+    ensures { HasNobody p.new }
+{
     let mut address = start;
     for word in words {
         put(p, address, &word.to_le_bytes())?;
@@ -80,7 +87,10 @@ fn put_words(p: &mut Processor, start: u32, words: &[u32]) -> Result<(), Break> 
 }
 
 /// Puts all programs into the memory, and the channels.
-fn load(p: &mut Processor) -> Result<(), Break> {
+fn load(p: &mut Processor) -> Result<(), Break>
+    requires { HasNobody p.old }
+    ensures { HasNobody p.new }
+{
     put(p, START, &LOOP)?;
     put(p, IDLE_CODE, &IDLE)?;
     put(p, WAIT_CODE, &WAIT)?;
@@ -113,7 +123,9 @@ fn add_others(p: &mut Processor, others: Others) -> Result<(), Break> {
 }
 
 /// The processes of a job begin.
-fn prepare(p: &mut Processor, job: Job) -> Result<(), Break> {
+fn prepare(p: &mut Processor, job: Job) -> Result<(), Break>
+    requires { HasNobody p.old }
+{
     load(p)?;
     match job {
         Job::Loop(others) => {

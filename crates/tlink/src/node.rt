@@ -56,7 +56,7 @@ impl Node {
     /// # Errors
     /// `NotEnabled` where the machine does not enable the event: nothing has changed. `Frozen` where the event breaks a
     /// rule: the node is frozen with that break, and nothing else has changed.
-    #[inline]
+    #[inline(always)]
     pub fn step(&mut self, event: NodeEvent) -> Result<Emitted, StepFault>
         ensures told { result ≡ node_answered (happens event self.old) }
         ensures left { self.new ≡ node_left_by self.old (happens event self.old) }

@@ -11,6 +11,7 @@ use Rattle.tword.specs.Actions.{Action, answer, breaks, requiring, touching_word
 use Rattle.tword.specs.Actions.{writing_byte, copying, descheduling, reading_saved, setting_saved, unless, run}
 use Rattle.tword.specs.Actions.{run_from, ◌>>=◌, value_of}
 use Rattle.tcode.specs.declared.instruction.Instruction.{Instruction}
+use Rattle.tcode.specs.declared.instruction.Function.TheVariants.{J}
 use Rattle.tcode.specs.Chains.{Chained, More, Last, chained, is_listed, instruction, longest}
 use Rattle.tcode.specs.Decoding.{complete, fetch, decode}
 use Rattle.tcpu.specs.declared.registers.Registers.{Registers}
@@ -18,6 +19,7 @@ use Rattle.tcpu.specs.declared.registers.Next.{Next}
 use Rattle.tcpu.specs.declared.registers.Next.TheVariants.{Jumped}
 use Rattle.tcpu.specs.Outcomes.{Outcome}
 use Rattle.tcpu.specs.Effects.{effect}
+use Rattle.tcpu.specs.Functions.{function_effect}
 use Rattle.tcpu.specs.Local.{outcome_of, would_jump}
 use Rattle.tcpu.proofs.Quiet.{effect_answered, effect_broke, stays_effect}
 use Rattle.tproc.specs.Doing.{Begins, Foresees, jumps_as, onward, with_registers}
@@ -99,3 +101,9 @@ pub told_effect : (i : Instruction) (r r' : Registers) (c : Claims) (s s' : Stor
     → run (effect i r) s c ≡ outcome_of result r' s' → would_jump (run (effect i r) s c) ≡ jumps_as result
 told_effect i r r' c s s' (Ok next) e = rw e refl
 told_effect i r r' c s s' (Err b) e = rw e refl
+
+-- a jump jumps, wherever it leads
+pub jump_jumps : (i : Instruction) (r : Registers) (c : Claims) (s : Store) → i.function ≡ J
+    → Ok true ≡ would_jump (run (effect i r) s c)
+unfolding effect function_effect
+jump_jumps i r c s e = rw e refl

@@ -14,7 +14,7 @@ use Rattle.tword.specs.Words.{most_neg, mem_start, word_below}
 use Rattle.tword.specs.Actions.{is_slot, unmet, or_break}
 use Rattle.tword.proofs.Passing.{Passes, span_break-none, word_break-aligned, word_break-passes, both_none}
 use Rattle.tword.proofs.Passing.{deschedule-words}
-use Rattle.tword.proofs.Descheduling.{inside_within, deschedule-passes, saved_word-clear}
+use Rattle.tword.proofs.Descheduling.{inside_within, inside_within, deschedule-passes, saved_word-clear}
 use Rattle.tword.proofs.Blind.{Clear}
 
 -- a touch beside one more workspace whose words are saved, which is the last that is looked at
@@ -141,3 +141,9 @@ pub all_inside_freed : (n w : ℕ) (c d : Claims) → ((v : ℕ) → has_saved c
     → Frees w c d
     → (v : ℕ) → has_saved d v ≡ true → is_inside n (saved_words v) ≡ true
 all_inside_freed n w c d h f v e = h v (and_parts (not (v == w)) (has_saved c v) (sym (f v) ∙ e)).1
+
+-- and there is an address behind it
+pub behind_saved : (n w : ℕ) → n ≤ 1048576 → w < 4294967296 → is_inside n (saved_words w) ≡ true → w + 1 < 4294967296
+behind_saved n w small b h =
+    let within = inside_within n (saved_words w) (omega arith) h in
+    omega (arith, within.0, within.1, small, b)

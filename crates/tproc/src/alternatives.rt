@@ -7,7 +7,7 @@ ghost use Rattle.tword.specs.Words.{word_below};
 ghost use Rattle.tproc.specs.LinkChannels.{is_link as names_link};
 ghost use Rattle.tproc.specs.Alternatives.{begins_choice, enable as enabling, enable_internal as enabling_internal};
 ghost use Rattle.tproc.specs.Alternatives.{enables_channel, enables_skip, awaits_choice, ends_choice};
-ghost use Rattle.tproc.specs.Agreement.{Agrees, IsOwn, IsPlain, IsReady, StillAgrees};
+ghost use Rattle.tproc.specs.Agreement.{Agrees, IsOwn, IsReady, StillAgrees};
 ghost use Rattle.tproc.specs.Doing.{Begins, Does, with_control};
 ghost use Rattle.tproc.specs.Guards.{kept_after};
 
@@ -46,7 +46,7 @@ fn enable_link(
     channel: Word,
 ) -> Result<(), Break>
     requires link { names_link channel ≡ true }
-    requires plain { IsPlain state.old }
+    requires ready { IsReady claimed.old.marks state.old }
     requires touched { word_break (length claimed.old.memory) claimed.old.marks Writes
         (word_below state.old.registers.wptr 3)
         ≡ None }
@@ -57,7 +57,7 @@ fn enable_link(
     ensures agrees { StillAgrees state.old state.new }
 {
     let link = link_at(Side::Input, channel)?;
-    require(state.is_free(Side::Input, link), Break::LinkBusy)?;
+    require(state.is_free(claimed, Side::Input, link), Break::LinkBusy)?;
     let end = state.link(link);
     if end.noticed {
         claimed.set_word(below(state.registers.wptr, STATE_WORD), Word::new(READY));
@@ -80,7 +80,7 @@ fn enable_internal(
     process: Word,
     channel: Word,
 ) -> Result<(), Break>
-    requires plain { IsPlain state.now }
+    requires ready { IsReady claimed.old.marks state.now }
     requires touched { word_break (length claimed.old.memory) claimed.old.marks Writes
         (word_below state.now.registers.wptr 3)
         ≡ None }
@@ -94,7 +94,7 @@ fn enable_internal(
         claimed.set_word(channel, process);
         return Ok(());
     }
-    match &state.status(found) {
+    match &state.status(claimed, found) {
         ProcessStatus::Waits(Reason::Sends { channel: other, .. }) => {
             require(*other == channel, Break::ChannelMisuse)?;
             claimed.set_word(below(state.registers.wptr, STATE_WORD), Word::new(READY));
@@ -112,7 +112,7 @@ fn enable(
     process: Word,
     channel: Word,
 ) -> Result<(), Break>
-    requires plain { IsPlain state.old }
+    requires ready { IsReady claimed.old.marks state.old }
     requires touched { word_break (length claimed.old.memory) claimed.old.marks Writes
         (word_below state.old.registers.wptr 3)
         ≡ None }
@@ -131,7 +131,7 @@ fn enable(
 
 /// The channel of the guard that `enbc` names is enabled, unless the guard is false.
 fn enable_guard(state: &mut State, claimed: &mut ClaimedMemory, process: Word) -> Result<(), Break>
-    requires plain { IsPlain state.old }
+    requires ready { IsReady claimed.old.marks state.old }
     requires touched { word_break (length claimed.old.memory) claimed.old.marks Writes
         (word_below state.old.registers.wptr 3)
         ≡ None }

@@ -8,6 +8,7 @@ ghost use Rattle.tproc.specs.Queues.{started};
 ghost use Rattle.tproc.specs.Steps.{dispatch as dispatching};
 ghost use Rattle.tproc.specs.Agreement.{Agrees, AgreesWith, IsReady};
 ghost use Rattle.tproc.specs.Doing.{Does};
+ghost use Rattle.tproc.specs.SavedWords.{AreThreaded};
 
 use crate::claimed_memory::ClaimedMemory;
 use crate::offer::Ran;
@@ -33,11 +34,12 @@ pub fn start_queued(state: &mut State, claimed: &mut ClaimedMemory, workspace: W
 /// The first process that may run is dispatched: a high one, the interrupted one, a low one.
 pub fn dispatch(state: &mut State, claimed: &mut ClaimedMemory) -> Ran
     requires ready { IsReady claimed.old.marks state.old }
+    requires threaded { AreThreaded (record { control = state.old; store = claimed.old.memory }) }
     ensures done { Does (run (dispatching state.old.high state.old) claimed.old.memory claimed.old.marks) state.old
         claimed.old.memory (Ok result) state.new claimed.new.memory }
     ensures agrees { Agrees claimed.new.marks state.new }
 {
-    if let Some(workspace) = state.take_high() {
+    if let Some(workspace) = state.take_high(claimed) {
         start_queued(state, claimed, workspace, 0);
         return Ran::Dispatch;
     }
@@ -45,7 +47,7 @@ pub fn dispatch(state: &mut State, claimed: &mut ClaimedMemory) -> Ran
         state.resume(&kept);
         return Ran::Dispatch;
     }
-    if let Some(workspace) = state.take_low() {
+    if let Some(workspace) = state.take_low(claimed) {
         start_queued(state, claimed, workspace, 1);
         return Ran::Dispatch;
     }

@@ -7,7 +7,7 @@ ghost use Rattle.tword.specs.Stores.{with_word};
 ghost use Rattle.tproc.specs.LinkChannels.{is_link as names_link};
 ghost use Rattle.tproc.specs.Alternatives.{disable as disabling, disable_internal as disabling_internal};
 ghost use Rattle.tproc.specs.Alternatives.{disables_channel, disables_skip, selects};
-ghost use Rattle.tproc.specs.Agreement.{Agrees, IsPlain, IsReady, StillAgrees};
+ghost use Rattle.tproc.specs.Agreement.{Agrees, IsReady, StillAgrees};
 ghost use Rattle.tproc.specs.Doing.{Does};
 ghost use Rattle.tproc.specs.Guards.{Disables, MayDisable, control_after, store_after, ready_as};
 
@@ -37,19 +37,18 @@ pub enum Guard {
 /// The guard of a link channel.
 fn link_guard(state: &State, claimed: &ClaimedMemory, channel: Word) -> Result<Guard, Break>
     requires link { names_link channel ≡ true }
-    requires plain { IsPlain state.now }
+    requires ready { IsReady claimed.now.marks state.now }
     ensures done { Disables (disabling channel state.now) claimed.now.marks claimed.now.memory state.now result }
     ensures may { IfOk result (λ g. MayDisable (length claimed.now.memory) claimed.now.marks g) }
 {
-    let _claims = claimed;
     let link = link_at(Side::Input, channel)?;
-    require(state.is_free(Side::Input, link), Break::LinkBusy)?;
+    require(state.is_free(claimed, Side::Input, link), Break::LinkBusy)?;
     Ok(Guard::Link(link, state.link(link).noticed))
 }
 
 /// The guard of an internal channel.
 fn internal_guard(state: &State, claimed: &ClaimedMemory, channel: Word) -> Result<Guard, Break>
-    requires plain { IsPlain state.now }
+    requires ready { IsReady claimed.now.marks state.now }
     ensures done { Disables (disabling_internal channel state.now) claimed.now.marks claimed.now.memory state.now
         result }
     ensures may { IfOk result (λ g. MayDisable (length claimed.now.memory) claimed.now.marks g) }
@@ -58,7 +57,7 @@ fn internal_guard(state: &State, claimed: &ClaimedMemory, channel: Word) -> Resu
     if found.get() == NOT_PROCESS {
         return Ok(Guard::NotReady);
     }
-    match &state.status(found) {
+    match &state.status(claimed, found) {
         ProcessStatus::Waits(Reason::Sends { channel: other, .. }) => {
             require(*other == channel, Break::ChannelMisuse)?;
             Ok(Guard::Ready)
@@ -70,7 +69,7 @@ fn internal_guard(state: &State, claimed: &ClaimedMemory, channel: Word) -> Resu
 
 /// The guard of a channel.
 fn channel_guard(state: &State, claimed: &ClaimedMemory, channel: Word) -> Result<Guard, Break>
-    requires plain { IsPlain state.now }
+    requires ready { IsReady claimed.now.marks state.now }
     ensures done { Disables (disabling channel state.now) claimed.now.marks claimed.now.memory state.now result }
     ensures may { IfOk result (λ g. MayDisable (length claimed.now.memory) claimed.now.marks g) }
 {
@@ -83,7 +82,7 @@ fn channel_guard(state: &State, claimed: &ClaimedMemory, channel: Word) -> Resul
 
 /// The guard that `disc` names: one that is false is not ready.
 fn guard_of(state: &State, claimed: &ClaimedMemory) -> Result<Guard, Break>
-    requires plain { IsPlain state.now }
+    requires ready { IsReady claimed.now.marks state.now }
     ensures done { Disables
         (if state.now.registers.b == 0 then answer (state.now, false) else disabling state.now.registers.c
         state.now) claimed.now.marks claimed.now.memory state.now result }

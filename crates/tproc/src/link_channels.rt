@@ -5,7 +5,7 @@ ghost use Rattle.tword.specs.Actions.{or_break, run_from};
 ghost use Rattle.tproc.specs.Machine.{workspace_of as the_workspace};
 ghost use Rattle.tproc.specs.LinkChannels.{is_link as names_link, link_of, is_free as end_free};
 ghost use Rattle.tproc.specs.LinkChannels.{link_message as messaging, link_end, offered, ran_link, with_link};
-ghost use Rattle.tproc.specs.Agreement.{Agrees, AgreesWith, HasPlace, IsOwn, IsPlain, IsReady};
+ghost use Rattle.tproc.specs.Agreement.{Agrees, AgreesWith, HasPlace, IsOwn, IsReady};
 ghost use Rattle.tproc.specs.Doing.{Does, laid};
 ghost use Rattle.tproc.specs.Requests.{request, end_break, MayLay};
 
@@ -51,9 +51,9 @@ pub fn link_at(side: Side, channel: Word) -> Result<u8, Break>
 
 impl State {
     /// Whether a half of a link is free for the process that runs.
-    pub fn is_free(&self, side: Side, link: u8) -> bool
+    pub fn is_free(&self, claimed: &ClaimedMemory, side: Side, link: u8) -> bool
         requires link { link < 4 }
-        requires plain { IsPlain self.now }
+        requires ready { IsReady claimed.now.marks self.now }
         ensures { result ≡ end_free side (link_end self.now link) self.now }
     {
         let end = self.link(link);
@@ -62,7 +62,7 @@ impl State {
             Side::Input => {
                 end.input.is_none()
                     && match end.remembered {
-                        Some(process) => self.runs(process),
+                        Some(process) => self.runs(claimed, process),
                         None => true,
                     }
             }
@@ -159,7 +159,7 @@ pub fn link_message(
     let own = state.registers.wptr;
     let link = link_at(q.side, q.channel)?;
     require(q.length != 0, Break::ZeroLength)?;
-    require(state.is_free(q.side, link), Break::LinkBusy)?;
+    require(state.is_free(claimed, q.side, link), Break::LinkBusy)?;
     claimed.may_deschedule(own)?;
     may_touch_beside(claimed, own, q)?;
     lay(claimed, own, q.first);

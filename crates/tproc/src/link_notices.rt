@@ -141,7 +141,7 @@ fn tell(state: &mut State, claimed: &mut ClaimedMemory, process: Word)
         (record { control = state.old; store = claimed.old.memory }) }
     ensures agrees { Agrees claimed.new.marks state.new }
 {
-    match &state.status(process) {
+    match &state.status(claimed, process) {
         ProcessStatus::Waits(Reason::Chooses) => {
             tell_waiting(state, claimed, process);
         }

@@ -1,8 +1,8 @@
 //! Where a process stands.
 
-ghost use Rattle.std.specs.Prelude.{◌≡◌, true};
+ghost use Rattle.std.specs.Prelude.{◌≡◌, true, false};
 ghost use Rattle.tproc.specs.ProcessStatus.{is_live, is_queued as the_queued, reason_of as the_reason};
-ghost use Rattle.tproc.specs.ProcessStatus.{status as the_status};
+ghost use Rattle.tproc.specs.ProcessStatus.{not_waiting, status as the_status};
 ghost use Rattle.tproc.specs.LinkChannels.{is_running};
 ghost use Rattle.tproc.specs.Agreement.{IsPlain, IsReady};
 ghost use Rattle.tproc.specs.Requests.{reason_in, IfQueued};
@@ -43,57 +43,20 @@ impl State {
     }
 
     /// What a process waits for.
-    #[tactic(auto, using(crate::proofs::Entries::waiting_apart))]
-    pub fn reason(&self, process: Word) -> Option<Reason>
-        requires { IsPlain self.now }
+    #[inline]
+    pub fn reason(&self, claimed: &ClaimedMemory, process: Word) -> Option<Reason>
+        requires ready { IsReady claimed.now.marks self.now }
         ensures { result ≡ the_reason self.now process }
     {
-        self.waiting.reason(process, &self.hints)
+        self.descheduled.find(claimed, process)?.reason
     }
 
-    /// Whether a process is found in the queue of its priority at the place that was noted.
-    #[inline]
-    fn is_at_its_place(&self, process: Word) -> bool
-        ensures { result ≡ true → the_queued self.now process ≡ true }
+    /// Where a descriptor is found that is neither queued nor waits.
+    fn status_elsewhere(&self, process: Word) -> ProcessStatus
+        requires plain { IsPlain self.now }
+        requires unqueued { the_queued self.now process ≡ false }
+        ensures { result ≡ not_waiting self.now process }
     {
-        let workspace = workspace_of(process);
-        let number = self.hints.of(process);
-        if process.get() % 2 == 0 {
-            self.high.has_at(number, workspace)
-        } else {
-            self.low.has_at(number, workspace)
-        }
-    }
-
-    /// Whether a process is in the queue of its priority.
-    fn is_queued(&self, process: Word) -> bool
-        ensures { result ≡ the_queued self.now process }
-    {
-        let workspace = workspace_of(process);
-        if process.get() % 2 == 0 {
-            self.high.has(workspace)
-        } else {
-            self.low.has(workspace)
-        }
-    }
-
-    /// Where a descriptor is found.
-    #[tactic(auto, using(crate::proofs::Entries::queued_not_waiting))]
-    pub fn status(&self, process: Word) -> ProcessStatus
-        requires { IsPlain self.now }
-        ensures stands { result ≡ the_status self.now process }
-        ensures waits { the_reason self.now process ≡ reason_in result }
-        ensures queued { IfQueued result (the_queued self.now process ≡ true) }
-    {
-        if self.is_at_its_place(process) {
-            return ProcessStatus::Queued;
-        }
-        if let Some(reason) = self.reason(process) {
-            return ProcessStatus::Waits(reason);
-        }
-        if self.is_queued(process) {
-            return ProcessStatus::Queued;
-        }
         if let Some(priority) = self.current
             && self.registers.wptr.get() + u32::from(priority) == process.get()
         {
@@ -106,12 +69,28 @@ impl State {
         }
     }
 
+    /// Where a descriptor is found.
+    pub fn status(&self, claimed: &ClaimedMemory, process: Word) -> ProcessStatus
+        requires ready { IsReady claimed.now.marks self.now }
+        ensures stands { result ≡ the_status self.now process }
+        ensures waits { the_reason self.now process ≡ reason_in result }
+        ensures queued { IfQueued result (the_queued self.now process ≡ true) }
+    {
+        match self.descheduled.find(claimed, process) {
+            Some(entry) => match entry.reason {
+                Some(reason) => ProcessStatus::Waits(reason),
+                None => ProcessStatus::Queued,
+            },
+            None => self.status_elsewhere(process),
+        }
+    }
+
     /// Whether a descriptor is found as the process that runs.
-    pub fn runs(&self, process: Word) -> bool
-        requires { IsPlain self.now }
+    pub fn runs(&self, claimed: &ClaimedMemory, process: Word) -> bool
+        requires ready { IsReady claimed.now.marks self.now }
         ensures { result ≡ is_running (the_status self.now process) }
     {
-        match &self.status(process) {
+        match &self.status(claimed, process) {
             ProcessStatus::Runs => true,
             _ => false,
         }

@@ -11,6 +11,7 @@ ghost use Rattle.tproc.specs.Queues.{appended, waiting_for, without_waiter};
 ghost use Rattle.tproc.specs.Agreement.{Agrees, AgreesWith, AreSaved, HasPlace, IsPlain, IsReady, Leaves, Settles};
 ghost use Rattle.tproc.specs.Agreement.{StillAgrees, StillSaved, Unsettles, descheduled_count};
 ghost use Rattle.tproc.specs.Doing.{DoesAction};
+ghost use Rattle.tproc.specs.SavedWords.{IsThreaded};
 
 use crate::claimed_memory::ClaimedMemory;
 use crate::state::{State, workspace_of};
@@ -40,59 +41,54 @@ impl State {
     pub fn has_room(&self) -> bool
         ensures { result ≡ has_room self.now }
     {
-        let queued = self.high.len() + self.low.len() + self.waiting.len();
-        let unqueued = usize::from(self.current.is_some())
-            + usize::from(self.interrupted.is_some());
-        queued + unqueued < MOST_PROCESSES
+        let others = usize::from(self.current.is_some()) + usize::from(self.interrupted.is_some());
+        self.descheduled.len() + others < MOST_PROCESSES
     }
 
-    /// Puts a workspace at the back of a queue.
-    #[tactic(auto, using(crate::proofs::Agreeing::settles_appended))]
-    fn append(&mut self, workspace: Word, priority: u8)
+    /// Puts a process at the back of the queue of its priority.
+    #[inline]
+    fn append(&mut self, process: Word)
         requires place { HasPlace self.old }
-        ensures done { self.new ≡ appended workspace priority self.old }
-        ensures settles { Settles workspace self.old self.new }
+        ensures done { self.new ≡ appended (the_workspace process) (priority_of process) self.old }
+        ensures settles { Settles (the_workspace process) self.old self.new }
         ensures more { descheduled_count self.new ≡ descheduled_count self.old + 1 }
     {
-        let number = if priority == 0 {
-            self.high.push(workspace)
-        } else {
-            self.low.push(workspace)
-        };
-        self.hints.note(workspace, number);
+        self.descheduled.queue(process);
     }
 
     /// The first of the high queue leaves it.
-    pub fn take_high(&mut self) -> Option<Word>
+    #[inline]
+    pub fn take_high(&mut self, claimed: &ClaimedMemory) -> Option<Word>
         requires plain { IsPlain self.old }
+        requires saved { AreSaved claimed.now.marks self.old }
+        requires threaded { IsThreaded claimed.now.memory self.old.high }
         ensures first { self.old.high ≡ option_to_list result ++ self.new.high }
         ensures none { IfNone result ((self.old.high ≡ []) × (self.new ≡ self.old)) }
         ensures leaves { IfSome result (λ w. Leaves w self.old self.new) }
         ensures rest { self.new ≡ record self.old { high = self.new.high } }
     {
-        self.high.pop()
+        self.descheduled.take_high(claimed)
     }
 
     /// The first of the low queue leaves it.
-    pub fn take_low(&mut self) -> Option<Word>
+    #[inline]
+    pub fn take_low(&mut self, claimed: &ClaimedMemory) -> Option<Word>
         requires plain { IsPlain self.old }
+        requires saved { AreSaved claimed.now.marks self.old }
+        requires threaded { IsThreaded claimed.now.memory self.old.low }
         ensures first { self.old.low ≡ option_to_list result ++ self.new.low }
         ensures none { IfNone result ((self.old.low ≡ []) × (self.new ≡ self.old)) }
         ensures leaves { IfSome result (λ w. Leaves w self.old self.new) }
         ensures rest { self.new ≡ record self.old { low = self.new.low } }
     {
-        self.low.pop()
+        self.descheduled.take_low(claimed)
     }
 
     /// The last of the queue of a process.
     fn last(&self, process: Word) -> Option<Word>
         ensures { result ≡ last_of (queue self.now (priority_of process)) }
     {
-        if process.get() % 2 == 0 {
-            self.high.last()
-        } else {
-            self.low.last()
-        }
+        self.descheduled.last(process)
     }
 
     /// The last of the queue of a process, whose words are saved.
@@ -112,12 +108,11 @@ impl State {
         ensures done { self.new ≡ waiting_for process reason self.old }
         ensures settles { Settles (the_workspace process) self.old self.new }
     {
-        self.waiting.push(process, reason, &mut self.hints);
+        self.descheduled.wait(process, reason);
         self.rest();
     }
 
     /// A process waits no longer.
-    #[tactic(auto, using(crate::proofs::Entries::waiting_apart))]
     fn forget(&mut self, process: Word)
         requires plain { IsPlain self.old }
         requires waits { IsSome (reason_of self.old process) }
@@ -127,7 +122,7 @@ impl State {
         ensures fewer { descheduled_count self.new + 1 ≡ descheduled_count self.old }
         ensures saved { StillSaved self.old self.new }
     {
-        self.waiting.remove(process, &self.hints);
+        self.descheduled.forget(process);
     }
 }
 
@@ -167,11 +162,10 @@ pub fn enqueue(state: &mut State, claimed: &mut ClaimedMemory, process: Word)
     ensures claims { claimed.new.marks ≡ claimed.old.marks }
     ensures size { length claimed.new.memory ≡ length claimed.old.memory }
 {
-    let workspace = workspace_of(process);
     if let Some(last) = state.last_saved(claimed, process) {
-        claimed.set_saved_word(last, LINK_WORD, workspace);
+        claimed.set_saved_word(last, LINK_WORD, workspace_of(process));
     }
-    state.append(workspace, if process.get() % 2 == 0 { 0 } else { 1 });
+    state.append(process);
 }
 
 /// A process whose words are saved waits from now on, and none runs.

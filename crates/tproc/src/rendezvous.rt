@@ -72,7 +72,7 @@ fn receive(
         state.old claimed.old.memory result state.new claimed.new.memory }
     ensures agrees { Agrees claimed.new.marks state.new }
 {
-    match &state.reason(other) {
+    match &state.reason(claimed, other) {
         Some(
             Reason::Sends {
                 channel,
@@ -299,7 +299,7 @@ fn send(
         state.old claimed.old.memory result state.new claimed.new.memory }
     ensures agrees { Agrees claimed.new.marks state.new }
 {
-    match &state.status(other) {
+    match &state.status(claimed, other) {
         ProcessStatus::Waits(
             Reason::Receives {
                 channel,

@@ -179,7 +179,7 @@ pub fn jumped(state: &mut State, claimed: &mut ClaimedMemory, priority: u8)
         return;
     }
     if state.timeslice <= state.count {
-        if state.low.is_empty() {
+        if state.descheduled.is_low_empty() {
             state.count = 0;
         } else {
             yield_now(state, claimed);

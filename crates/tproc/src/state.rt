@@ -9,11 +9,9 @@ ghost use Rattle.tproc.specs.Opening.{no_processes};
 ghost use Rattle.tproc.specs.Resting.{is_idle};
 ghost use Rattle.tproc.specs.Agreement.{IsPlain, IsOwn, StillAgrees, is_over};
 
-use crate::hints::Hints;
+use crate::descheduled::Descheduled;
 use crate::offer::Offer;
-use crate::run_queue::RunQueue;
 use crate::waiter::{LinkEnd, Suspended};
-use crate::waiting_list::WaitingList;
 use std::alloc::{AllocError, Global};
 use std::marker::Model;
 use tcode::Operation;
@@ -29,11 +27,8 @@ pub struct State {
     pub current: Option<u8>,
     pub count: u32,
     pub interrupted: Option<Suspended>,
-    pub high: RunQueue,
-    pub low: RunQueue,
-    pub waiting: WaitingList,
-    /// Where each process that is queued or waits was put.
-    pub hints: Hints,
+    /// The processes that are queued or wait.
+    pub descheduled: Descheduled,
     pub links: [LinkEnd; 4],
     pub timeslice: u32,
     pub halted: bool,
@@ -49,9 +44,9 @@ impl Model for State {
       current = s.current;
       count = s.count;
       interrupted = s.interrupted;
-      high = s.high;
-      low = s.low;
-      waiting = s.waiting;
+      high = s.descheduled.high;
+      low = s.descheduled.low;
+      waiting = s.descheduled.waiting;
       links = s.links;
       timeslice = s.timeslice;
       halted = s.halted;
@@ -83,10 +78,7 @@ impl State {
         ensures { IfOk result (λ s. s ≡ no_processes timeslice) }
     {
         let zero = Word::new(0);
-        let high = RunQueue::new(alloc)?;
-        let low = RunQueue::new(alloc)?;
-        let waiting = WaitingList::new(alloc)?;
-        let hints = Hints::new(alloc)?;
+        let descheduled = Descheduled::new(alloc)?;
         Ok(State {
             registers: Registers {
                 a: zero,
@@ -100,10 +92,7 @@ impl State {
             current: None,
             count: 0,
             interrupted: None,
-            high,
-            low,
-            waiting,
-            hints,
+            descheduled,
             links: [QUIET; 4],
             timeslice,
             halted: false,
@@ -117,10 +106,7 @@ impl State {
     pub fn try_copy(&self, alloc: Global) -> Result<State, AllocError>
         ensures { IfOk result (λ s. s ≡ self.now) }
     {
-        let high = self.high.try_copy(alloc)?;
-        let low = self.low.try_copy(alloc)?;
-        let waiting = self.waiting.try_copy(alloc)?;
-        let hints = self.hints.try_copy(alloc)?;
+        let descheduled = self.descheduled.try_copy(alloc)?;
         let mut links = [QUIET; 4];
         links.copy_from_slice(&self.links);
         Ok(State {
@@ -128,10 +114,7 @@ impl State {
             current: self.current,
             count: self.count,
             interrupted: self.interrupted,
-            high,
-            low,
-            waiting,
-            hints,
+            descheduled,
             links,
             timeslice: self.timeslice,
             halted: self.halted,
@@ -274,9 +257,9 @@ impl State {
         ensures { result ≡ not (self.now.halted || is_idle self.now) }
     {
         let is_idle = self.current.is_none()
-            && self.high.is_empty()
+            && self.descheduled.is_high_empty()
             && self.interrupted.is_none()
-            && self.low.is_empty();
+            && self.descheduled.is_low_empty();
         !(self.halted || is_idle)
     }
 
@@ -315,6 +298,6 @@ impl State {
     {
         priority != 0
             && self.timeslice <= u32::min(self.count.saturating_add(1), self.timeslice)
-            && !self.low.is_empty()
+            && !self.descheduled.is_low_empty()
     }
 }

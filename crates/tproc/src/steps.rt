@@ -9,6 +9,7 @@ ghost use Rattle.tcpu.specs.Local.{would_jump, StandsWhereLeft, StaysWhereJumped
 ghost use Rattle.tproc.specs.Scheduler.{operation_step, counted, counted_by};
 ghost use Rattle.tproc.specs.Steps.{instruction_step, control_step};
 ghost use Rattle.tproc.specs.Agreement.{Agrees, IsReady, is_over};
+ghost use Rattle.tproc.specs.SavedWords.{AreThreaded};
 ghost use Rattle.tproc.specs.Doing.{Begins, Does, Foresees, jumps_as, moved_on, rest_of, with_registers};
 
 use crate::alternatives::{await_choice, begin_choice, enable_channel, enable_skip, end_choice};
@@ -22,7 +23,7 @@ use crate::scheduler::{
     stop_on_error,
 };
 use crate::state::State;
-use tcode::{Instruction, Operation, decode};
+use tcode::{Function, Instruction, Operation, decode};
 use tcpu::{Next, Registers, local};
 use tword::{Break, Word};
 
@@ -34,13 +35,28 @@ fn fetch(claimed: &ClaimedMemory, iptr: Word) -> Result<Instruction, Break>
     decode(&claimed.memory, &claimed.marks, iptr)
 }
 
-/// Whether the instruction of a step jumps.
-#[inline(never)]
-fn jumps(claimed: &ClaimedMemory, i: &Instruction, registers: &Registers) -> Result<bool, Break>
-    ensures told { result ≡ would_jump (run (effect i.now registers.now) claimed.now.memory claimed.now.marks) }
-    ensures foreseen { Foresees (effect i.now registers.now) claimed.now.marks claimed.now.memory registers.now result }
+/// Whether the instruction of a step jumps. That of a `j` is plain to see.
+#[inline(always)]
+fn jumps(claimed: &ClaimedMemory, i: Instruction, registers: &Registers) -> Result<bool, Break>
+    ensures told { result ≡ would_jump (run (effect i registers.now) claimed.now.memory claimed.now.marks) }
+    ensures foreseen { Foresees (effect i registers.now) claimed.now.marks claimed.now.memory registers.now result }
 {
-    tcpu::jumps(registers, &claimed.memory, &claimed.marks, *i)
+    match i.function {
+        Function::J => Ok(true),
+        _ => jumps_otherwise(claimed, i, registers),
+    }
+}
+
+/// Whether any instruction of a step jumps.
+#[inline(never)]
+fn jumps_otherwise(
+    claimed: &ClaimedMemory,
+    i: Instruction,
+    registers: &Registers,
+) -> Result<bool, Break>
+    ensures { result ≡ would_jump (run (effect i registers.now) claimed.now.memory claimed.now.marks) }
+{
+    tcpu::jumps(registers, &claimed.memory, &claimed.marks, i)
 }
 
 /// The effect of the instruction of a step.
@@ -152,7 +168,7 @@ fn foresee(
         → would_jump (run (effect i.now state.now.registers) claimed.now.memory claimed.now.marks) ≡ Ok true
         → deschedule_break (length claimed.now.memory) claimed.now.marks state.now.registers.wptr ≡ None) }
 {
-    if state.will_be_over(priority) && jumps(claimed, i, &state.registers)? {
+    if state.will_be_over(priority) && jumps(claimed, *i, &state.registers)? {
         claimed.may_deschedule(state.registers.wptr)?;
     }
     Ok(())
@@ -194,6 +210,7 @@ fn instruction(state: &mut State, claimed: &mut ClaimedMemory, priority: u8) -> 
 #[inline(always)]
 pub fn step(state: &mut State, claimed: &mut ClaimedMemory) -> Result<Ran, Break>
     requires ready { IsReady claimed.old.marks state.old }
+    requires threaded { AreThreaded (record { control = state.old; store = claimed.old.memory }) }
     ensures done { Does (run (control_step state.old.halted state.old) claimed.old.memory claimed.old.marks) state.old
         claimed.old.memory result state.new claimed.new.memory }
     ensures agrees { Agrees claimed.new.marks state.new }
@@ -205,7 +222,7 @@ pub fn step(state: &mut State, claimed: &mut ClaimedMemory) -> Result<Ran, Break
         None => return Ok(dispatch(state, claimed)),
         Some(0) => 0,
         Some(_) => {
-            if let Some(workspace) = state.take_high() {
+            if let Some(workspace) = state.take_high(claimed) {
                 state.suspend();
                 start_queued(state, claimed, workspace, 0);
                 return Ok(Ran::Dispatch);

@@ -35,6 +35,15 @@ pub struct Waiter {
     pub reason: Reason,
 }
 
+/// A process that is queued or waits.
+#[derive(Clone, Copy, Debug, PartialEq, Eq)]
+pub struct Entry {
+    /// Its descriptor.
+    pub process: Word,
+    /// What it waits for, unless it is queued.
+    pub reason: Option<Reason>,
+}
+
 /// One link of a processor.
 #[derive(Clone, Copy, Debug, PartialEq, Eq)]
 pub struct LinkEnd {

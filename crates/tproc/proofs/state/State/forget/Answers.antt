@@ -5,7 +5,7 @@ use Rattle.tproc.proofs.Places.{place_released, taken_released}
 use Rattle.tproc.proofs.state.State.forget.Goals as goal
 
 pub returns-clause-done : goal.returns-clause-done
-returns-clause-done c = rw (← c.self.view_is, c.remove.ensures) refl
+returns-clause-done c = rw (← c.self.view_is, c.forget.ensures) refl
 
 pub returns-clause-place : goal.returns-clause-place
 returns-clause-place c =
