@@ -73,17 +73,15 @@ pub word_inside : (n a : ℕ) (c : Claims) → word_break n c Writes a ≡ None 
 word_inside n a c h = (word_break-passes n c Writes a h).inside
 
 -- and so are the bytes that may be copied
-pub source_inside : (n : ℕ) (c : Claims) (from to count : ℕ) → copy_break n c from to count ≡ None
+pub source_inside : (n : ℕ) (c : Claims) (from count : ℕ)
+    → span_break n c Reads (record { start = from; size = count }) ≡ None
     → is_inside n (record { start = from; size = count }) ≡ true
-unfolding copy_break
-source_inside n c from to count h =
-    (span_break-none n c Reads (record { start = from; size = count }) (both_none _ _ h).0).inside
+source_inside n c from count h = (span_break-none n c Reads (record { start = from; size = count }) h).inside
 
-pub target_inside : (n : ℕ) (c : Claims) (from to count : ℕ) → copy_break n c from to count ≡ None
+pub target_inside : (n : ℕ) (c : Claims) (to count : ℕ)
+    → span_break n c Writes (record { start = to; size = count }) ≡ None
     → is_inside n (record { start = to; size = count }) ≡ true
-unfolding copy_break
-target_inside n c from to count h =
-    (span_break-none n c Writes (record { start = to; size = count }) (both_none _ _ h).1).inside
+target_inside n c to count h = (span_break-none n c Writes (record { start = to; size = count }) h).inside
 
 -- what lies in the memory is inside
 pub inside_from : (n : ℕ) (span : Span) → most_neg ≤ span.start → span.start - most_neg + span.size ≤ n
@@ -147,3 +145,10 @@ pub behind_saved : (n w : ℕ) → n ≤ 1048576 → w < 4294967296 → is_insid
 behind_saved n w small b h =
     let within = inside_within n (saved_words w) (omega arith) h in
     omega (arith, within.0, within.1, small, b)
+
+-- bytes that may be read may be copied to where they may be written
+pub copy_free : (n from to count : ℕ) (c : Claims)
+    → span_break n c Reads (record { start = from; size = count }) ≡ None
+    → span_break n c Writes (record { start = to; size = count }) ≡ None → copy_break n c from to count ≡ None
+unfolding copy_break
+copy_free n from to count c r w = rw (r, w) refl

@@ -7,7 +7,7 @@ ghost use Rattle.tword.specs.Accesses.{without_output, without_input};
 ghost use Rattle.tword.specs.declared.breaks.Break.TheVariants.{SavedWord};
 ghost use Rattle.tword.specs.Stores.{word_at, with_word, with_cells, cells, as_cells, byte_at};
 ghost use Rattle.tword.specs.Claims.{saving, has_saved, saved_words, overlap};
-ghost use Rattle.tword.specs.Touches.{Reads, Writes, word_break, copy_break, deschedule_break};
+ghost use Rattle.tword.specs.Touches.{Reads, Writes, span_break, word_break, copy_break, deschedule_break};
 ghost use Rattle.tword.specs.Touches.{is_inside, byte_span};
 ghost use Rattle.tword.specs.Words.{word_below};
 ghost use Rattle.tword.specs.Actions.{or_break, is_slot, unmet};
@@ -173,17 +173,15 @@ impl ClaimedMemory {
         keep_clear(workspace, start, size)
     }
 
-    /// Whether some bytes may be copied.
-    pub fn may_copy(&self, from: Word, to: Word, count: u32) -> Result<(), Break>
-        ensures { result ≡ or_break (copy_break (length self.now.memory) self.now.marks from to count) tt }
-    {
-        self.memory.may_copy(&self.marks, from, to, count)
-    }
-
-    /// Copies bytes that may be.
-    #[tactic(auto, using(crate::proofs::Touching::source_inside, crate::proofs::Touching::target_inside))]
+    /// Copies bytes that may be read to where they may be written.
+    #[tactic(auto, using(crate::proofs::Touching::source_inside, crate::proofs::Touching::target_inside,
+        crate::proofs::Touching::copy_free))]
     pub fn copy(&mut self, from: Word, to: Word, count: u32)
-        requires { copy_break (length self.old.memory) self.old.marks from to count ≡ None }
+        requires reads { span_break (length self.old.memory) self.old.marks Reads
+            (record { start = from; size = count }) ≡ None }
+        requires writes { span_break (length self.old.memory) self.old.marks Writes
+            (record { start = to; size = count }) ≡ None }
+        ensures free { copy_break (length self.old.memory) self.old.marks from to count ≡ None }
         ensures cells { self.new.memory ≡ with_cells self.old.memory to (cells self.old.memory from count) }
         ensures size { length self.new.memory ≡ length self.old.memory }
         ensures claims { self.new.marks ≡ self.old.marks }

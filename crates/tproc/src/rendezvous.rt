@@ -3,7 +3,7 @@
 ghost use Rattle.std.specs.Prelude.{◌≡◌, ◌∷◌, [], Ok, Some, None, true, false, IfErr, IsSome, OnOk, length};
 ghost use Rattle.tword.specs.Claims.{has_saved, saving};
 ghost use Rattle.tword.specs.Actions.{answer, run_from};
-ghost use Rattle.tword.specs.Touches.{Writes, word_break};
+ghost use Rattle.tword.specs.Touches.{Reads, Writes, span_break, word_break};
 ghost use Rattle.tword.specs.Words.{word_below};
 ghost use Rattle.tproc.specs.Machine.{workspace_of as the_workspace};
 ghost use Rattle.tproc.specs.declared.process_status.ProcessStatus.TheVariants.{Queued, Interrupted};
@@ -30,7 +30,8 @@ use crate::waiter::Reason;
 use crate::workspace::below;
 use tword::{Break, Word};
 
-/// The whole message is copied and the other process is queued; then the registers of the request go on.
+/// The whole message, which may be read and written, is copied and the other process is queued; then the registers of
+/// the request go on.
 fn exchange(
     state: &mut State,
     claimed: &mut ClaimedMemory,
@@ -41,6 +42,10 @@ fn exchange(
 ) -> Result<Ran, Break>
     requires ready { IsReady claimed.old.marks state.old }
     requires waits { IsSome (reason_of state.old other) }
+    requires reads { span_break (length claimed.old.memory) claimed.old.marks Reads
+        (record { start = from; size = q.now.length }) ≡ None }
+    requires writes { span_break (length claimed.old.memory) claimed.old.marks Writes
+        (record { start = to; size = q.now.length }) ≡ None }
     requires free { MayLay (length claimed.old.memory) claimed.old.marks state.old.registers.wptr q.now.first }
     ensures done { Does (run_from (exchanged q.now.after (request q.now) other from to state.old) claimed.old.memory
         claimed.old.marks (laid q.now.first state.old.registers.wptr claimed.old.memory)) state.old
@@ -48,7 +53,6 @@ fn exchange(
     ensures agrees { Agrees claimed.new.marks state.new }
 {
     claimed.may_write_word(q.channel)?;
-    claimed.may_copy(from, to, q.length)?;
     lay(claimed, state.registers.wptr, q.first);
     claimed.set_word(q.channel, Word::new(NOT_PROCESS));
     claimed.copy(from, to, q.length);

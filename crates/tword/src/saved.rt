@@ -17,7 +17,8 @@ use std::marker::Model;
 /// How many slots the words of the address space share: a memory of 256 kilobytes has one for each of its words.
 const SLOTS: usize = 65_536;
 
-/// The most words of a touch that are looked up one by one.
+/// The most words of a touch that are looked up one by one. Where fewer workspaces are saved than an eighth of them,
+/// these are gone over instead.
 const FEW: u64 = 256;
 
 /// The workspaces of the processes that are queued or wait. Contracts see them as a list, the one that came last at
@@ -113,7 +114,11 @@ impl Saved {
         let (start, end) = span.bounds();
         let first = start / 4;
         let behind = (end + 3) / 4;
-        if behind - first <= FEW && are_empty(self.counts.as_slice(), first, behind) {
+        let words = behind - first;
+        if words <= FEW
+            && words / 8 <= self.workspaces.len() as u64
+            && are_empty(self.counts.as_slice(), first, behind)
+        {
             return false;
         }
         any_overlaps(self.workspaces.as_slice(), &span)
