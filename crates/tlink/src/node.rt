@@ -3,9 +3,10 @@
 ghost use Rattle.std.specs.Prelude.{◌≡◌, IfOk};
 ghost use Rattle.tlink.specs.Node.{NodeState, fresh_node};
 ghost use Rattle.tlink.specs.Events.{happens, node_answered, node_left_by, is_node_enabled};
+ghost use Rattle.tlink.specs.Runs.{runs};
 ghost use Rattle.tlink.specs.Whole.{HasNoticedNothing, IsWhole};
 
-use crate::event::{Emitted, NodeEvent, StepFault};
+use crate::event::{Emitted, NodeEvent, Runs, StepFault};
 use crate::links::Links;
 use std::alloc::{AllocError, Global};
 use std::marker::Model;
@@ -62,6 +63,14 @@ impl Node {
         ensures left { self.new ≡ node_left_by self.old (happens event self.old) }
     {
         self.links.step(event)
+    }
+
+    /// Does at most so many runs, one after another, until one tells something, is not enabled or freezes the node: how
+    /// many were done before that one, and what it answered.
+    pub fn run_many(&mut self, most: u32) -> Runs
+        ensures { (self.new, result) ≡ runs most self.old }
+    {
+        self.links.run_many(most)
     }
 
     /// Whether `step` would do the event, a freezing one too.

@@ -174,8 +174,7 @@ impl ClaimedMemory {
     }
 
     /// Copies bytes that may be read to where they may be written.
-    #[tactic(auto, using(crate::proofs::Touching::source_inside, crate::proofs::Touching::target_inside,
-        crate::proofs::Touching::copy_free))]
+    #[tactic(auto, using(crate::proofs::Touching::source_inside, crate::proofs::Touching::target_inside, crate::proofs::Touching::copy_free))]
     pub fn copy(&mut self, from: Word, to: Word, count: u32)
         requires reads { span_break (length self.old.memory) self.old.marks Reads
             (record { start = from; size = count }) ≡ None }

@@ -8,6 +8,7 @@ ghost use Rattle.tproc.specs.Scheduler.{counted, counted_by};
 ghost use Rattle.tproc.specs.Opening.{no_processes};
 ghost use Rattle.tproc.specs.Resting.{is_idle};
 ghost use Rattle.tproc.specs.Agreement.{IsPlain, IsOwn, StillAgrees, is_over};
+ghost use Rattle.tproc.specs.Runs.{RunsAlone};
 
 use crate::descheduled::Descheduled;
 use crate::offer::Offer;
@@ -278,6 +279,42 @@ impl State {
     {
         if priority != 0 {
             self.count = u32::min(self.count.saturating_add(1), self.timeslice);
+        }
+    }
+
+    /// The count of a process whose timeslice goes on rises, if it is low.
+    #[inline(always)]
+    pub fn count_alone(&mut self, priority: u8)
+        requires { RunsAlone priority 1 self.old }
+        ensures { self.new ≡ counted priority self.old }
+    {
+        if priority != 0 {
+            prove!(self.count < self.timeslice);
+            self.count += 1;
+        }
+    }
+
+    /// The priority of the process that runs, and how many instructions it does before another may have a say: none
+    /// where no process runs.
+    #[inline]
+    pub fn stretch(&self) -> (u8, u32)
+        requires plain { IsPlain self.now }
+        ensures { 0 < result.1 → RunsAlone result.0 result.1 self.now }
+    {
+        if self.halted {
+            return (0, 0);
+        }
+        match self.current {
+            None => (0, 0),
+            Some(0) => (0, u32::MAX),
+            Some(_) => {
+                let left = self.timeslice.saturating_sub(self.count).saturating_sub(1);
+                if self.descheduled.is_high_empty() {
+                    (1, left)
+                } else {
+                    (1, 0)
+                }
+            }
         }
     }
 

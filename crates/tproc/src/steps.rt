@@ -1,6 +1,6 @@
 //! One step of a processor.
 
-ghost use Rattle.std.specs.Prelude.{◌≡◌, ◌<◌, [], true, Some, None, Ok, IfOk, IfErr, OnErr, Err, length};
+ghost use Rattle.std.specs.Prelude.{◌≡◌, ◌<◌, [], true, Some, None, Ok, IfOk, IfErr, IfNone, OnErr, Err, length};
 ghost use Rattle.tword.specs.Actions.{run};
 ghost use Rattle.tword.specs.Touches.{deschedule_break};
 ghost use Rattle.tcode.specs.Decoding.{decode as decoding};
@@ -9,6 +9,7 @@ ghost use Rattle.tcpu.specs.Local.{would_jump, StandsWhereLeft, StaysWhereJumped
 ghost use Rattle.tproc.specs.Scheduler.{operation_step, counted, counted_by};
 ghost use Rattle.tproc.specs.Steps.{instruction_step, control_step};
 ghost use Rattle.tproc.specs.Agreement.{Agrees, IsReady, is_over};
+ghost use Rattle.tproc.specs.Runs.{RunsAlone, answer_of};
 ghost use Rattle.tproc.specs.SavedWords.{AreThreaded};
 ghost use Rattle.tproc.specs.Doing.{Begins, Does, Foresees, jumps_as, moved_on, rest_of, with_registers};
 
@@ -202,6 +203,42 @@ fn instruction(state: &mut State, claimed: &mut ClaimedMemory, priority: u8) -> 
             state.halted = true;
             Ok(Ran::Halting)
         }
+    }
+}
+
+/// One instruction of the current process, while no other has a say. `None` where the process goes on, and nothing is
+/// changed but its registers, its count and the memory; else the answer of the step.
+#[tactic(auto, unfolding(crate::specs::Steps::instruction_step))]
+#[inline(always)]
+pub fn instruction_alone(
+    state: &mut State,
+    claimed: &mut ClaimedMemory,
+    priority: u8,
+) -> Option<Result<Ran, Break>>
+    requires alone { RunsAlone priority 1 state.old }
+    requires ready { IsReady claimed.old.marks state.old }
+    ensures done { Does (run (instruction_step priority state.old) claimed.old.memory claimed.old.marks) state.old
+        claimed.old.memory (answer_of result) state.new claimed.new.memory }
+    ensures agrees { Agrees claimed.new.marks state.new }
+    ensures goes_on { IfNone result
+        (state.new ≡ counted priority (record state.old { registers = state.new.registers })) }
+{
+    let i = match fetch(claimed, state.registers.iptr) {
+        Ok(i) => i,
+        Err(broken) => return Some(Err(broken)),
+    };
+    match perform(claimed, &i, &mut state.registers) {
+        Ok(Next::Go | Next::Jumped) => {
+            state.count_alone(priority);
+            None
+        }
+        Ok(Next::Schedule(o)) => Some(scheduled(state, claimed, o, priority, i.length)),
+        Ok(Next::Halt) => {
+            state.count_alone(priority);
+            state.halted = true;
+            Some(Ok(Ran::Halting))
+        }
+        Err(broken) => Some(Err(broken)),
     }
 }
 
