@@ -1,6 +1,6 @@
 -- A node at its place in a net: what lies at its links, and what an event of it takes, emits and tells.
 -- Source: the T414 data sheet: data and acknowledge packets. What is told: own choice.
-use Rattle.std.specs.Prelude.{ℕ, true, false, List, [], ◌∷◌, Option, Some, None, Result, Ok, Err, slice_index_or}
+use Rattle.std.specs.Prelude.{ℕ, zero, suc, ◌+◌, true, false, List, [], ◌∷◌, Option, Some, None, Result, Ok, Err, slice_index_or}
 use Rattle.std.specs.Prelude.{slice_set, if◌then◌else◌}
 use Rattle.tword.specs.Stores.{bytes_at}
 use Rattle.tproc.specs.declared.offer.Offer.{Offer}
@@ -25,6 +25,7 @@ use Rattle.tnet.specs.Wires.{end_at}
 use Rattle.tnet.specs.Net.{empty_inbox}
 use Rattle.tnet.specs.declared.inbox.Inbox.{Inbox}
 use Rattle.tnet.specs.declared.station.Done.{Done}
+use Rattle.tnet.specs.declared.station.RunsDone.{RunsDone}
 
 -- what lies at a link
 abbrev pub box_at : List Inbox → ℕ → Inbox
@@ -100,3 +101,32 @@ done_of n far e node = answer_done (node_answered (happens e node)) (note_of n f
 abbrev pub listed : Option Note → List Note
 listed None = []
 listed (Some t) = t ∷ []
+
+-- runs in a row with one more in front
+abbrev pub one_more : NodeState × RunsDone → NodeState × RunsDone
+one_more (node, row) = (node, record { count = 1 + row.count; note = row.note })
+
+-- a run that told nothing is followed by the others; one that told something ends the row
+abbrev pub after_run : (NodeState → NodeState × RunsDone) → Option Note → NodeState → NodeState × RunsDone
+after_run rest None node = one_more (rest node)
+after_run rest (Some t) node = (node, record { count = 1; note = Some t })
+
+-- so does one that is not enabled
+abbrev pub after_asked : (NodeState → NodeState × RunsDone) → Option Done → NodeState → NodeState × RunsDone
+after_asked rest None node = (node, record { count = 0; note = None })
+after_asked rest (Some d) node = after_run rest d.note node
+
+-- at most so many runs of a node in a row, as others see them: the node after them, how many were done, and what the
+-- last one told, if it told something
+unfoldable pub runs_done : ℕ → (ℕ → Option End) → ℕ → NodeState → NodeState × RunsDone
+runs_done n far zero node = (node, record { count = 0; note = None })
+runs_done n far (suc k) node =
+    after_asked (λ m. runs_done n far k m) (done_of n far at_node.Run node)
+    (node_left_by node (happens at_node.Run node))
+
+-- so many runs that told nothing, and the answer of the one behind them, which is the last: it halted the processor, was
+-- not enabled, or froze the node
+abbrev pub last_told : ℕ → ℕ → Result Emitted StepFault → RunsDone
+last_told n k (Ok e) = record { count = k + 1; note = Some (Halt n) }
+last_told n k (Err NotEnabled) = record { count = k; note = None }
+last_told n k (Err (Frozen b)) = record { count = k + 1; note = Some (Freeze n b) }

@@ -1,10 +1,11 @@
 //! A node at its place in a net: what lies at its links, and what an event of it takes, emits and tells. Nets, rounds
 //! and free workers do their events by these.
 
-ghost use Rattle.std.specs.Prelude.{◌≡◌, None, slice_set, vec_capacity};
+ghost use Rattle.std.specs.Prelude.{◌≡◌, ◌+◌, ◌<◌, ◌^◌, ℕ, None, Option, slice_set, vec_capacity};
 ghost use Rattle.tlink.specs.Events.{happens, node_left_by};
 ghost use Rattle.tnet.specs.Stations as plain;
-ghost use Rattle.tnet.specs.Stations.{box_at, emptied, put_in, answer_note, done_of};
+ghost use Rattle.tnet.specs.Stations.{box_at, emptied, put_in, answer_note, done_of, last_told, runs_done};
+ghost use Rattle.tplan.specs.declared.plan.End.{End};
 ghost use Rattle.tnet.specs.Wires.{end_at};
 ghost use Rattle.tnet.specs.FarEnds.{far_in_row};
 ghost use Rattle.tnet.specs.Answers.{HasRoom};
@@ -13,7 +14,7 @@ use crate::inbox::Inbox;
 use crate::messages::message;
 use std::alloc::Global;
 use std::mem;
-use tlink::{Arrival, Emitted, Mark, Node, NodeEvent, Packet, StepFault};
+use tlink::{Arrival, Emitted, Mark, Node, NodeEvent, Packet, Runs, StepFault};
 use tplan::{Act, End, Note};
 use tproc::Offer;
 use tword::Items;
@@ -24,6 +25,15 @@ pub struct Done {
     /// The packet that it emitted, with its link.
     pub packet: Option<(u8, Packet)>,
     /// What it told.
+    pub note: Option<Note>,
+}
+
+/// What runs of a node in a row did, as others see them.
+#[derive(Drop)]
+pub struct RunsDone {
+    /// How many were done.
+    pub count: u32,
+    /// What the last one told.
     pub note: Option<Note>,
 }
 
@@ -200,5 +210,35 @@ pub fn act(
         }),
         Err(StepFault::Frozen(_broken)) => Some(Done { packet: None, note }),
         Err(StepFault::NotEnabled) => None,
+    }
+}
+
+/// Does runs of a node in a row, at most so many, until one tells something or none is enabled: how many were done, and
+/// what the last one told.
+pub fn run(number: u8, node: &mut Node, most: u32) -> RunsDone
+    ensures { (far : ℕ → Option End) → (node.new, result) ≡ runs_done number far most node.old }
+{
+    let Runs { count, last } = node.run_many(most);
+    match last {
+        None => RunsDone { count, note: None },
+        Some(answer) => last_told(number, count, answer),
+    }
+}
+
+/// So many runs that told nothing, and the answer of the one behind them, as others see them.
+fn last_told(number: u8, count: u32, answer: Result<Emitted, StepFault>) -> RunsDone
+    requires { count + 1 < 2 ^ 32 }
+    ensures { result ≡ last_told number count answer }
+{
+    match answer {
+        Ok(_halted) => RunsDone {
+            count: count + 1,
+            note: Some(Note::Halt(number)),
+        },
+        Err(StepFault::NotEnabled) => RunsDone { count, note: None },
+        Err(StepFault::Frozen(broken)) => RunsDone {
+            count: count + 1,
+            note: Some(Note::Freeze(number, broken)),
+        },
     }
 }

@@ -11,6 +11,7 @@ pub mod PartSteps
 pub mod PartRooms
 pub mod PartActs
 pub mod PartRuns
+pub mod PartRows
 pub mod PartLists
 pub mod PartLoops
 pub mod PartTurns
