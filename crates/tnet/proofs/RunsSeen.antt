@@ -1,5 +1,5 @@
 -- Runs of a node in a row, as others see them.
-use Rattle.std.proofs.Common.{◌≡◌, ◌∙◌, ℕ, zero, suc, ◌+◌, ◌<◌, ◌⊎◌, inl, inr, refl, sym, ap, subst, Result, Ok, Err, Option}
+use Rattle.std.proofs.Common.{◌≡◌, ◌∙◌, ℕ, zero, suc, ◌+◌, ◌<◌, ◌≤◌, ◌⊎◌, inl, inr, refl, sym, ap, subst, Result, Ok, Err, Option}
 use Rattle.std.proofs.Common.{Some, None, arith}
 use Rattle.std.specs.Prelude.{IfSome}
 use Rattle.tlink.specs.declared.event.NodeEvent.TheVariants.{Run}
@@ -93,3 +93,25 @@ room_for_last most node node' r last e l =
     let P : NodeState × Runs → Type 0 = λ x. IfSome x.1.last (λ _. x.1.count < most) in
     let h : IfSome r.last (λ _. r.count < most) = subst P (sym e) (runs-within most node) in
     rw l at h
+
+-- a row has no more runs than were asked for
+pub done-within : (n : ℕ) (far : ℕ → Option End) (k : ℕ) (node : NodeState) → (runs_done n far k node).1.count ≤ k
+unfolding runs_done
+done-within n far zero node = omega arith
+done-within n far (suc k) node = by (λ m. done-within n far k m) (happens Run node) (run_runs node)
+  where
+    by : ((m : NodeState) → (runs_done n far k m).1.count ≤ k) → (a : Answer) → kinds.Runs a
+        → (after_asked (λ m. runs_done n far k m)
+        (answer_done (node_answered a) (answer_note n far None (node_answered a) (node_left_by node a)))
+        (node_left_by node a)).1.count
+        ≤ suc k
+    by on (Ok (m, e)) (none, inl q) = rw q (omega (arith, on m))
+    by on (Ok (m, e)) (none, inr (q, rests)) = rw q (omega arith)
+    by on (Err NotEnabled) h = omega arith
+    by on (Err (Frozen b)) h = omega arith
+
+pub count-within : (n : ℕ) (far : ℕ → Option End) (k : ℕ) (node node' : NodeState) (row : RunsDone)
+    → (node', row) ≡ runs_done n far k node → row.count ≤ k
+count-within n far k node node' row e =
+    let same : row.count ≡ (runs_done n far k node).1.count = ap (λ (x : NodeState × RunsDone). x.1.count) e in
+    omega (arith, same, done-within n far k node)

@@ -89,22 +89,6 @@ part-rows (suc k) p = by (λ q. part-rows k q) (happens at_node.Run p.station.no
         run_rests k _ (rw (frozen-stops at_node.Run b p.station.node) refl)
         ∙ part_same p _ _ _ _ _ _ _ (append-nil p.outbox) refl refl
 
--- a row has no more runs than were asked for
-pub runs-within : (n : ℕ) (far : ℕ → Option End) (k : ℕ) (node : NodeState) → (runs_done n far k node).1.count ≤ k
-unfolding runs_done
-runs-within n far zero node = omega arith
-runs-within n far (suc k) node = by (λ m. runs-within n far k m) (happens at_node.Run node) (run_runs node)
-  where
-    by : ((m : NodeState) → (runs_done n far k m).1.count ≤ k) → (a : Answer) → kinds.Runs a
-        → (after_asked (λ m. runs_done n far k m)
-        (answer_done (node_answered a) (answer_note n far None (node_answered a) (node_left_by node a)))
-        (node_left_by node a)).1.count
-        ≤ suc k
-    by on (Ok (m, e)) (none, inl q) = rw q (omega (arith, on m))
-    by on (Ok (m, e)) (none, inr (q, rests)) = rw q (omega arith)
-    by on (Err NotEnabled) h = omega arith
-    by on (Err (Frozen b)) h = omega arith
-
 -- what is written down of a row of runs
 pub row-written : (k : ℕ) (p : Part) (node : NodeState) (row : RunsDone) (note : Option Note) (events : List Event)
     (notes : List Note)
@@ -114,10 +98,3 @@ pub row-written : (k : ℕ) (p : Part) (node : NodeState) (row : RunsDone) (note
 row-written k p node row note events notes e t a b =
     part_same p node _ _ _ _ _ _ refl a (b ∙ ap (λ (o : Option Note). p.notes ++ listed o) (sym t))
     ∙ ap (λ (x : NodeState × RunsDone). with_row p x) e ∙ sym (part-rows k p)
-
--- of no more runs than were asked for
-pub row-count : (n : ℕ) (far : ℕ → Option End) (k : ℕ) (node node' : NodeState) (row : RunsDone)
-    → (node', row) ≡ runs_done n far k node → row.count ≤ k
-row-count n far k node node' row e =
-    let same : row.count ≡ (runs_done n far k node).1.count = ap (λ (x : NodeState × RunsDone). x.1.count) e in
-    omega (arith, same, runs-within n far k node)
