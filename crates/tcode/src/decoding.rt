@@ -53,7 +53,7 @@ fn ended(function: Function, operand: u32, length: u8) -> Option<Instruction>
 /// # Errors
 /// The break of the first fetch that fails; `LongPrefix` where sixteen bytes were fetched and all are prefixes;
 /// `NoSuchOperation` where its operation is not listed.
-// Chains stay out of line, so that the common case, one byte, is small where it is inlined.
+// Chains of three bytes and more stay out of line, so that the common cases are small where they are inlined.
 #[inline(always)]
 #[tactic(auto, unfolding(crate::specs::Decoding::decode))]
 pub fn decode(memory: &Memory, marks: &Marks, iptr: Word) -> Result<Instruction, Break>
@@ -62,7 +62,30 @@ pub fn decode(memory: &Memory, marks: &Marks, iptr: Word) -> Result<Instruction,
     let byte = memory.read_byte(marks, iptr)?;
     match function_of(byte / 16) {
         Some(function) => ended(function, u32::from(byte % 16), 1).ok_or(Break::NoSuchOperation),
-        None => decode_chain(memory, marks, iptr, byte),
+        None => decode_prefixed(memory, marks, iptr, byte),
+    }
+}
+
+/// The instruction at an address where a prefix was fetched: most end with the next byte.
+#[inline(always)]
+fn decode_prefixed(
+    memory: &Memory,
+    marks: &Marks,
+    iptr: Word,
+    prefix: u8,
+) -> Result<Instruction, Break>
+    requires fetched { IsFetched memory.now marks.now iptr prefix }
+    requires prefix { function_at (prefix / 16) ≡ None }
+    ensures { result ≡ value_of (run (decoded iptr) memory.now marks.now) }
+{
+    let value = prefixed(prefix / 16, u32::from(prefix % 16));
+    let byte = memory.read_byte(marks, iptr.plus(Word::new(1)))?;
+    let data = u32::from(byte % 16);
+    match function_of(byte / 16) {
+        Some(function) => ended(function, value.wrapping_add(data), 2).ok_or(
+            Break::NoSuchOperation,
+        ),
+        None => decode_chain(memory, marks, iptr, prefix),
     }
 }
 

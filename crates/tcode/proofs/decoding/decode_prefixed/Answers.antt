@@ -1,0 +1,37 @@
+use Rattle.std.proofs.Common.{◌≡◌, ℕ, ◌+◌, ◌-◌, ◌%◌, ◌^◌, ◌∙◌, pos, sym, ap, arith, rules}
+use Rattle.tword.specs.declared.breaks.Break.TheVariants.{LongPrefix}
+use Rattle.tword.specs.Actions.{run, run_from, value_of, breaks}
+use Rattle.tword.specs.Words.{plus}
+use Rattle.tcode.specs.Decoding.{decode, fetch}
+use Rattle.tcode.proofs.StoreSteps.{ended_at, fetched-breaks, fetched-ends, prefix-goes}
+use Rattle.tcode.proofs.decoding.decode_prefixed.Goals as goal
+
+pub returns-in_err-byte : goal.returns-in_err-byte
+returns-in_err-byte c =
+    let step =
+    prefix-goes c.args.memory.now c.args.marks.now c.args.iptr c.args.prefix c.from.result c.prefixed-value.result
+    c.requires.fetched c.requires.prefix c.from.ensures c.prefixed-value.type_inv c.prefixed-value.ensures
+    ∙ ap (λ (a : ℕ). run_from (fetch 15 1 a (pos c.prefixed-value.result)) c.args.memory.now c.args.marks.now
+    c.args.memory.now) (sym (c.plus.ensures ∙ ap (plus c.args.iptr) c.new.ensures))
+    ∙ fetched-breaks c.args.memory.now c.args.marks.now c.args.memory.now 1 c.plus.result c.prefixed-value.result
+    (omega arith) c.in_err-byte.field-0.0 (sym c.read_byte.ensures ∙ c.in_err-byte.was) in
+    rw step (search rules)
+
+pub returns-in-Some : goal.returns-in-Some
+returns-in-Some c =
+    let d : ℕ = (c.prefixed-value.result + c.from-data.result) % 2 ^ 32 in
+    let sum : d ≡ (c.prefixed-value.result + c.in_ok-byte.byte % 16) % 2 ^ 32 =
+    ap (λ (n : ℕ). (c.prefixed-value.result + n) % 2 ^ 32) c.from-data.ensures in
+    let step =
+    prefix-goes c.args.memory.now c.args.marks.now c.args.iptr c.args.prefix c.from.result c.prefixed-value.result
+    c.requires.fetched c.requires.prefix c.from.ensures c.prefixed-value.type_inv c.prefixed-value.ensures
+    ∙ ap (λ (a : ℕ). run_from (fetch 15 1 a (pos c.prefixed-value.result)) c.args.memory.now c.args.marks.now
+    c.args.memory.now) (sym (c.plus.ensures ∙ ap (plus c.args.iptr) c.new.ensures))
+    ∙ fetched-ends c.args.memory.now c.args.marks.now c.args.memory.now 1 c.plus.result
+    c.prefixed-value.result (omega arith) c.in_ok-byte.byte d (omega arith) (sym c.read_byte.ensures ∙ c.in_ok-byte.was)
+    sum
+    c.in-Some.function (sym c.function_of.ensures ∙ c.in-Some.is) in
+    c.ok_or.ensures.value
+    ∙ ended_at c.args.memory.now c.args.marks.now c.args.memory.now (λ _. breaks LongPrefix) c.in-Some.function d
+    2 c.ended.result c.ended.ensures
+    ∙ sym (ap value_of step)
