@@ -1,10 +1,13 @@
 //! The buffers of pending link messages.
 
-ghost use Rattle.std.specs.Prelude.{◌≡◌, ◌+◌, ◌<◌, ◌≤◌, ◌^◌, None, Some, replicate, slice_set, true, false};
+ghost use Rattle.std.specs.Prelude.{◌≡◌, ◌+◌, ◌<◌, ◌≤◌, ◌^◌, None, Some, replicate, slice_set, slice_index_or};
+ghost use Rattle.std.specs.Prelude.{length, true, false};
 ghost use Rattle.std.specs.List.{list_any};
 ghost use Rattle.tword.specs.Claims.{overlaps_claim};
 ghost use Rattle.tword.specs.Hulls.{IsWithin, AreWithin, bounds_of, meets};
+ghost use Rattle.tword.specs.Slots.{claims_in};
 
+use crate::claim_table::claims_slot;
 use crate::span::Span;
 use std::marker::Model;
 
@@ -13,7 +16,7 @@ const NOTHING: (u64, u64) = (u64::MAX, 0);
 
 /// The buffers that the inputs, or the outputs, of the four links claim. Contracts see them by link.
 ///
-/// `bounds` has those of each, and `low` and `high` bound them all, so that most touches need no look at each. The
+/// `bounds` has those of each, and `low` and `high` bound them all, so that most spans need no look at each. The
 /// latter are taken anew with each change.
 #[derive(Drop)]
 pub struct LinkBuffers {
@@ -75,6 +78,20 @@ fn hull(claimed: &[Option<Span>]) -> (u64, u64)
     bounds
 }
 
+/// How many of some claims have a word of the slot.
+fn claims_in(claimed: &[Option<Span>], slot: usize) -> u16
+    requires slot { slot < 65536 }
+    requires four { length claimed.now ≡ 4 }
+    ensures is { result ≡ claims_in slot claimed.now }
+    ensures few { result ≤ 4 }
+{
+    let mut count = 0;
+    for claim in claimed {
+        count += claims_slot(claim, slot);
+    }
+    count
+}
+
 impl LinkBuffers {
     /// No link claims any.
     pub fn new() -> LinkBuffers
@@ -106,7 +123,7 @@ impl LinkBuffers {
 
     /// Whether the bounds of all that is claimed show that the span has no byte in common with it.
     #[inline(always)]
-    pub fn is_clear_of(&self, span: &Span) -> bool
+    fn is_clear_of(&self, span: &Span) -> bool
         ensures { result ≡ true → list_any (overlaps_claim span.now) self.now ≡ false }
     {
         let (start, end) = span.bounds();
@@ -118,34 +135,56 @@ impl LinkBuffers {
     pub fn overlap(&self, span: &Span) -> bool
         ensures { result ≡ list_any (overlaps_claim span.now) self.now }
     {
+        !self.is_clear_of(span) && self.overlap_closely(span)
+    }
+
+    /// Whether one of them has a byte in common with the span, by a look at each.
+    #[inline(always)]
+    fn overlap_closely(&self, span: &Span) -> bool
+        ensures { result ≡ list_any (overlaps_claim span.now) self.now }
+    {
         let (start, end) = span.bounds();
         start < end && any_meets(&self.bounds, start, end)
     }
 
-    /// The link claims a buffer.
-    pub fn claim(&mut self, link: u8, span: Span)
-        requires { link < 4 }
-        ensures { self.new ≡ slice_set self.old link (Some span) }
+    /// How many of them have a word of the slot.
+    pub fn count(&self, slot: usize) -> u16
+        requires { slot < 65536 }
+        ensures is { result ≡ claims_in slot self.now }
+        ensures few { result ≤ 4 }
     {
-        self.put(link, Some(span));
+        claims_in(&self.claimed, slot)
     }
 
-    /// The link claims none.
-    pub fn release(&mut self, link: u8)
+    /// The link claims a buffer. What it claimed before is handed back.
+    pub fn claim(&mut self, link: u8, span: Span) -> Option<Span>
         requires { link < 4 }
-        ensures { self.new ≡ slice_set self.old link None }
+        ensures claimed { self.new ≡ slice_set self.old link (Some span) }
+        ensures before { result ≡ slice_index_or self.old link None }
     {
-        self.put(link, None);
+        self.put(link, Some(span))
     }
 
-    /// What the link claims.
-    fn put(&mut self, link: u8, claim: Option<Span>)
+    /// The link claims none. What it claimed before is handed back.
+    pub fn release(&mut self, link: u8) -> Option<Span>
         requires { link < 4 }
-        ensures { self.new ≡ slice_set self.old link claim }
+        ensures claimed { self.new ≡ slice_set self.old link None }
+        ensures before { result ≡ slice_index_or self.old link None }
     {
+        self.put(link, None)
+    }
+
+    /// What the link claims. What it claimed before is handed back.
+    fn put(&mut self, link: u8, claim: Option<Span>) -> Option<Span>
+        requires { link < 4 }
+        ensures claimed { self.new ≡ slice_set self.old link claim }
+        ensures before { result ≡ slice_index_or self.old link None }
+    {
+        let before = self.claimed[usize::from(link)];
         self.bounds[usize::from(link)] = bounds_of(&claim);
         self.claimed[usize::from(link)] = claim;
         (self.low, self.high) = hull(&self.claimed);
+        before
     }
 }
 

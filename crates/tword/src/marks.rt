@@ -1,36 +1,49 @@
 //! Who claims bytes of a memory.
 
-ghost use Rattle.std.specs.Prelude.{◌≡◌, ◌+◌, ◌<◌, IfOk, IfErr, None, length, false, true};
+ghost use Rattle.std.specs.Prelude.{◌≡◌, ◌+◌, ◌%◌, ◌<◌, ◌≤◌, ◌==◌, ℕ, IfOk, IfErr, IfSome, None, length};
+ghost use Rattle.std.specs.Prelude.{false, true};
 ghost use Rattle.tword.specs.Accesses.{Changing, Frees, IsClaimableWorkspace, no_claims, with_input, with_output};
 ghost use Rattle.tword.specs.Accesses.{without_input, without_output};
 ghost use Rattle.tword.specs.Actions.{or_break};
-ghost use Rattle.tword.specs.Claims.{saving, saved_words, has_saved};
+ghost use Rattle.tword.specs.Claims.{saving, saved_words, has_saved, is_saved};
+ghost use Rattle.tword.specs.Slots.{IsPlaceIn, saved_in};
 ghost use Rattle.tword.specs.Touches.{Reads, Writes, claim_break};
 ghost use Rattle.tword.specs.Words.{word_below};
 
 use crate::breaks::{Break, MemoryFault};
+use crate::claim_table::{ClaimTable, slot_of};
 use crate::link_buffers::LinkBuffers;
-use crate::saved::{Saved, words_below};
+use crate::saved::{Saved, saved_words_of, word_below, words_below};
 use crate::span::Span;
 use crate::word::Word;
 use std::alloc::{AllocError, Global};
 use std::marker::Model;
 
+/// The most words of a touch that are looked up one by one. Where fewer workspaces are saved than an eighth of them,
+/// these are gone over instead.
+const FEW: u64 = 256;
+
 /// The bytes of a memory that are claimed: the buffers of pending link messages, and the saved words of processes
 /// that are queued or wait.
+///
+/// `table` has for each slot how many of these claims have a word of it, so that most touches look at one count.
 #[derive(Drop)]
 pub struct Marks {
     inputs: LinkBuffers,
     outputs: LinkBuffers,
     saved: Saved,
+    table: ClaimTable,
 }
 
 impl Model for Marks {
     ghost use Rattle.tword.specs.Claims.{Claims};
+    ghost use Rattle.tword.specs.Slots.{IsTally};
 
     ghost Value = { Claims };
 
     ghost view = { λ m. record { inputs = m.inputs; outputs = m.outputs; saved = m.saved } };
+
+    ghost invariant = { λ m. IsTally m.inputs m.outputs m.saved m.table };
 }
 
 impl Marks {
@@ -46,6 +59,7 @@ impl Marks {
             inputs: LinkBuffers::new(),
             outputs: LinkBuffers::new(),
             saved: Saved::new(alloc)?,
+            table: ClaimTable::new(alloc)?,
         })
     }
 
@@ -60,6 +74,7 @@ impl Marks {
             inputs: self.inputs.copied(),
             outputs: self.outputs.copied(),
             saved: self.saved.try_copy(alloc)?,
+            table: self.table.try_copy(alloc)?,
         })
     }
 
@@ -67,7 +82,61 @@ impl Marks {
     pub fn has_saved(&self, workspace: Word) -> bool
         ensures { result ≡ has_saved self.now workspace }
     {
-        self.saved.contains(workspace)
+        self.place_of(workspace).is_some()
+    }
+
+    /// Where a workspace stands among those whose words are saved. Only where another one has taken its hint, and the
+    /// slot of its highest saved word has some, is the list searched.
+    fn place_of(&self, workspace: Word) -> Option<usize>
+        ensures found { IfSome result (λ i. IsPlaceIn self.now.saved i workspace) }
+        ensures none { result ≡ None → has_saved self.now workspace ≡ false }
+    {
+        if let Some(place) = self.saved.noted(workspace) {
+            return Some(place);
+        }
+        if self.saves_none_in(slot_of(word_below(workspace, 1))) {
+            return None;
+        }
+        self.saved.position(workspace)
+    }
+
+    /// Whether no saved word is one of the slot: all that is counted there are claims of links.
+    #[inline]
+    fn saves_none_in(&self, slot: usize) -> bool
+        requires { slot < 65536 }
+        ensures { result ≡ (saved_in slot self.now.saved == 0) }
+    {
+        let count = self.table.count(slot);
+        count == 0 || count == self.inputs.count(slot) + self.outputs.count(slot)
+    }
+
+    /// Whether no saved word is one of the slots of the words from the first up to that before `behind`.
+    fn saves_none_from(&self, first: u64, behind: u64) -> bool
+        ensures { result ≡ true → (k : ℕ) → first ≤ k → k < behind → saved_in (k % 65536) self.now.saved ≡ 0 }
+    {
+        for word in first..behind {
+            if !self.saves_none_in((word % 65_536) as usize) {
+                return false;
+            }
+        }
+        true
+    }
+
+    /// Whether a saved word has a byte in common with a span.
+    fn overlaps_saved(&self, span: &Span) -> bool
+        ensures { result ≡ is_saved self.now span.now }
+    {
+        let (start, end) = span.bounds();
+        let first = start / 4;
+        let behind = (end + 3) / 4;
+        let words = behind - first;
+        if words <= FEW
+            && words / 8 <= self.saved.len() as u64
+            && self.saves_none_from(first, behind)
+        {
+            return false;
+        }
+        self.saved.overlap(span)
     }
 
     /// Whether claims let the bytes of a span be read.
@@ -80,7 +149,7 @@ impl Marks {
         ensures { result ≡ or_break (claim_break self.now Reads (record { start = start; size = size })) tt }
     {
         let span = Span { start, size };
-        if !(self.inputs.is_clear_of(&span) && self.saved.is_clear_of(&span)) {
+        if !self.table.is_clear_of(&span) {
             self.may_read_closely(start, size)?;
         }
         Ok(())
@@ -98,7 +167,7 @@ impl Marks {
         if self.inputs.overlap(&span) {
             return Err(Break::InTransit);
         }
-        if !self.saved.is_clear_of(&span) && self.saved.overlap(start, size) {
+        if self.overlaps_saved(&span) {
             return Err(Break::SavedWord);
         }
         Ok(())
@@ -113,10 +182,7 @@ impl Marks {
         ensures { result ≡ or_break (claim_break self.now Writes (record { start = start; size = size })) tt }
     {
         let span = Span { start, size };
-        if !(self.inputs.is_clear_of(&span)
-            && self.outputs.is_clear_of(&span)
-            && self.saved.is_clear_of(&span))
-        {
+        if !self.table.is_clear_of(&span) {
             self.may_write_closely(start, size)?;
         }
         Ok(())
@@ -134,7 +200,7 @@ impl Marks {
         if self.inputs.overlap(&span) || self.outputs.overlap(&span) {
             return Err(Break::InTransit);
         }
-        if !self.saved.is_clear_of(&span) && self.saved.overlap(start, size) {
+        if self.overlaps_saved(&span) {
             return Err(Break::SavedWord);
         }
         Ok(())
@@ -191,6 +257,7 @@ impl Marks {
         requires free { claim_break self.old Writes (saved_words workspace) ≡ None }
         ensures { self.new ≡ saving workspace self.old }
     {
+        self.table.raise(&saved_words_of(workspace));
         self.saved.insert(workspace);
     }
 
@@ -199,7 +266,8 @@ impl Marks {
         requires { link < 4 }
         ensures { self.new ≡ with_input link (record { start = start; size = size }) self.old }
     {
-        self.inputs.claim(link, Span { start, size });
+        let before = self.inputs.claim(link, Span { start, size });
+        self.table.exchange(&before, &Some(Span { start, size }));
     }
 
     /// Claims the buffer of a pending link output, for a caller that knows that it may.
@@ -207,7 +275,8 @@ impl Marks {
         requires { link < 4 }
         ensures { self.new ≡ with_output link (record { start = start; size = size }) self.old }
     {
-        self.outputs.claim(link, Span { start, size });
+        let before = self.outputs.claim(link, Span { start, size });
+        self.table.exchange(&before, &Some(Span { start, size }));
     }
 
     /// Gives the words below a workspace free, if they are saved. The order in which the others are kept is left
@@ -219,7 +288,10 @@ impl Marks {
         ensures inputs { self.new.inputs ≡ self.old.inputs }
         ensures outputs { self.new.outputs ≡ self.old.outputs }
     {
-        self.saved.remove(workspace);
+        if let Some(place) = self.place_of(workspace) {
+            let removed = self.saved.remove(place);
+            self.table.lower(&saved_words_of(removed));
+        }
     }
 
     /// Gives the buffer of a link input free.
@@ -227,7 +299,8 @@ impl Marks {
         requires { link < 4 }
         ensures { self.new ≡ without_input link self.old }
     {
-        self.inputs.release(link);
+        let before = self.inputs.release(link);
+        self.table.exchange(&before, &None);
     }
 
     /// Gives the buffer of a link output free.
@@ -235,6 +308,7 @@ impl Marks {
         requires { link < 4 }
         ensures { self.new ≡ without_output link self.old }
     {
-        self.outputs.release(link);
+        let before = self.outputs.release(link);
+        self.table.exchange(&before, &None);
     }
 }

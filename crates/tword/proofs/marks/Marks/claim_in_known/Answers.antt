@@ -1,0 +1,19 @@
+use Rattle.std.proofs.Common.{Some, arith}
+use Rattle.tword.proofs.ClaimTally.{small_counts, enough_input, tally_input}
+use Rattle.tword.proofs.marks.Marks.claim_in_known.Goals as goal
+
+pub exchange-requires-clause-room : goal.exchange-requires-clause-room
+exchange-requires-clause-room c = λ slot lt.
+    let small = small_counts _ _ _ _ c.self.invariant slot lt in
+    omega (arith, small)
+
+pub exchange-requires-clause-some : goal.exchange-requires-clause-some
+exchange-requires-clause-some c =
+    enough_input _ _ _ _ c.args.link _ c.self.invariant (omega arith) c.claim-before.ensures.before
+
+pub invariant_of-self : goal.invariant_of-self
+invariant_of-self c =
+    rw c.claim-before.ensures.claimed
+    (tally_input _ _ _ _ _ c.args.link c.claim-before.result
+    (Some (record { start = c.args.start; size = c.args.size })) c.self.invariant (omega arith)
+    c.claim-before.ensures.before c.exchange.ensures)
