@@ -16,3 +16,5 @@ pub mod PartLists
 pub mod PartLoops
 pub mod PartTurns
 pub mod PartLending
+pub mod PartPackets
+pub mod PartRests

@@ -1,10 +1,10 @@
 -- What an act does to a round node: how much it writes down, after which run there is none, and which room for messages
 -- stands.
-use Rattle.std.proofs.Common.{◌≡◌, ◌≢◌, ℕ, ◌≤◌, refl, sym, ap, ◌∙◌, subst, List, length, get_or, set, map, Bool, true}
+use Rattle.std.proofs.Common.{◌≡◌, ◌≢◌, ℕ, ◌≤◌, ◌<◌, refl, sym, ap, ◌∙◌, subst, List, length, get_or, set, map, Bool, true}
 use Rattle.std.proofs.Common.{false, Option, Some, None, Err, IfSome, ◌⊎◌, inl, inr, arith}
 use Rattle.std.specs.Prelude.{is_none, if◌then◌else◌}
 use Rattle.std.proofs.lemmas.Bool.{cases_eq}
-use Rattle.std.proofs.lemmas.List.{set-get_or}
+use Rattle.std.proofs.lemmas.List.{set-get_or, get_or-map}
 use Rattle.std.proofs.lemmas.Option.{same_Some}
 use Rattle.tproc.specs.declared.offer.Offer.{Offer}
 use Rattle.tlink.specs.declared.counts.Arrival.{Arrival}
@@ -21,10 +21,10 @@ use Rattle.tnet.specs.declared.inbox.Inbox.{Inbox}
 use Rattle.tnet.specs.declared.station.Done.{Done}
 use Rattle.tnet.specs.Stations.{box_at, with_carried, asked, input_of, done_of}
 use Rattle.tnet.specs.FarEnds.{far_in_row}
-use Rattle.tnet.specs.Answers.{KeepsInput}
+use Rattle.tnet.specs.Answers.{KeepsInput, HasRoom}
 use Rattle.tnet.proofs.AnswerKinds.{run_emits_none, run_ends, inputs_stand}
-use Rattle.trounds.specs.Parts.{Part, sending_to, sendings, part_does}
-use Rattle.trounds.specs.RoundNodes.{link_of, sendings_of}
+use Rattle.trounds.specs.Parts.{Part, link_of, sending_to, sendings, part_does}
+use Rattle.trounds.specs.RoundNodes.{sendings_of}
 use Rattle.trounds.proofs.PartRooms.{room_else}
 
 one_sending : (p : Packet) (o : Option End) → length (sending_to p o) ≤ 1
@@ -90,6 +90,25 @@ no_input (Ack m) boxes e node l is k same = by (box_at boxes m).acknowledged is
     by : (t : Bool) → (if t then Some (at_node.Ack m) else None) ≡ Some e → input_of e node ≡ None
     by false q = cc
     by true q = let f : at_node.Ack m ≡ e = same_Some _ _ q in rw (← f) refl
+
+-- the room that an act has for its message
+pub room_for : {A : Type 0} (f : A → ℕ) (a : Act) (boxes : List Inbox) (e : NodeEvent) (node : NodeState) (vs : List A)
+    (k : ℕ) (d : A)
+    → asked a boxes ≡ Some e → k ≡ link_of a → k < length vs
+    → ((l : ℕ) → a ≡ Take l → IfSome (input_at node l) (λ (o : Offer). o.length ≤ get_or (map f vs) l 0))
+    → HasRoom (input_of e node) (f (get_or vs k d))
+room_for f Run boxes e node vs k d is link lt fits = let q : at_node.Run ≡ e = same_Some _ _ is in rw (← q) tt
+room_for f (Send m) boxes e node vs k d is link lt fits =
+    let q : at_node.Send m ≡ e = same_Some _ _ is in rw (← q) tt
+room_for f (Data m) boxes e node vs k d is link lt fits =
+    let q : input_of e node ≡ None = no_input (Data m) boxes e node k is tt link in rw q tt
+room_for f (Ack m) boxes e node vs k d is link lt fits =
+    let q : input_of e node ≡ None = no_input (Ack m) boxes e node k is tt link in rw q tt
+room_for f (Take m) boxes e node vs k d is link lt fits =
+    let q : at_node.Take m ≡ e = same_Some _ _ is in
+    let room : get_or (map f vs) m 0 ≡ f (get_or vs k d) =
+    ap (λ (i : ℕ). get_or (map f vs) i 0) (sym link) ∙ get_or-map f vs k d 0 lt in
+    rw (← q, ← room) (fits m refl)
 
 -- the room for a message whose input stands
 pub room_stands : {A : Type 0} (f : A → ℕ) (a : Act) (boxes : List Inbox) (e : NodeEvent) (node node' : NodeState)

@@ -34,6 +34,14 @@ pub record Station : Type 0 where
   pub inboxes : List Inbox
   pub far : List (Option End)
 
+-- the link of an act; 0 where it has none
+abbrev pub link_of : Act → ℕ
+link_of Run = 0
+link_of (Send l) = l
+link_of (Data l) = l
+link_of (Take l) = l
+link_of (Ack l) = l
+
 -- a station in a round: what it has sent, done and told so far
 pub record Part : Type 0 where
   pub station : Station

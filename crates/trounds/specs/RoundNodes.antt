@@ -1,11 +1,11 @@
 -- Round nodes, each with its inboxes and its outbox: the station of one, its part of a round so far, and its room.
 -- Source: own choice, how rounds are shared out.
 use Rattle.std.specs.Prelude.{◌≡◌, ℕ, ◌+◌, ◌<◌, ◌≤◌, ◌++◌, length, List, [], map, vec_len, vec_capacity, slice_index_or}
-use Rattle.std.specs.Prelude.{IfSome}
+use Rattle.std.specs.Prelude.{IfSome, false}
 use Rattle.tproc.specs.declared.offer.Offer.{Offer}
 use Rattle.tlink.specs.Node.{input_at}
 use Rattle.tplan.specs.declared.event.Act.{Act}
-use Rattle.tplan.specs.declared.event.Act.TheVariants.{Run, Send, Data, Take, Ack}
+use Rattle.tplan.specs.declared.event.Act.TheVariants.{Run, Take}
 use Rattle.tplan.specs.declared.event.Event.{Event}
 use Rattle.tplan.specs.declared.event.Note.{Note}
 use Rattle.trounds.specs.declared.round_node.Sending.{Sending}
@@ -14,7 +14,7 @@ use Rattle.std.specs.List.{flat_map}
 use Rattle.tplan.specs.declared.event.Hold.{Hold}
 use Rattle.trounds.specs.declared.lending.Frame.{Frame}
 use Rattle.tnet.specs.Net.{NetState}
-use Rattle.trounds.specs.Parts.{Station, Part, parts, stations_after, net_of, ArePlaced}
+use Rattle.trounds.specs.Parts.{Station, Part, fresh, parts, stations_after, net_of, ArePlaced}
 
 -- the station of a round node
 abbrev pub station_of : RoundNode → Station
@@ -67,26 +67,16 @@ HasBytes from r = (l : ℕ) → from ≤ l → l < 4 → HasMessageRoom r l
 abbrev pub HasMessage : Act → RoundNode → Type 0
 HasMessage act r = (l : ℕ) → act ≡ Take l → HasMessageRoom r l
 
--- the link of an act; 0 where it has none
-abbrev pub link_of : Act → ℕ
-link_of Run = 0
-link_of (Send l) = l
-link_of (Data l) = l
-link_of (Take l) = l
-link_of (Ack l) = l
-
 -- how many sendings an act may send: a run sends none
 abbrev pub sendings_of : Act → ℕ
 sendings_of Run = 0
 sendings_of _ = 1
 
--- a round node is ready for a round with so many runs
+-- a round node is ready for a round with so many runs; one that rests needs no room
 pub record IsReady (slice : ℕ) (r : RoundNode) : Type 0 where
-  pub room : HasRoom (slice + 16) 17 16 r
-  pub bytes : HasBytes 0 r
-  pub no_outbox : r.outbox.items ≡ []
-  pub no_events : r.events.items ≡ []
-  pub no_notes : r.notes.items ≡ []
+  pub room : r.rests ≡ false → HasRoom (slice + 16) 17 16 r
+  pub bytes : r.rests ≡ false → HasBytes 0 r
+  pub is_fresh : part_of r ≡ fresh (station_of r)
 
 -- a round is done: the parts by themselves, then their sendings; what was done and told is behind what was before
 pub record Advances (holds : List Hold) (slice r : ℕ) (stations : List Station) (events : List Event)

@@ -74,6 +74,7 @@ pub fn put_back(mut round_nodes: Vec<RoundNode>, frame: Frame) -> Net
     for place in 0..count {
         let RoundNode {
             number: _,
+            rests: _,
             node,
             inboxes: lies,
             far: _,

@@ -1,4 +1,4 @@
-//! One round, shared out among workers.
+//! One round, shared out among workers: by threads, or share by share.
 
 ghost use Rattle.std.specs.Prelude.{◌≡◌, ◌+◌, ◌*◌, ◌^◌, ◌<◌, All, length};
 ghost use Rattle.std.specs.Thread.{IsSync};
@@ -26,6 +26,47 @@ fn do_share<G: Gate>(
     for place in 0..share.len() {
         share[place].part_of_round(holds, slice, round);
     }
+}
+
+/// A worker enters, and does its share.
+fn enter_share<G: Gate>(
+    gate: &G,
+    worker: usize,
+    holds: &[Hold],
+    slice: u32,
+    round: u32,
+    share: &mut [RoundNode],
+)
+    requires ready { All (IsReady slice) share.old }
+    ensures { parts_of share.new ≡ parts holds.now slice round (stations_of share.old) }
+{
+    gate.enter(worker, round);
+    do_share(gate, worker, holds, slice, round, share);
+}
+
+/// One round of each node, without threads: shares of `size` nodes one after another, each for the worker that
+/// `do_shares` gives it.
+pub fn do_in_turn<G: Gate>(
+    gate: &G,
+    holds: &[Hold],
+    slice: u32,
+    round: u32,
+    size: usize,
+    worker: usize,
+    share: &mut [RoundNode],
+)
+    requires size { 0 < size }
+    requires worker { worker + length share.old < 2 ^ 64 }
+    requires ready { All (IsReady slice) share.old }
+    ensures { parts_of share.new ≡ parts holds.now slice round (stations_of share.old) }
+{
+    if share.len() <= size {
+        enter_share(gate, worker, holds, slice, round, share);
+        return;
+    }
+    let (front, back) = share.split_at_mut(size);
+    enter_share(gate, worker, holds, slice, round, front);
+    do_in_turn(gate, holds, slice, round, size, worker + 1, back);
 }
 
 /// How many shares of `size` nodes the first half takes, where there are at least two.
@@ -57,8 +98,7 @@ pub fn do_shares<R: Threads + Sync, G: Gate + Sync>(
     ensures { parts_of share.new ≡ parts holds.now slice round (stations_of share.old) }
 {
     if share.len() <= size {
-        gate.enter(worker, round);
-        do_share(gate, worker, holds, slice, round, share);
+        enter_share(gate, worker, holds, slice, round, share);
         return;
     }
     let half = half_of(share.len(), size);
