@@ -3,11 +3,11 @@ use Rattle.tlink.specs.declared.event.Runs.{Runs}
 use Rattle.tlink.proofs.RunRows.{row-lifted, runs-frozen}
 use Rattle.tlink.proofs.links.Links.run_many.Goals as goal
 
-pub returns-then-is_some : goal.returns-then-is_some
-returns-then-is_some c =
+pub returns-then-is_frozen : goal.returns-then-is_frozen
+returns-then-is_frozen c =
     ap (λ (r : Runs). (c.args.self.now, r)) c.not_enabled.ensures
     ∙ sym (runs-frozen c.args.most c.args.self.now
-    (rw (← c.self.view_is) (sym c.is_some.ensures ∙ c.if-is_some.true)))
+    (rw (← c.self.view_is) (sym c.is_some-is_frozen.ensures ∙ c.if-is_frozen.true)))
 
 pub returns-in-Some : goal.returns-in-Some
 returns-in-Some c =
@@ -18,7 +18,7 @@ returns-in-Some c =
       wired = c.self.inside.wired;
       broken = c.self.inside.broken;
     }) _ c.run_many-count.new.self c.run_many-count.result _ c.self.view_is
-    (sym c.is_some.ensures ∙ c.if-is_some.false) c.run_many-count.ensures
+    (sym c.is_some-is_frozen.ensures ∙ c.if-is_frozen.false) c.run_many-count.ensures
     (rw c.in-Some.is c.answered.ensures.left) (rw c.in-Some.is (ap (λ a. Some a) c.answered.ensures.told))
 
 pub returns-in-None : goal.returns-in-None
@@ -30,5 +30,5 @@ returns-in-None c =
       wired = c.self.inside.wired;
       broken = c.self.inside.broken;
     }) _ c.run_many-count.new.self c.run_many-count.result _ c.self.view_is
-    (sym c.is_some.ensures ∙ c.if-is_some.false) c.run_many-count.ensures (rw c.in-None.is refl)
+    (sym c.is_some-is_frozen.ensures ∙ c.if-is_frozen.false) c.run_many-count.ensures (rw c.in-None.is refl)
     (rw c.in-None.is refl)
