@@ -1,49 +1,72 @@
--- The table of claims: what an empty slot tells, and how the counts follow the claims.
-use Rattle.std.proofs.Common.{◌≡◌, ◌≢◌, ℕ, ◌+◌, ◌-◌, ◌/◌, ◌%◌, ◌<◌, ◌≤◌, Bool, true, false, cond, min, ltb, eqb, ◌⊎◌}
-use Rattle.std.proofs.Common.{inl, inr, List, [], ◌∷◌, length, get_or, set, replicate, refl, sym, ap, ◌∙◌, arith}
+-- The table of claims: what an empty word tells, and how the counts follow the claims.
+use Rattle.std.proofs.Common.{◌≡◌, ◌≢◌, ℕ, ◌+◌, ◌-◌, ◌/◌, ◌<◌, ◌≤◌, Bool, true, false, min, eqb, ◌⊎◌}
+use Rattle.std.proofs.Common.{inl, inr, List, [], ◌∷◌, length, get_or, set, take, drop, replicate, refl, sym, ap, ◌∙◌}
+use Rattle.std.proofs.Common.{arith}
 use Rattle.std.proofs.Common.{Option, Some, None}
 use Rattle.std.proofs.lemmas.Bool.{le-ltb, lt-ltb, ltb-true, ne_eqb, cases_eq, cases_lt, and_parts}
 use Rattle.std.proofs.lemmas.Grind.{get_or-set_at}
-use Rattle.std.proofs.lemmas.List.{get_or-replicate, get_or-set_other, length-set}
+use Rattle.std.proofs.lemmas.List.{get_or-drop, get_or-set_other, get_or-take, length-drop, length-set, length-take-le}
 use Rattle.std.proofs.lemmas.List.Folds.{list_any_none}
 use Rattle.std.proofs.lemmas.List.Sums.{get_or-le-sum_by, sum_by-cons, sum_by-le, sum_by-set}
-use Rattle.std.specs.List.{list_any}
+use Rattle.std.specs.List.{list_any, sum}
 use Rattle.tword.specs.declared.span.Span.{Span}
 use Rattle.tword.specs.Words.{word_below}
 use Rattle.tword.specs.Claims.{overlap, overlaps_claim, saved_words}
-use Rattle.tword.specs.Slots.{slot_of, slots_of, is_among, has_slot, claims_slot, saves_slot, claims_in, saved_in}
-use Rattle.tword.specs.Slots.{AreEmpty, IsTally}
+use Rattle.tword.specs.Slots.{word_at, is_among, behind_words, has_word, claims_word, saves_word, claims_in}
+use Rattle.tword.specs.Slots.{saved_in, AreEmpty, Counts, HasRoom, IsEmpty, IsExchanged, IsTally}
 
-abbrev one_if : Bool → ℕ
-one_if b = cond b 1 0
+-- a number among some, below them, and above them
+among_in : (first behind number : ℕ) → first ≤ number → number < behind → is_among first behind number ≡ 1
+among_in first behind number p q = rw (le-ltb number first p, lt-ltb number behind q) refl
 
-one_if-le : (b : Bool) → one_if b ≤ 1
-one_if-le true = omega arith
-one_if-le false = omega arith
+among_below : (first behind number : ℕ) → number < first → is_among first behind number ≡ 0
+among_below first behind number p = rw (lt-ltb number first p) refl
 
--- no claim counts twice in a slot
-has_slot-le : (slot : ℕ) (s : Span) → has_slot slot s ≤ 1
-has_slot-le slot s = one_if-le (ltb ((slot + 65536 - slot_of s.start) % 65536) (slots_of s))
+among_above : (first behind number : ℕ) → behind ≤ number → is_among first behind number ≡ 0
+among_above first behind number p = by (cases_lt number first)
+  where
+    by : (number < first) ⊎ (first ≤ number) → is_among first behind number ≡ 0
+    by (inl low) = among_below first behind number low
+    by (inr high) = rw (le-ltb number first high, le-ltb number behind p) refl
 
-claims_slot-le : (slot : ℕ) (c : Option Span) → claims_slot slot c ≤ 1
-claims_slot-le slot None = omega arith
-claims_slot-le slot (Some s) = has_slot-le slot s
+-- no number counts twice
+among_le : (first behind number : ℕ) → is_among first behind number ≤ 1
+among_le first behind number = by (cases_lt number first) (cases_lt number behind)
+  where
+    by : (number < first) ⊎ (first ≤ number) → (number < behind) ⊎ (behind ≤ number)
+        → is_among first behind number ≤ 1
+    by (inl low) _ = omega (arith, among_below first behind number low)
+    by (inr p) (inl q) = omega (arith, among_in first behind number p q)
+    by (inr _) (inr high) = omega (arith, among_above first behind number high)
 
--- how far a word's slot is from that of an earlier one
-distance : (k f n : ℕ) → f ≤ k → k < f + n → (k % 65536 + 65536 - f % 65536) % 65536 < min 65536 n
-distance k f n p q = omega arith
+-- where bounds move with the numbers, so does what is among them
+among_moved : (first behind first' behind' number number' : ℕ) → (first ≤ number → first' ≤ number')
+    → (number < first → number' < first') → (number < behind → number' < behind')
+    → (behind ≤ number → behind' ≤ number')
+    → is_among first behind number ≡ is_among first' behind' number'
+among_moved first behind first' behind' number number' a b c d = by (cases_lt number first) (cases_lt number behind)
+  where
+    by : (number < first) ⊎ (first ≤ number) → (number < behind) ⊎ (behind ≤ number)
+        → is_among first behind number ≡ is_among first' behind' number'
+    by (inl low) _ = among_below first behind number low ∙ sym (among_below first' behind' number' (b low))
+    by (inr p) (inl q) = among_in first behind number p q ∙ sym (among_in first' behind' number' (a p) (c q))
+    by (inr _) (inr high) = among_above first behind number high ∙ sym (among_above first' behind' number' (d high))
 
--- a word of a span falls into one of its slots
-word_in : (k : ℕ) (s : Span) → 0 < s.size → s.start / 4 ≤ k → k < (s.start + s.size + 3) / 4
-    → has_slot (k % 65536) s ≡ 1
-word_in k s some p q =
-    let n : eqb s.size 0 ≡ false = ne_eqb s.size 0 (λ e. omega arith) in
-    let d = distance k (s.start / 4) ((s.start + s.size + 3) / 4 - s.start / 4) p (omega arith) in
-    ap (λ b. one_if b) (lt-ltb _ (slots_of s) (rw n d))
+claims_word-le : (word : ℕ) (c : Option Span) → claims_word word c ≤ 1
+claims_word-le word None = omega arith
+claims_word-le word (Some s) = among_le (s.start / 4) (behind_words s) word
+
+-- what stands behind the words of a span that has a byte
+behind_some : (s : Span) → 0 < s.size → behind_words s ≡ (s.start + s.size + 3) / 4
+behind_some s some = rw (ne_eqb s.size 0 (λ e. omega arith)) refl
+
+-- a word that a span has a byte of
+word_in : (k : ℕ) (s : Span) → 0 < s.size → s.start / 4 ≤ k → k < (s.start + s.size + 3) / 4 → has_word k s ≡ 1
+word_in k s some p q = among_in (s.start / 4) (behind_words s) k p (rw (behind_some s some) q)
 
 -- a span overlaps another only in a word that both have
 shares : (start size : ℕ) (s : Span)
-    → ((k : ℕ) → start / 4 ≤ k → k < (start + size + 3) / 4 → has_slot (k % 65536) s ≡ 0)
+    → ((k : ℕ) → start / 4 ≤ k → k < (start + size + 3) / 4 → has_word k s ≡ 0)
     → overlap (record { start = start; size = size }) s ≡ false
 shares start size s none = by (overlap (record { start = start; size = size }) s) refl
   where
@@ -68,45 +91,53 @@ shares start size s none = by (overlap (record { start = start; size = size }) s
         absurd (clash (ltb-true _ _ r.0) (ltb-true _ _ r.1) (ltb-true _ _ q.1) (ltb-true _ _ p.1)
         (cases_lt start s.start))
 
--- no saved word of the slots of a span, so none that it overlaps
+-- no saved word among the words of a span, so none that it overlaps
 pub saved_apart : (ws : List ℕ) (start size : ℕ)
-    → ((k : ℕ) → start / 4 ≤ k → k < (start + size + 3) / 4 → saved_in (k % 65536) ws ≡ 0)
+    → ((k : ℕ) → start / 4 ≤ k → k < (start + size + 3) / 4 → saved_in k ws ≡ 0)
     → list_any (λ w. overlap (record { start = start; size = size }) (saved_words w)) ws ≡ false
 saved_apart ws start size empty =
     list_any_none (λ w. overlap (record { start = start; size = size }) (saved_words w)) ws (λ i d lt.
     shares start size (saved_words (get_or ws i d)) (λ k p q.
-    let one = get_or-le-sum_by (saves_slot (k % 65536)) ws i d lt in
+    let one = get_or-le-sum_by (saves_word k) ws i d lt in
     omega (arith, one, empty k p q)))
 
 claim_apart : (start size : ℕ) (c : Option Span)
-    → ((k : ℕ) → start / 4 ≤ k → k < (start + size + 3) / 4 → claims_slot (k % 65536) c ≡ 0)
+    → ((k : ℕ) → start / 4 ≤ k → k < (start + size + 3) / 4 → claims_word k c ≡ 0)
     → overlaps_claim (record { start = start; size = size }) c ≡ false
 claim_apart start size None none = refl
 claim_apart start size (Some s) none = shares start size s none
 
 -- the same of the claims of links
 pub claims_apart : (cs : List (Option Span)) (start size : ℕ)
-    → ((k : ℕ) → start / 4 ≤ k → k < (start + size + 3) / 4 → claims_in (k % 65536) cs ≡ 0)
+    → ((k : ℕ) → start / 4 ≤ k → k < (start + size + 3) / 4 → claims_in k cs ≡ 0)
     → list_any (overlaps_claim (record { start = start; size = size })) cs ≡ false
 claims_apart cs start size empty =
     list_any_none (overlaps_claim (record { start = start; size = size })) cs (λ i d lt.
     claim_apart start size (get_or cs i d) (λ k p q.
-    let one = get_or-le-sum_by (claims_slot (k % 65536)) cs i d lt in
+    let one = get_or-le-sum_by (claims_word k) cs i d lt in
     omega (arith, one, empty k p q)))
 
--- what an empty slot of the table tells
-pub record NoneIn (ins outs : List (Option Span)) (ws : List ℕ) (slot : ℕ) : Type 0 where
-  pub inputs : claims_in slot ins ≡ 0
-  pub outputs : claims_in slot outs ≡ 0
-  pub saved : saved_in slot ws ≡ 0
+-- what the count of a word tells
+pub total_at : (ins outs : List (Option Span)) (ws counts : List ℕ) (word count : ℕ) → IsTally ins outs ws counts
+    → Counts counts word count → count ≡ claims_in word ins + claims_in word outs + saved_in word ws
+total_at ins outs ws counts word count is here =
+    let at : word_at (word - 536870912) ≡ word = omega (arith, here.above) in
+    let total = is.counted (word - 536870912) (omega (arith, here.above, here.below)) in
+    sym here.is ∙ total ∙ ap (λ k. claims_in k ins + claims_in k outs + saved_in k ws) at
 
-none_in : (ins outs : List (Option Span)) (ws counts : List ℕ) (slot : ℕ) → IsTally ins outs ws counts → slot < 65536
-    → get_or counts slot 0 ≡ 0 → NoneIn ins outs ws slot
-none_in ins outs ws counts slot is lt zero =
-    let total = is.counted slot lt in
+-- what an empty word of the table tells
+pub record NoneIn (ins outs : List (Option Span)) (ws : List ℕ) (word : ℕ) : Type 0 where
+  pub inputs : claims_in word ins ≡ 0
+  pub outputs : claims_in word outs ≡ 0
+  pub saved : saved_in word ws ≡ 0
+
+pub none_in : (ins outs : List (Option Span)) (ws counts : List ℕ) (word : ℕ) → IsTally ins outs ws counts
+    → IsEmpty counts word → NoneIn ins outs ws word
+none_in ins outs ws counts word is empty =
+    let total = total_at ins outs ws counts word 0 is empty in
     record { inputs = omega arith; outputs = omega arith; saved = omega arith }
 
--- a span whose slots are empty overlaps no claim
+-- a span whose words are empty overlaps no claim
 pub record IsApart (ins outs : List (Option Span)) (ws : List ℕ) (span : Span) : Type 0 where
   pub inputs : list_any (overlaps_claim span) ins ≡ false
   pub outputs : list_any (overlaps_claim span) outs ≡ false
@@ -122,23 +153,24 @@ all_apart ins outs ws counts start size is empty =
       saved = saved_apart ws start size (λ k p q. (here k p q).saved);
     }
   where
-    here : (k : ℕ) → start / 4 ≤ k → k < (start + size + 3) / 4 → NoneIn ins outs ws (k % 65536)
-    here k p q = none_in ins outs ws counts (k % 65536) is (omega arith) (empty k p q)
+    here : (k : ℕ) → start / 4 ≤ k → k < (start + size + 3) / 4 → NoneIn ins outs ws k
+    here k p q = none_in ins outs ws counts k is (empty k p q)
 
--- no count is large
-pub small_counts : (ins outs : List (Option Span)) (ws counts : List ℕ) → IsTally ins outs ws counts → (slot : ℕ)
-    → slot < 65536 → get_or counts slot 0 ≤ 520
-small_counts ins outs ws counts is slot lt =
-    let a = sum_by-le (claims_slot slot) 1 ins (λ k d _. claims_slot-le slot (get_or ins k d)) in
-    let b = sum_by-le (claims_slot slot) 1 outs (λ k d _. claims_slot-le slot (get_or outs k d)) in
-    let c = sum_by-le (saves_slot slot) 1 ws (λ k d _. has_slot-le slot (saved_words (get_or ws k d))) in
+-- no count is the largest one
+pub has_room : (ins outs : List (Option Span)) (ws counts : List ℕ) → IsTally ins outs ws counts → HasRoom counts
+has_room ins outs ws counts is = λ slot lt.
+    let word = word_at slot in
+    let a = sum_by-le (claims_word word) 1 ins (λ k d _. claims_word-le word (get_or ins k d)) in
+    let b = sum_by-le (claims_word word) 1 outs (λ k d _. claims_word-le word (get_or outs k d)) in
+    let c = sum_by-le (saves_word word) 1 ws (λ k d _. claims_word-le word (Some (saved_words (get_or ws k d)))) in
     omega (arith, a, b, c, is.counted slot lt, is.inputs, is.outputs, is.saved)
 
 -- no claims
 pub tally_none : (ins outs : List (Option Span)) (ws counts : List ℕ) → ins ≡ replicate 4 None
-    → outs ≡ replicate 4 None → ws ≡ [] → counts ≡ replicate 65536 0 → IsTally ins outs ws counts
-tally_none ins outs ws counts e f g h = rw (e, f, g, h) (record {
-  counted = λ slot lt. get_or-replicate 65536 slot 0 0 lt;
+    → outs ≡ replicate 4 None → ws ≡ [] → ((slot : ℕ) → slot < length counts → get_or counts slot 0 ≡ 0)
+    → IsTally ins outs ws counts
+tally_none ins outs ws counts e f g none = rw (e, f, g) (record {
+  counted = none;
   inputs = refl;
   outputs = refl;
   saved = omega arith;
@@ -146,16 +178,16 @@ tally_none ins outs ws counts e f g h = rw (e, f, g, h) (record {
 
 -- the table where a link claims another span
 pub tally_input : (ins outs : List (Option Span)) (ws counts new : List ℕ) (i : ℕ) (before claim : Option Span)
-    → IsTally ins outs ws counts → i < 4 → before ≡ get_or ins i None
-    → ((slot : ℕ) → slot < 65536
-    → get_or new slot 0 + claims_slot slot before ≡ get_or counts slot 0 + claims_slot slot claim)
+    → IsTally ins outs ws counts → i < 4 → before ≡ get_or ins i None → IsExchanged before claim counts new
     → IsTally (set ins i claim) outs ws new
 tally_input ins outs ws counts new i before claim is lt e changed = record {
   counted = λ slot within.
-      let total = is.counted slot within in
-      let step = changed slot within in
-      let sums = sum_by-set (claims_slot slot) ins i claim None (omega (arith, is.inputs)) in
-      let same : claims_slot slot before ≡ claims_slot slot (get_or ins i None) = ap (claims_slot slot) e in
+      let old : slot < length counts = omega (arith, within, changed.size) in
+      let total = is.counted slot old in
+      let step = changed.counted slot old in
+      let sums = sum_by-set (claims_word (word_at slot)) ins i claim None (omega (arith, is.inputs)) in
+      let same : claims_word (word_at slot) before ≡ claims_word (word_at slot) (get_or ins i None) =
+      ap (claims_word (word_at slot)) e in
       omega (arith, total, step, sums, same);
   inputs = length-set ins i claim ∙ is.inputs;
   outputs = is.outputs;
@@ -163,16 +195,16 @@ tally_input ins outs ws counts new i before claim is lt e changed = record {
 }
 
 pub tally_output : (ins outs : List (Option Span)) (ws counts new : List ℕ) (i : ℕ) (before claim : Option Span)
-    → IsTally ins outs ws counts → i < 4 → before ≡ get_or outs i None
-    → ((slot : ℕ) → slot < 65536
-    → get_or new slot 0 + claims_slot slot before ≡ get_or counts slot 0 + claims_slot slot claim)
+    → IsTally ins outs ws counts → i < 4 → before ≡ get_or outs i None → IsExchanged before claim counts new
     → IsTally ins (set outs i claim) ws new
 tally_output ins outs ws counts new i before claim is lt e changed = record {
   counted = λ slot within.
-      let total = is.counted slot within in
-      let step = changed slot within in
-      let sums = sum_by-set (claims_slot slot) outs i claim None (omega (arith, is.outputs)) in
-      let same : claims_slot slot before ≡ claims_slot slot (get_or outs i None) = ap (claims_slot slot) e in
+      let old : slot < length counts = omega (arith, within, changed.size) in
+      let total = is.counted slot old in
+      let step = changed.counted slot old in
+      let sums = sum_by-set (claims_word (word_at slot)) outs i claim None (omega (arith, is.outputs)) in
+      let same : claims_word (word_at slot) before ≡ claims_word (word_at slot) (get_or outs i None) =
+      ap (claims_word (word_at slot)) e in
       omega (arith, total, step, sums, same);
   inputs = is.inputs;
   outputs = length-set outs i claim ∙ is.outputs;
@@ -182,32 +214,33 @@ tally_output ins outs ws counts new i before claim is lt e changed = record {
 -- what a link claims is counted
 pub enough_input : (ins outs : List (Option Span)) (ws counts : List ℕ) (i : ℕ) (before : Option Span)
     → IsTally ins outs ws counts → i < 4 → before ≡ get_or ins i None
-    → (slot : ℕ) → slot < 65536 → claims_slot slot before ≤ get_or counts slot 0
+    → (slot : ℕ) → slot < length counts → claims_word (word_at slot) before ≤ get_or counts slot 0
 enough_input ins outs ws counts i before is lt e slot within =
     let total = is.counted slot within in
-    let one = get_or-le-sum_by (claims_slot slot) ins i None (omega (arith, is.inputs)) in
-    let same : claims_slot slot before ≡ claims_slot slot (get_or ins i None) = ap (claims_slot slot) e in
+    let one = get_or-le-sum_by (claims_word (word_at slot)) ins i None (omega (arith, is.inputs)) in
+    let same : claims_word (word_at slot) before ≡ claims_word (word_at slot) (get_or ins i None) =
+    ap (claims_word (word_at slot)) e in
     omega (arith, total, one, same)
 
 pub enough_output : (ins outs : List (Option Span)) (ws counts : List ℕ) (i : ℕ) (before : Option Span)
     → IsTally ins outs ws counts → i < 4 → before ≡ get_or outs i None
-    → (slot : ℕ) → slot < 65536 → claims_slot slot before ≤ get_or counts slot 0
+    → (slot : ℕ) → slot < length counts → claims_word (word_at slot) before ≤ get_or counts slot 0
 enough_output ins outs ws counts i before is lt e slot within =
     let total = is.counted slot within in
-    let one = get_or-le-sum_by (claims_slot slot) outs i None (omega (arith, is.outputs)) in
-    let same : claims_slot slot before ≡ claims_slot slot (get_or outs i None) = ap (claims_slot slot) e in
+    let one = get_or-le-sum_by (claims_word (word_at slot)) outs i None (omega (arith, is.outputs)) in
+    let same : claims_word (word_at slot) before ≡ claims_word (word_at slot) (get_or outs i None) =
+    ap (claims_word (word_at slot)) e in
     omega (arith, total, one, same)
 
 -- the table with the words of one more workspace
 pub tally_push : (ins outs : List (Option Span)) (ws counts new : List ℕ) (w : ℕ) → IsTally ins outs ws counts
-    → length ws < 512
-    → ((slot : ℕ) → slot < 65536 → get_or new slot 0 ≡ get_or counts slot 0 + saves_slot slot w)
-    → IsTally ins outs (w ∷ ws) new
+    → length ws < 512 → IsExchanged None (Some (saved_words w)) counts new → IsTally ins outs (w ∷ ws) new
 tally_push ins outs ws counts new w is room changed = record {
   counted = λ slot within.
-      let total = is.counted slot within in
-      let step = changed slot within in
-      let sums = sum_by-cons (saves_slot slot) w ws in
+      let old : slot < length counts = omega (arith, within, changed.size) in
+      let total = is.counted slot old in
+      let step = changed.counted slot old in
+      let sums = sum_by-cons (saves_word (word_at slot)) w ws in
       omega (arith, total, step, sums);
   inputs = is.inputs;
   outputs = is.outputs;
@@ -216,15 +249,14 @@ tally_push ins outs ws counts new w is room changed = record {
 
 -- and of one less
 pub tally_drop : (ins outs : List (Option Span)) (ws rest counts new : List ℕ) (w : ℕ) → IsTally ins outs ws counts
-    → length rest + 1 ≡ length ws
-    → ((slot : ℕ) → saved_in slot rest + saves_slot slot w ≡ saved_in slot ws)
-    → ((slot : ℕ) → slot < 65536 → get_or new slot 0 + saves_slot slot w ≡ get_or counts slot 0)
-    → IsTally ins outs rest new
+    → length rest + 1 ≡ length ws → ((word : ℕ) → saved_in word rest + saves_word word w ≡ saved_in word ws)
+    → IsExchanged (Some (saved_words w)) None counts new → IsTally ins outs rest new
 tally_drop ins outs ws rest counts new w is shorter less changed = record {
   counted = λ slot within.
-      let total = is.counted slot within in
-      let step = changed slot within in
-      omega (arith, total, step, less slot);
+      let old : slot < length counts = omega (arith, within, changed.size) in
+      let total = is.counted slot old in
+      let step = changed.counted slot old in
+      omega (arith, total, step, less (word_at slot));
   inputs = is.inputs;
   outputs = is.outputs;
   saved = omega (arith, is.saved);
@@ -232,99 +264,100 @@ tally_drop ins outs ws rest counts new w is shorter less changed = record {
 
 -- the words of a workspace of the list are counted
 pub enough_saved : (ins outs : List (Option Span)) (ws rest counts : List ℕ) (w : ℕ) → IsTally ins outs ws counts
-    → ((slot : ℕ) → saved_in slot rest + saves_slot slot w ≡ saved_in slot ws)
-    → (slot : ℕ) → slot < 65536 → saves_slot slot w ≤ get_or counts slot 0
+    → ((word : ℕ) → saved_in word rest + saves_word word w ≡ saved_in word ws)
+    → (slot : ℕ) → slot < length counts → saves_word (word_at slot) w ≤ get_or counts slot 0
 enough_saved ins outs ws rest counts w is less slot within =
     let total = is.counted slot within in
-    omega (arith, total, less slot)
+    omega (arith, total, less (word_at slot))
 
--- a workspace is not in the list where none has a saved word of the slot of the word below it
-pub absent_by_count : (ws : List ℕ) (w : ℕ) → saved_in (slot_of (word_below w 1)) ws ≡ 0
+-- a workspace is not in the list where none has its third saved word as one
+pub absent_by_count : (ws : List ℕ) (w : ℕ) → saved_in (word_below w 3 / 4 + 2) ws ≡ 0
     → list_any (λ v. eqb v w) ws ≡ false
 absent_by_count ws w empty =
     list_any_none (λ v. eqb v w) ws (λ i d lt.
     ne_eqb (get_or ws i d) w (λ e.
-    let slot = slot_of (word_below w 1) in
-    let one = get_or-le-sum_by (saves_slot slot) ws i d lt in
-    let same : saves_slot slot (get_or ws i d) ≡ saves_slot slot w = ap (saves_slot slot) e in
-    omega (arith, one, same, empty, top_word w)))
-  where
-    top_word : (w : ℕ) → saves_slot (slot_of (word_below w 1)) w ≡ 1
-    top_word w = ap (λ b. one_if b) (lt-ltb _ _ (omega arith))
+    let word = word_below w 3 / 4 + 2 in
+    let one = get_or-le-sum_by (saves_word word) ws i d lt in
+    let same : saves_word word (get_or ws i d) ≡ saves_word word w = ap (saves_word word) e in
+    omega (arith, one, same, empty, word_in word (saved_words w) (omega arith) (omega arith) (omega arith))))
 
--- the slot that is k behind the first
-there : (first k slot : ℕ) → first < 65536 → k < 65536 → slot ≡ (first + k) % 65536
-    → (slot + 65536 - first) % 65536 ≡ k
-there first k slot p q e = omega arith
+-- the words of a span, by their slots
+pub clipped : (s : Span) (slot slots first behind : ℕ) → 0 < s.size → slot < slots
+    → first ≡ min slots (s.start / 4 - 536870912) → behind ≡ min slots ((s.start + s.size + 3) / 4 - 536870912)
+    → has_word (word_at slot) s ≡ is_among first behind slot
+clipped s slot slots first behind some lt p q =
+    rw (behind_some s some) (among_moved (s.start / 4) ((s.start + s.size + 3) / 4) first behind (word_at slot) slot
+    (λ a. omega arith) (λ a. omega arith) (λ a. omega arith) (λ a. omega arith))
 
--- each other one is among k and one more slots alike
-elsewhere : (first k slot : ℕ) → first < 65536 → k < 65536 → slot < 65536 → slot ≢ (first + k) % 65536
-    → is_among first (k + 1) slot ≡ is_among first k slot
-elsewhere first k slot p q r n = by (cases_lt d k)
-  where
-    d : ℕ
-    d = (slot + 65536 - first) % 65536
+-- the next number is among one more, and each other as before
+next_one : (first behind : ℕ) → first ≤ behind → (is_among first behind behind ≡ 0)
+    × (is_among first (behind + 1) behind ≡ 1)
+next_one first behind p =
+    (among_above first behind behind (omega arith), among_in first (behind + 1) behind p (omega arith))
 
-    by : (d < k) ⊎ (k ≤ d) → one_if (ltb d (k + 1)) ≡ one_if (ltb d k)
-    by (inl below) = ap (λ b. one_if b) (lt-ltb d (k + 1) (omega arith) ∙ sym (lt-ltb d k below))
-    by (inr above) =
-        let apart : d ≢ k = λ e. n (omega arith) in
-        ap (λ b. one_if b) (le-ltb d (k + 1) (omega arith) ∙ sym (le-ltb d k above))
-
--- and that one is among one more slots alone
-first_time : (first k slot : ℕ) → first < 65536 → k < 65536 → slot ≡ (first + k) % 65536
-    → (is_among first k slot ≡ 0) × (is_among first (k + 1) slot ≡ 1)
-first_time first k slot p q e =
-    let d = there first k slot p q e in
-    (ap (λ b. one_if b) (le-ltb _ k (omega (arith, d))), ap (λ b. one_if b) (lt-ltb _ (k + 1) (omega (arith, d))))
+elsewhere : (first behind number : ℕ) → number ≢ behind
+    → is_among first (behind + 1) number ≡ is_among first behind number
+elsewhere first behind number n =
+    among_moved first (behind + 1) first behind number number (λ a. a) (λ a. a) (λ a. omega arith) (λ a. omega arith)
 
 -- one more slot is counted up
-pub up_more : (cs start : List ℕ) (first k : ℕ) → length cs ≡ 65536 → first < 65536 → k < 65536
-    → ((slot : ℕ) → slot < 65536 → get_or cs slot 0 ≡ get_or start slot 0 + is_among first k slot)
-    → (slot : ℕ) → slot < 65536
-    → get_or (set cs ((first + k) % 65536) (get_or cs ((first + k) % 65536) 0 + 1)) slot 0
-    ≡ get_or start slot 0 + is_among first (k + 1) slot
-up_more cs start first k size p q so_far slot within =
-    let place = (first + k) % 65536 in
-    elim (cases_eq slot place) [
+pub up_more : (cs start : List ℕ) (first k : ℕ) → k < length cs → first ≤ k
+    → ((slot : ℕ) → slot < length start → get_or cs slot 0 ≡ get_or start slot 0 + is_among first k slot)
+    → (slot : ℕ) → slot < length start
+    → get_or (set cs k (get_or cs k 0 + 1)) slot 0 ≡ get_or start slot 0 + is_among first (k + 1) slot
+up_more cs start first k lt p so_far slot within =
+    elim (cases_eq slot k) [
       | inl e ↦
-          let t = first_time first k slot p q e in
-          let put = get_or-set_at cs place slot (get_or cs place 0 + 1) 0 e (omega arith) in
-          let same : get_or cs place 0 ≡ get_or cs slot 0 = ap (λ i. get_or cs i 0) (sym e) in
-          omega (arith, t, put, same, so_far slot within)
+          let t = next_one first k p in
+          let put = get_or-set_at cs k slot (get_or cs k 0 + 1) 0 e (omega arith) in
+          let same : get_or cs k 0 ≡ get_or cs slot 0 = ap (λ i. get_or cs i 0) (sym e) in
+          let before : is_among first k slot ≡ 0 = ap (is_among first k) e ∙ t.0 in
+          let now : is_among first (k + 1) slot ≡ 1 = ap (is_among first (k + 1)) e ∙ t.1 in
+          omega (arith, before, now, put, same, so_far slot within)
       | inr n ↦
-          let kept = get_or-set_other cs place slot (get_or cs place 0 + 1) 0 n in
-          omega (arith, kept, elsewhere first k slot p q within n, so_far slot within)
+          let kept = get_or-set_other cs k slot (get_or cs k 0 + 1) 0 n in
+          omega (arith, kept, elsewhere first k slot n, so_far slot within)
     ]
 
 -- one more slot is counted down
-pub down_more : (cs start : List ℕ) (first k : ℕ) → length cs ≡ 65536 → first < 65536 → k < 65536
-    → 0 < get_or cs ((first + k) % 65536) 0
-    → ((slot : ℕ) → slot < 65536 → get_or cs slot 0 + is_among first k slot ≡ get_or start slot 0)
-    → (slot : ℕ) → slot < 65536
-    → get_or (set cs ((first + k) % 65536) (get_or cs ((first + k) % 65536) 0 - 1)) slot 0 + is_among first (k + 1) slot
-    ≡ get_or start slot 0
-down_more cs start first k size p q some so_far slot within =
-    let place = (first + k) % 65536 in
-    elim (cases_eq slot place) [
+pub down_more : (cs start : List ℕ) (first k behind : ℕ) → k < length cs → length cs ≡ length start → first ≤ k
+    → k < behind → ((slot : ℕ) → slot < length start → is_among first behind slot ≤ get_or start slot 0)
+    → ((slot : ℕ) → slot < length start → get_or cs slot 0 + is_among first k slot ≡ get_or start slot 0)
+    → (slot : ℕ) → slot < length start
+    → get_or (set cs k (get_or cs k 0 - 1)) slot 0 + is_among first (k + 1) slot ≡ get_or start slot 0
+down_more cs start first k behind lt size p q enough so_far slot within =
+    elim (cases_eq slot k) [
       | inl e ↦
-          let t = first_time first k slot p q e in
-          let put = get_or-set_at cs place slot (get_or cs place 0 - 1) 0 e (omega arith) in
-          let same : get_or cs place 0 ≡ get_or cs slot 0 = ap (λ i. get_or cs i 0) (sym e) in
-          omega (arith, t, put, same, some, so_far slot within)
+          let t = next_one first k p in
+          let put = get_or-set_at cs k slot (get_or cs k 0 - 1) 0 e (omega arith) in
+          let same : get_or cs k 0 ≡ get_or cs slot 0 = ap (λ i. get_or cs i 0) (sym e) in
+          let before : is_among first k slot ≡ 0 = ap (is_among first k) e ∙ t.0 in
+          let now : is_among first (k + 1) slot ≡ 1 = ap (is_among first (k + 1)) e ∙ t.1 in
+          let some : is_among first behind slot ≡ 1 = among_in first behind slot (omega arith) (omega arith) in
+          omega (arith, before, now, put, same, some, enough slot within, so_far slot within)
       | inr n ↦
-          let kept = get_or-set_other cs place slot (get_or cs place 0 - 1) 0 n in
-          omega (arith, kept, elsewhere first k slot p q within n, so_far slot within)
+          let kept = get_or-set_other cs k slot (get_or cs k 0 - 1) 0 n in
+          omega (arith, kept, elsewhere first k slot n, so_far slot within)
     ]
 
 -- a slot that is yet to be counted down has a count
-pub still_some : (cs start : List ℕ) (first k number : ℕ) → first < 65536 → k < number → number ≤ 65536
-    → ((slot : ℕ) → slot < 65536 → is_among first number slot ≤ get_or start slot 0)
-    → ((slot : ℕ) → slot < 65536 → get_or cs slot 0 + is_among first k slot ≡ get_or start slot 0)
-    → 0 < get_or cs ((first + k) % 65536) 0
-still_some cs start first k number p q r enough so_far =
-    let place = (first + k) % 65536 in
-    let d = there first k place p (omega arith) refl in
-    let one : is_among first number place ≡ 1 = ap (λ b. one_if b) (lt-ltb _ number (omega (arith, d))) in
-    let t = first_time first k place p (omega arith) refl in
-    omega (arith, one, t, enough place (omega arith), so_far place (omega arith))
+pub still_some : (cs start : List ℕ) (first k behind : ℕ) → k < length start → first ≤ k → k < behind
+    → ((slot : ℕ) → slot < length start → is_among first behind slot ≤ get_or start slot 0)
+    → ((slot : ℕ) → slot < length start → get_or cs slot 0 + is_among first k slot ≡ get_or start slot 0)
+    → 0 < get_or cs k 0
+still_some cs start first k behind lt p q enough so_far =
+    let t = next_one first k p in
+    omega (arith, t, among_in first behind k p q, enough k lt, so_far k lt)
+
+-- where some counts in a row come to nothing, each of them is nothing
+pub none_summed : (cs : List ℕ) (first behind i : ℕ) → first ≤ behind → behind ≤ length cs
+    → sum (take (behind - first) (drop first cs)) ≡ 0 → first ≤ i → i < behind → get_or cs i 0 ≡ 0
+none_summed cs first behind i order room none low high =
+    let part : List ℕ = take (behind - first) (drop first cs) in
+    let size : length part ≡ behind - first =
+    length-take-le (behind - first) (drop first cs) (omega (arith, length-drop first cs)) in
+    let one = get_or-le-sum_by (λ (x : ℕ). x) part (i - first) 0 (omega (arith, size)) in
+    let read : get_or part (i - first) 0 ≡ get_or cs (first + (i - first)) 0 =
+    get_or-take (behind - first) (drop first cs) (i - first) 0 (omega arith) ∙ get_or-drop first cs (i - first) 0 in
+    let same : get_or cs (first + (i - first)) 0 ≡ get_or cs i 0 = ap (λ j. get_or cs j 0) (omega arith) in
+    omega (arith, one, read, same, none)

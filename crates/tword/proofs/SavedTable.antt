@@ -1,11 +1,11 @@
 -- The list of saved workspaces: what is left of it where one comes or goes.
 use Rattle.std.proofs.Common.{◌≡◌, ℕ, ◌+◌, ◌<◌, ◌≤◌, Bool, true, false, cond, eqb, ltb, ◌||◌, ◌&&◌, not, ◌++◌, inl, inr}
-use Rattle.std.proofs.Common.{List, [], ◌∷◌, length, get_or, reverse, replicate, refl, sym, ap, ◌∙◌, arith, eq-eqb}
+use Rattle.std.proofs.Common.{List, [], ◌∷◌, length, get_or, reverse, refl, sym, ap, ◌∙◌, arith, eq-eqb}
 use Rattle.std.specs.Prelude.{Option, Some, None, is_some, IfSome}
 use Rattle.std.proofs.lemmas.Bool.{le-ltb, lt-ltb, ltb-false, ne_eqb, cases_eq, false≢true, and_from}
 use Rattle.std.proofs.lemmas.List.Folds.{list_any_none, list_any_at}
 use Rattle.std.proofs.lemmas.List.Sums.{sum_by-cons, sum_by_push, sum_by-swap_remove}
-use Rattle.std.proofs.lemmas.List.{get_or_read, length_push, length-reverse, reverse-reverse, length-replicate}
+use Rattle.std.proofs.lemmas.List.{get_or_read, length_push, length-reverse, reverse-reverse}
 use Rattle.std.proofs.lemmas.List.Sorted.{IsPermutation-reverse, list_any-IsPermutation, sum_by-IsPermutation}
 use Rattle.std.specs.List.{list_any, sum_by, count_by, swap_remove}
 use Rattle.tword.specs.Words.{word_below}
@@ -49,12 +49,11 @@ count_absent ws w none =
     omega (arith, low)
 
 -- the list with one more workspace
-pub once_push : (ws places places' : List ℕ) (w : ℕ) → AreOnce ws places
+pub once_push : (ws : List ℕ) (w : ℕ) → AreOnce ws
     → list_any (λ v. overlap (saved_words w) (saved_words v)) (reverse ws) ≡ false → length ws < 512
-    → length places' ≡ 65536 → AreOnce (ws ++ w ∷ []) places'
-once_push ws places places' w is apart room hints =
+    → AreOnce (ws ++ w ∷ [])
+once_push ws w is apart room =
     record {
-      hints = hints;
       once = λ v.
           let total = sum_by_push (λ x. one_if (eqb x v)) ws w in
           let before = is.once v in
@@ -73,11 +72,10 @@ once_push ws places places' w is apart room hints =
     none = absent ws w (sym (any-reverse (λ v. overlap (saved_words w) (saved_words v)) ws) ∙ apart)
 
 -- the list with one workspace less
-pub once_swap_remove : (ws places places' : List ℕ) (i d : ℕ) → AreOnce ws places → i < length ws
-    → length places' ≡ 65536 → length (swap_remove ws i d) + 1 ≡ length ws → AreOnce (swap_remove ws i d) places'
-once_swap_remove ws places places' i d is lt hints shorter =
+pub once_swap_remove : (ws : List ℕ) (i d : ℕ) → AreOnce ws → i < length ws
+    → length (swap_remove ws i d) + 1 ≡ length ws → AreOnce (swap_remove ws i d)
+once_swap_remove ws i d is lt shorter =
     record {
-      hints = hints;
       once = λ v. let total = sum_by-swap_remove (λ x. one_if (eqb x v)) ws i d lt in omega (arith, total, is.once v);
       few = omega (arith, is.few);
     }
@@ -117,9 +115,8 @@ is_placed ws saved i w e lt at =
     (omega (arith, lt, size), rw back at)
 
 -- no workspaces
-pub once_none : (ws places : List ℕ) → ws ≡ [] → places ≡ replicate 65536 0 → AreOnce ws places
-once_none ws places e f = rw (e, f) (record {
-  hints = length-replicate {A = ℕ} 65536 0;
+pub once_none : (ws : List ℕ) → ws ≡ [] → AreOnce ws
+once_none ws e = rw e (record {
   once = λ w. omega arith;
   few = omega arith;
 })

@@ -1,63 +1,86 @@
--- How many claims have a word of each slot of a table.
+-- How many claims have each word of a memory.
 -- Source: own choice, what the code keeps beside the claims.
 use Rattle.std.specs.Prelude.{◌≡◌, ℕ, ◌+◌, ◌-◌, ◌/◌, ◌%◌, ◌<◌, ◌≤◌, ◌==◌, List, Option, Some, None, length, slice_index}
-use Rattle.std.specs.Prelude.{reverse, min, nat_lt, if◌then◌else◌}
+use Rattle.std.specs.Prelude.{reverse, nat_lt, if◌then◌else◌}
 use Rattle.std.specs.List.{sum_by, count_by}
 use Rattle.tword.specs.declared.span.Span.{Span}
 use Rattle.tword.specs.Claims.{saved_words}
 
--- the slot of the word at an address
+-- the number of the word at a slot of the table: words are numbered from address 0 on, and slot 0 has the lowest one of
+-- a memory, at #80000000
+abbrev pub word_at : ℕ → ℕ
+word_at slot = 536870912 + slot
+
+-- the slot of the word at an address: where that lies below #80000000, one that no table has
 abbrev pub slot_of : ℕ → ℕ
-slot_of address = address / 4 % 65536
+slot_of address = (address + 2147483648) % 4294967296 / 4
 
--- how many slots the words have that a span has a byte of: no slot is counted twice
-abbrev pub slots_of : Span → ℕ
-slots_of span = if span.size == 0 then 0 else min 65536 ((span.start + span.size + 3) / 4 - span.start / 4)
+-- 1 where a number is among those from the first one up to that before behind, else 0
+abbrev pub is_among : (first behind number : ℕ) → ℕ
+is_among first behind number = if nat_lt number first then 0 else if nat_lt number behind then 1 else 0
 
--- 1 where the slot is one of so many from the first on, the last one before slot 0; else 0
-abbrev pub is_among : (first count slot : ℕ) → ℕ
-is_among first count slot = if nat_lt ((slot + 65536 - first) % 65536) count then 1 else 0
+-- the number of the word behind the last one that a span has a byte of; 0 where it has no byte
+abbrev pub behind_words : Span → ℕ
+behind_words span = if span.size == 0 then 0 else (span.start + span.size + 3) / 4
 
--- 1 where the span has a byte of a word of the slot, else 0
-abbrev pub has_slot : ℕ → Span → ℕ
-has_slot slot span = is_among (slot_of span.start) (slots_of span) slot
+-- 1 where the span has a byte of the word of this number, else 0
+abbrev pub has_word : ℕ → Span → ℕ
+has_word word span = is_among (span.start / 4) (behind_words span) word
 
 -- the same of a claim
-abbrev pub claims_slot : ℕ → Option Span → ℕ
-claims_slot slot None = 0
-claims_slot slot (Some span) = has_slot slot span
+abbrev pub claims_word : ℕ → Option Span → ℕ
+claims_word word None = 0
+claims_word word (Some span) = has_word word span
 
 -- the same of the saved words of a workspace
-abbrev pub saves_slot : ℕ → ℕ → ℕ
-saves_slot slot workspace = has_slot slot (saved_words workspace)
+abbrev pub saves_word : ℕ → ℕ → ℕ
+saves_word word workspace = has_word word (saved_words workspace)
 
--- how many claims of links have a word of a slot
+-- how many claims of links have a word
 abbrev pub claims_in : ℕ → List (Option Span) → ℕ
-claims_in slot claims = sum_by (claims_slot slot) claims
+claims_in word claims = sum_by (claims_word word) claims
 
--- how many workspaces have a saved word of a slot
+-- how many workspaces have it as a saved word
 abbrev pub saved_in : ℕ → List ℕ → ℕ
-saved_in slot workspaces = sum_by (saves_slot slot) workspaces
+saved_in word workspaces = sum_by (saves_word word) workspaces
 
--- the slots of all words that a span has a byte of are empty
+-- the table has the word of this number, with this count
+pub record Counts (counts : List ℕ) (word count : ℕ) : Type 0 where
+  pub above : 536870912 ≤ word
+  pub below : word < word_at (length counts)
+  pub is : slice_index counts (word - 536870912) ≡ count
+
+-- and no claim has it
+abbrev pub IsEmpty : List ℕ → ℕ → Type 0
+IsEmpty counts word = Counts counts word 0
+
+-- it counts nothing at each word that a span has a byte of
 abbrev pub AreEmpty : List ℕ → Span → Type 0
-AreEmpty counts span =
-    (k : ℕ) → span.start / 4 ≤ k → k < (span.start + span.size + 3) / 4 → slice_index counts (k % 65536) ≡ 0
+AreEmpty counts span = (k : ℕ) → span.start / 4 ≤ k → k < (span.start + span.size + 3) / 4 → IsEmpty counts k
 
 -- the table counts the claims of four inputs, of four outputs and of 512 workspaces at most
 pub record IsTally (ins outs : List (Option Span)) (workspaces counts : List ℕ) : Type 0 where
-  pub counted : (slot : ℕ) → slot < 65536
-      → slice_index counts slot ≡ claims_in slot ins + claims_in slot outs + saved_in slot workspaces
+  pub counted : (slot : ℕ) → slot < length counts → slice_index counts slot
+      ≡ claims_in (word_at slot) ins + claims_in (word_at slot) outs + saved_in (word_at slot) workspaces
   pub inputs : length ins ≡ 4
   pub outputs : length outs ≡ 4
   pub saved : length workspaces ≤ 512
+
+-- no count is the largest one
+abbrev pub HasRoom : List ℕ → Type 0
+HasRoom counts = (slot : ℕ) → slot < length counts → slice_index counts slot < 65535
+
+-- the counts where one thing is claimed in the place of another
+pub record IsExchanged (before claim : Option Span) (old new : List ℕ) : Type 0 where
+  pub counted : (slot : ℕ) → slot < length old → slice_index new slot + claims_word (word_at slot) before
+      ≡ slice_index old slot + claims_word (word_at slot) claim
+  pub size : length new ≡ length old
 
 -- the workspace is the one at this place, counted from the one that came first
 abbrev pub IsPlaceIn : List ℕ → ℕ → ℕ → Type 0
 IsPlaceIn saved i workspace = (i < length saved) × (slice_index (reverse saved) i ≡ workspace)
 
--- each workspace stands once, and there is a hint for each slot
-pub record AreOnce (workspaces places : List ℕ) : Type 0 where
-  pub hints : length places ≡ 65536
+-- each workspace stands once
+pub record AreOnce (workspaces : List ℕ) : Type 0 where
   pub once : (w : ℕ) → count_by (λ v. v == w) workspaces ≤ 1
   pub few : length workspaces ≤ 512

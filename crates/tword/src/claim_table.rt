@@ -1,40 +1,42 @@
-//! How many claims have words of each slot of a table.
+//! How many claims have each word of a memory.
 
-ghost use Rattle.std.specs.Prelude.{◌≡◌, ◌+◌, ◌<◌, ◌≤◌, IfOk, ℕ, length, slice_index};
-ghost use Rattle.std.specs.Prelude.{replicate, true};
-ghost use Rattle.tword.specs.Slots.{slot_of, slots_of, is_among, has_slot, claims_slot, AreEmpty};
+ghost use Rattle.std.specs.Prelude.{◌≡◌, ◌+◌, ◌-◌, ◌%◌, ◌/◌, ◌*◌, ◌<◌, ◌≤◌, IfOk, IfSome, ℕ, length, slice_index};
+ghost use Rattle.std.specs.Prelude.{None, Some, replicate, sum, true};
+ghost use Rattle.tword.specs.Slots.{word_at, slot_of, is_among, has_word, claims_word};
+ghost use Rattle.tword.specs.Slots.{AreEmpty, Counts, HasRoom, IsEmpty, IsExchanged};
 
 use crate::span::Span;
 use std::alloc::{AllocError, Global};
 use std::marker::Model;
 
-/// How many slots the words of the address space share: a memory of 256 kilobytes has one for each of its words.
-pub const SLOTS: usize = 65_536;
+/// The number of the word at #80000000, the lowest of a memory. Words are numbered from address 0 on.
+const LOWEST: u64 = 1 << 29;
 
-/// For each slot, how many claims have a byte of a word of it: a touch of a word whose slot has none needs no further
-/// look. Contracts see the counts by slot.
+/// For each word of a memory, how many claims have a byte of it: a touch of a word that none has needs no further look.
+/// Words that are not in the table are not counted. Contracts see the counts by slot, the lowest word at slot 0.
 #[derive(Drop)]
 pub struct ClaimTable {
     counts: Vec<u16>,
 }
 
 impl Model for ClaimTable {
-    ghost use Rattle.std.specs.Prelude.{◌≡◌, ℕ, List, length};
+    ghost use Rattle.std.specs.Prelude.{◌≤◌, ℕ, List, length};
 
     ghost Value = { List ℕ };
 
     ghost view = { λ t. t.counts.items };
 
-    ghost invariant = { λ t. length t.counts.items ≡ 65536 };
+    ghost invariant = { λ t. length t.counts.items ≤ 536870912 };
 }
 
 impl ClaimTable {
-    /// No claims.
-    pub fn new(alloc: Global) -> Result<ClaimTable, AllocError>
-        ensures { IfOk result (λ t. t ≡ replicate 65536 0) }
+    /// No claims, for a memory of so many bytes: none has more than there are addresses from #80000000 on.
+    pub fn new(alloc: Global, size: u32) -> Result<ClaimTable, AllocError>
+        ensures { IfOk result (λ t. (slot : ℕ) → slot < length t → slice_index t slot ≡ 0) }
     {
+        let words = (size / 4).min(1 << 29);
         Ok(ClaimTable {
-            counts: vec![in alloc; 0; SLOTS]?,
+            counts: vec![in alloc; 0; words as usize]?,
         })
     }
 
@@ -47,56 +49,79 @@ impl ClaimTable {
         })
     }
 
-    /// Whether the span lies within one word, whose slot is empty: it has no byte in common with a claim then.
+    /// Whether the span lies within one word, which is counted and which no claim has.
     #[inline(always)]
     pub fn is_clear_of(&self, span: &Span) -> bool
         ensures { result ≡ true → AreEmpty self.now span.now }
     {
         let address = span.start.get();
-        u64::from(address % 4) + u64::from(span.size) <= 4 && self.counts[slot_of(address)] == 0
+        u64::from(address % 4) + u64::from(span.size) <= 4
+            && matches!(self.counts.get(slot_of(address)), Some(0))
     }
 
-    /// How many claims have a word of the slot.
-    #[inline]
-    pub fn count(&self, slot: usize) -> u16
-        requires { slot < 65536 }
-        ensures { result ≡ slice_index self.now slot }
+    /// Whether words in a row, 65,536 at most, are all counted, and no claim has one of them.
+    pub fn are_empty(&self, first: u64, behind: u64) -> bool
+        ensures { result ≡ true → (k : ℕ) → first ≤ k → k < behind → IsEmpty self.now k }
     {
-        self.counts[slot]
+        if behind <= first {
+            return true;
+        }
+        if first < LOWEST || behind - LOWEST > self.counts.len() as u64 || behind - first > 65_536 {
+            return false;
+        }
+        sum_of(&self.counts[(first - LOWEST) as usize..(behind - LOWEST) as usize]) == 0
+    }
+
+    /// How many claims have the word of this number, if it is counted.
+    #[inline]
+    pub fn count(&self, word: u64) -> Option<u16>
+        ensures { IfSome result (λ count. Counts self.now word count) }
+    {
+        if word < LOWEST {
+            return None;
+        }
+        self.counts.get((word - LOWEST) as usize).copied()
     }
 
     /// One more claim, of a span.
+    #[inline]
     pub fn raise(&mut self, span: &Span)
-        requires room { (slot : ℕ) → slot < 65536 → slice_index self.old slot < 65535 }
-        ensures { (slot : ℕ) → slot < 65536
-            → slice_index self.new slot ≡ slice_index self.old slot + has_slot slot span.now }
+        requires room { HasRoom self.old }
+        ensures { IsExchanged None (Some span.now) self.old self.new }
     {
-        count_up(
-            self.counts.as_mut_slice(),
-            slot_of(span.start.get()),
-            slots_of(span),
-        );
+        let counts = self.counts.as_mut_slice();
+        let first = slot_of(span.start.get());
+        if has_three_in_a_row(span, first, counts.len()) {
+            count_up(counts, first, first + 3);
+        } else {
+            let (first, behind) = slots_of(span, counts.len());
+            count_up(counts, first, behind);
+        }
     }
 
     /// One claim less, of a span.
+    #[inline]
     pub fn lower(&mut self, span: &Span)
-        requires some { (slot : ℕ) → slot < 65536 → has_slot slot span.now ≤ slice_index self.old slot }
-        ensures { (slot : ℕ) → slot < 65536
-            → slice_index self.new slot + has_slot slot span.now ≡ slice_index self.old slot }
+        requires some { (slot : ℕ) → slot < length self.old
+            → has_word (word_at slot) span.now ≤ slice_index self.old slot }
+        ensures { IsExchanged (Some span.now) None self.old self.new }
     {
-        count_down(
-            self.counts.as_mut_slice(),
-            slot_of(span.start.get()),
-            slots_of(span),
-        );
+        let counts = self.counts.as_mut_slice();
+        let first = slot_of(span.start.get());
+        if has_three_in_a_row(span, first, counts.len()) {
+            count_down(counts, first, first + 3);
+        } else {
+            let (first, behind) = slots_of(span, counts.len());
+            count_down(counts, first, behind);
+        }
     }
 
     /// What a link claims comes in the place of what it claimed before.
     pub fn exchange(&mut self, before: &Option<Span>, claim: &Option<Span>)
-        requires some { (slot : ℕ) → slot < 65536 → claims_slot slot before.now ≤ slice_index self.old slot }
-        requires room { (slot : ℕ) → slot < 65536 → slice_index self.old slot < 65535 }
-        ensures { (slot : ℕ) → slot < 65536 → slice_index self.new slot + claims_slot slot before.now
-            ≡ slice_index self.old slot + claims_slot slot claim.now }
+        requires some { (slot : ℕ) → slot < length self.old
+            → claims_word (word_at slot) before.now ≤ slice_index self.old slot }
+        requires room { HasRoom self.old }
+        ensures { IsExchanged before.now claim.now self.old self.new }
     {
         if let Some(span) = before {
             self.lower(span);
@@ -107,68 +132,90 @@ impl ClaimTable {
     }
 }
 
-/// The slot of the word at an address.
+/// The slot of the word at an address; where that lies below #80000000, one that no table has.
 #[inline]
-pub fn slot_of(address: u32) -> usize
-    ensures is { result ≡ slot_of address }
-    ensures below { result < 65536 }
+fn slot_of(address: u32) -> usize
+    ensures { result ≡ slot_of address }
 {
-    (address / 4 % 65_536) as usize
+    (address.wrapping_sub(0x8000_0000) / 4) as usize
 }
 
-/// How many slots the words have that a span has a byte of.
+/// The sum of some counts, of all of them and without a look at each, so that several are added at a time.
+fn sum_of(counts: &[u16]) -> u32
+    requires { length counts.now ≤ 65536 }
+    ensures { result ≡ sum counts.now }
+{
+    counts.iter().map(|count| u32::from(*count)).sum()
+}
+
+/// The slots of the words that a span has a byte of, in a table of so many: the first, and the one behind the last.
 #[inline]
-fn slots_of(span: &Span) -> usize
-    ensures is { result ≡ slots_of span.now }
-    ensures most { result ≤ 65536 }
+fn slots_of(span: &Span, slots: usize) -> (usize, usize)
+    ensures order { result.0 ≤ result.1 }
+    ensures within { result.1 ≤ slots }
+    ensures are { (slot : ℕ) → slot < slots → has_word (word_at slot) span.now ≡ is_among result.0 result.1 slot }
 {
     if span.size == 0 {
-        return 0;
+        return (0, 0);
     }
     let (start, end) = span.bounds();
-    SLOTS.min(((end + 3) / 4 - start / 4) as usize)
+    let first = (start / 4).saturating_sub(LOWEST) as usize;
+    let behind = ((end + 3) / 4).saturating_sub(LOWEST) as usize;
+    (slots.min(first), slots.min(behind))
 }
 
-/// 1 where a claim has a byte of a word of the slot, else 0.
+/// 1 where a claim has a byte of the word of this number, else 0.
 #[inline]
-pub fn claims_slot(claim: &Option<Span>, slot: usize) -> u16
-    requires { slot < 65536 }
-    ensures is { result ≡ claims_slot slot claim.now }
+pub fn claims_word(claim: &Option<Span>, word: u64) -> u16
+    ensures is { result ≡ claims_word word claim.now }
     ensures one { result ≤ 1 }
 {
     match claim {
-        Some(span) => {
-            let first = slot_of(span.start.get());
-            u16::from((slot + SLOTS - first) % SLOTS < slots_of(span))
+        Some(span) if span.size != 0 => {
+            let (start, end) = span.bounds();
+            u16::from(start / 4 <= word && word < (end + 3) / 4)
         }
-        None => 0,
+        _ => 0,
     }
 }
 
-/// One more claim in each of so many slots from the first on, the last one before slot 0.
-fn count_up(counts: &mut [u16], first: usize, number: usize)
-    requires slots { length counts.old ≡ 65536 }
-    requires first { first < 65536 }
-    requires number { number ≤ 65536 }
-    requires room { (slot : ℕ) → slot < 65536 → slice_index counts.old slot < 65535 }
-    ensures { (slot : ℕ) → slot < 65536
-        → slice_index counts.new slot ≡ slice_index counts.old slot + is_among first number slot }
+/// Whether a span is three whole words, as those of a workspace are, which have slots from the first on.
+#[inline]
+fn has_three_in_a_row(span: &Span, first: usize, slots: usize) -> bool
+    requires slots { slots ≤ 536870912 }
+    requires first { first ≡ slot_of span.now.start }
+    ensures within { result ≡ true → first + 3 ≤ slots }
+    ensures are { result ≡ true → (slot : ℕ) → slot < slots
+        → has_word (word_at slot) span.now ≡ is_among first (first + 3) slot }
 {
-    for k in 0..number {
-        counts[(first + k) % SLOTS] += 1;
+    span.size == 12 && span.start.get() % 4 == 0 && first + 3 <= slots
+}
+
+/// One more claim in each slot from the first on, up to the one before `behind`.
+// In line, so that three are counted without a loop.
+#[inline(always)]
+fn count_up(counts: &mut [u16], first: usize, behind: usize)
+    requires order { first ≤ behind }
+    requires within { behind ≤ length counts.old }
+    requires room { HasRoom counts.old }
+    ensures { (slot : ℕ) → slot < length counts.old
+        → slice_index counts.new slot ≡ slice_index counts.old slot + is_among first behind slot }
+{
+    for slot in first..behind {
+        counts[slot] += 1;
     }
 }
 
-/// One claim less in each of so many slots from the first on, the last one before slot 0.
-fn count_down(counts: &mut [u16], first: usize, number: usize)
-    requires slots { length counts.old ≡ 65536 }
-    requires first { first < 65536 }
-    requires number { number ≤ 65536 }
-    requires some { (slot : ℕ) → slot < 65536 → is_among first number slot ≤ slice_index counts.old slot }
-    ensures { (slot : ℕ) → slot < 65536
-        → slice_index counts.new slot + is_among first number slot ≡ slice_index counts.old slot }
+/// One claim less in each slot from the first on, up to the one before `behind`.
+#[inline(always)]
+fn count_down(counts: &mut [u16], first: usize, behind: usize)
+    requires order { first ≤ behind }
+    requires within { behind ≤ length counts.old }
+    requires some { (slot : ℕ) → slot < length counts.old → is_among first behind slot ≤ slice_index counts.old slot }
+    ensures { (slot : ℕ) → slot < length counts.old
+        → slice_index counts.new slot + is_among first behind slot ≡ slice_index counts.old slot }
 {
-    for k in 0..number {
-        counts[(first + k) % SLOTS] -= 1;
+    for slot in first..behind {
+        counts[slot] -= 1;
     }
 }

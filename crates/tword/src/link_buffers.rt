@@ -7,7 +7,7 @@ ghost use Rattle.tword.specs.Claims.{overlaps_claim};
 ghost use Rattle.tword.specs.Hulls.{IsWithin, AreWithin, bounds_of, meets};
 ghost use Rattle.tword.specs.Slots.{claims_in};
 
-use crate::claim_table::claims_slot;
+use crate::claim_table::claims_word;
 use crate::span::Span;
 use std::marker::Model;
 
@@ -78,16 +78,15 @@ fn hull(claimed: &[Option<Span>]) -> (u64, u64)
     bounds
 }
 
-/// How many of some claims have a word of the slot.
-fn claims_in(claimed: &[Option<Span>], slot: usize) -> u16
-    requires slot { slot < 65536 }
-    requires four { length claimed.now ≡ 4 }
-    ensures is { result ≡ claims_in slot claimed.now }
+/// How many of some claims have the word of this number.
+fn claims_in(claimed: &[Option<Span>], word: u64) -> u16
+    requires { length claimed.now ≡ 4 }
+    ensures is { result ≡ claims_in word claimed.now }
     ensures few { result ≤ 4 }
 {
     let mut count = 0;
     for claim in claimed {
-        count += claims_slot(claim, slot);
+        count += claims_word(claim, word);
     }
     count
 }
@@ -147,13 +146,12 @@ impl LinkBuffers {
         start < end && any_meets(&self.bounds, start, end)
     }
 
-    /// How many of them have a word of the slot.
-    pub fn count(&self, slot: usize) -> u16
-        requires { slot < 65536 }
-        ensures is { result ≡ claims_in slot self.now }
+    /// How many of them have the word of this number.
+    pub fn count(&self, word: u64) -> u16
+        ensures is { result ≡ claims_in word self.now }
         ensures few { result ≤ 4 }
     {
-        claims_in(&self.claimed, slot)
+        claims_in(&self.claimed, word)
     }
 
     /// The link claims a buffer. What it claimed before is handed back.

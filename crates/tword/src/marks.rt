@@ -11,22 +11,22 @@ ghost use Rattle.tword.specs.Touches.{Reads, Writes, claim_break};
 ghost use Rattle.tword.specs.Words.{word_below};
 
 use crate::breaks::{Break, MemoryFault};
-use crate::claim_table::{ClaimTable, slot_of};
+use crate::claim_table::ClaimTable;
 use crate::link_buffers::LinkBuffers;
-use crate::saved::{Saved, saved_words_of, word_below, words_below};
+use crate::saved::{Saved, saved_words_of, words_below};
 use crate::span::Span;
 use crate::word::Word;
 use std::alloc::{AllocError, Global};
 use std::marker::Model;
 
-/// The most words of a touch that are looked up one by one. Where fewer workspaces are saved than an eighth of them,
-/// these are gone over instead.
-const FEW: u64 = 256;
+/// The most words of a touch that are looked up in the table. Where fewer workspaces are saved than a sixteenth of
+/// them, these are gone over instead.
+const FEW: u64 = 4_096;
 
 /// The bytes of a memory that are claimed: the buffers of pending link messages, and the saved words of processes
 /// that are queued or wait.
 ///
-/// `table` has for each slot how many of these claims have a word of it, so that most touches look at one count.
+/// `table` has for each word of the memory how many of these claims have it, so that most touches look at one count.
 #[derive(Drop)]
 pub struct Marks {
     inputs: LinkBuffers,
@@ -47,19 +47,20 @@ impl Model for Marks {
 }
 
 impl Marks {
-    /// No claims, and room for those of four inputs, four outputs and 512 workspaces: no other call takes memory.
+    /// No claims, and room for those of four inputs, four outputs and 512 workspaces: no other call takes memory. A
+    /// claim in a memory of so many bytes is found in constant time; for another one, all are gone over.
     ///
     /// # Errors
     /// `OutOfMemory` where the allocator refuses.
-    pub fn new(alloc: Global) -> Result<Marks, MemoryFault>
+    pub fn new(alloc: Global, size: u32) -> Result<Marks, MemoryFault>
         ensures none { IfOk result (λ m. m ≡ no_claims) }
         ensures fault { IfErr result (λ fault. fault ≡ MemoryFault.OutOfMemory) }
     {
         Ok(Marks {
             inputs: LinkBuffers::new(),
             outputs: LinkBuffers::new(),
-            saved: Saved::new(alloc)?,
-            table: ClaimTable::new(alloc)?,
+            saved: Saved::new(alloc, size)?,
+            table: ClaimTable::new(alloc, size)?,
         })
     }
 
@@ -85,8 +86,8 @@ impl Marks {
         self.place_of(workspace).is_some()
     }
 
-    /// Where a workspace stands among those whose words are saved. Only where another one has taken its hint, and the
-    /// slot of its highest saved word has some, is the list searched.
+    /// Where a workspace stands among those whose words are saved. Only where its hint tells of another one, and its
+    /// highest saved word is one of some workspace or is not counted, is the list searched.
     fn place_of(&self, workspace: Word) -> Option<usize>
         ensures found { IfSome result (λ i. IsPlaceIn self.now.saved i workspace) }
         ensures none { result ≡ None → has_saved self.now workspace ≡ false }
@@ -94,28 +95,39 @@ impl Marks {
         if let Some(place) = self.saved.noted(workspace) {
             return Some(place);
         }
-        if self.saves_none_in(slot_of(word_below(workspace, 1))) {
+        if self.saves_none_in(u64::from(words_below(workspace).get() / 4) + 2) {
             return None;
         }
         self.saved.position(workspace)
     }
 
-    /// Whether no saved word is one of the slot: all that is counted there are claims of links.
+    /// Whether the counts show that the word of this number is no saved one: all that is counted there are claims of
+    /// links.
     #[inline]
-    fn saves_none_in(&self, slot: usize) -> bool
-        requires { slot < 65536 }
-        ensures { result ≡ (saved_in slot self.now.saved == 0) }
+    fn saves_none_in(&self, word: u64) -> bool
+        ensures { result ≡ true → saved_in word self.now.saved ≡ 0 }
     {
-        let count = self.table.count(slot);
-        count == 0 || count == self.inputs.count(slot) + self.outputs.count(slot)
+        match self.table.count(word) {
+            Some(count) => {
+                count == 0 || count == self.inputs.count(word) + self.outputs.count(word)
+            }
+            None => false,
+        }
     }
 
-    /// Whether no saved word is one of the slots of the words from the first up to that before `behind`.
+    /// Whether they show that no saved word is one of the words from the first up to that before `behind`.
     fn saves_none_from(&self, first: u64, behind: u64) -> bool
-        ensures { result ≡ true → (k : ℕ) → first ≤ k → k < behind → saved_in (k % 65536) self.now.saved ≡ 0 }
+        ensures { result ≡ true → (k : ℕ) → first ≤ k → k < behind → saved_in k self.now.saved ≡ 0 }
+    {
+        self.table.are_empty(first, behind) || self.saves_none_in_each(first, behind)
+    }
+
+    /// The same, by a look at each of the words.
+    fn saves_none_in_each(&self, first: u64, behind: u64) -> bool
+        ensures { result ≡ true → (k : ℕ) → first ≤ k → k < behind → saved_in k self.now.saved ≡ 0 }
     {
         for word in first..behind {
-            if !self.saves_none_in((word % 65_536) as usize) {
+            if !self.saves_none_in(word) {
                 return false;
             }
         }
@@ -131,7 +143,7 @@ impl Marks {
         let behind = (end + 3) / 4;
         let words = behind - first;
         if words <= FEW
-            && words / 8 <= self.saved.len() as u64
+            && words / 16 <= self.saved.len() as u64
             && self.saves_none_from(first, behind)
         {
             return false;

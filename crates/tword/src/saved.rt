@@ -4,10 +4,9 @@ ghost use Rattle.std.specs.Prelude.{◌≡◌, ◌+◌, ◌<◌, ◌≤◌, ◌=
 ghost use Rattle.std.specs.Prelude.{true, false, None, vec_len, slice_index, reverse, ℕ, []};
 ghost use Rattle.std.specs.List.{list_any};
 ghost use Rattle.tword.specs.Claims.{overlap, saved_words};
-ghost use Rattle.tword.specs.Slots.{IsPlaceIn, saved_in, saves_slot};
+ghost use Rattle.tword.specs.Slots.{IsPlaceIn, saved_in, saves_word};
 ghost use Rattle.tword.specs.Words.{word_below};
 
-use crate::claim_table::{SLOTS, slot_of};
 use crate::limits::MOST_PROCESSES;
 use crate::span::Span;
 use crate::word::Word;
@@ -17,7 +16,8 @@ use std::marker::Model;
 /// The workspaces of the processes that are queued or wait. Contracts see them as a list, the one that came last at
 /// its head.
 ///
-/// `places` has for each slot where a workspace of that slot was last put: a place to look first.
+/// `places` has for each two words of a memory where a workspace there was last put: a place to look first. Two whose
+/// words are saved lie three words apart or more.
 #[derive(Drop)]
 pub struct Saved {
     workspaces: Vec<Word>,
@@ -33,17 +33,17 @@ impl Model for Saved {
 
     ghost view = { λ s. reverse s.workspaces.items };
 
-    ghost invariant = { λ s. AreOnce s.workspaces.items s.places.items × (512 ≤ vec_capacity s.workspaces) };
+    ghost invariant = { λ s. AreOnce s.workspaces.items × (512 ≤ vec_capacity s.workspaces) };
 }
 
 impl Saved {
-    /// None, with room for 512.
-    pub fn new(alloc: Global) -> Result<Saved, AllocError>
+    /// None, with room for 512, in a memory of so many bytes. A workspace may begin behind its end.
+    pub fn new(alloc: Global, size: u32) -> Result<Saved, AllocError>
         ensures { IfOk result (λ s. s ≡ []) }
     {
         Ok(Saved {
             workspaces: Vec::with_capacity(alloc, MOST_PROCESSES)?,
-            places: vec![in alloc; 0; SLOTS]?,
+            places: vec![in alloc; 0; size as usize / 8 + 1]?,
         })
     }
 
@@ -65,12 +65,12 @@ impl Saved {
         self.workspaces.len()
     }
 
-    /// Where a workspace stands in the list, by the hint for its slot; where the hint tells of another, nothing.
+    /// Where a workspace stands in the list, by its hint; where it has none, or the hint tells of another, nothing.
     #[inline]
     pub fn noted(&self, workspace: Word) -> Option<usize>
         ensures { IfSome result (λ i. IsPlaceIn self.now i workspace) }
     {
-        let place = usize::from(self.places[slot_of(workspace.get())]);
+        let place = usize::from(*self.places.get(hint_of(workspace))?);
         if place < self.workspaces.len() && self.workspaces[place] == workspace {
             return Some(place);
         }
@@ -99,7 +99,7 @@ impl Saved {
         requires apart { list_any (λ w. overlap (saved_words workspace) (saved_words w)) self.old ≡ false }
         ensures { self.new ≡ workspace ∷ self.old }
     {
-        put(&mut self.places, workspace.get(), self.workspaces.len());
+        put(&mut self.places, workspace, self.workspaces.len());
         self.workspaces.push_reserved(workspace);
     }
 
@@ -111,7 +111,7 @@ impl Saved {
         ensures others { (v : ℕ)
             → list_any (λ w. w == v) self.new ≡ (not (v == result) && list_any (λ w. w == v) self.old) }
         ensures count { length self.new + 1 ≡ length self.old }
-        ensures slots { (slot : ℕ) → saved_in slot self.new + saves_slot slot result ≡ saved_in slot self.old }
+        ensures words { (word : ℕ) → saved_in word self.new + saves_word word result ≡ saved_in word self.old }
     {
         let workspace = self.workspaces.swap_remove(place);
         put_back(&mut self.places, self.workspaces.as_slice(), place);
@@ -169,21 +169,25 @@ pub fn saved_words_of(workspace: Word) -> Span
 
 /// The place to look first for the workspace that has come there, if one has.
 fn put_back(places: &mut Vec<u16>, workspaces: &[Word], place: usize)
-    requires slots { vec_len places.old ≡ 65536 }
-    requires small { place < 65536 }
-    ensures { vec_len places.new ≡ 65536 }
+    requires { place < 65536 }
 {
     if place < workspaces.len() {
-        put(places, workspaces[place].get(), place);
+        put(places, workspaces[place], place);
     }
 }
 
 /// The place to look first for a workspace.
 #[inline]
-fn put(places: &mut Vec<u16>, workspace: u32, place: usize)
-    requires slots { vec_len places.old ≡ 65536 }
-    requires small { place < 65536 }
-    ensures { vec_len places.new ≡ 65536 }
+fn put(places: &mut Vec<u16>, workspace: Word, place: usize)
+    requires { place < 65536 }
 {
-    places[slot_of(workspace)] = place as u16;
+    if let Some(hint) = places.get_mut(hint_of(workspace)) {
+        *hint = place as u16;
+    }
+}
+
+/// Where the hint for a workspace stands, if it has one.
+#[inline]
+fn hint_of(workspace: Word) -> usize {
+    (workspace.get().wrapping_sub(0x8000_0000) / 8) as usize
 }

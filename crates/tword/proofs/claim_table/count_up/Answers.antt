@@ -2,7 +2,7 @@ use Rattle.std.proofs.Common.{arith}
 use Rattle.tword.proofs.ClaimTally.{up_more}
 use Rattle.tword.proofs.claim_table.count_up.Goals as goal
 
-pub loop-k-preserved : goal.loop-k-preserved
-loop-k-preserved c =
-    up_more c.loop-k.counts c.args.counts.now c.args.first c.loop-k.k (omega arith) (omega arith) (omega arith)
-    c.loop-k.invariant
+pub loop-slot-preserved : goal.loop-slot-preserved
+loop-slot-preserved c =
+    up_more c.loop-slot.counts c.args.counts.now c.args.first c.loop-slot.slot (omega arith) (omega arith)
+    c.loop-slot.invariant

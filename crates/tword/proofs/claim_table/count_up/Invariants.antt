@@ -1,7 +1,8 @@
-use Rattle.std.proofs.Common.{◌≡◌, ◌+◌, ◌<◌, ℕ, get_or}
+use Rattle.std.proofs.Common.{◌≡◌, ◌+◌, ◌<◌, ℕ, get_or, length}
 use Rattle.tword.specs.Slots.{is_among}
 use Rattle.tword.proofs.claim_table.count_up.Given as goal
 
-abbrev pub invariant-loop-k : goal.invariant-loop-k
-invariant-loop-k l =
-    (slot : ℕ) → slot < 65536 → get_or l.counts slot 0 ≡ get_or l.fn.counts slot 0 + is_among l.first l.k slot
+abbrev pub invariant-loop-slot : goal.invariant-loop-slot
+invariant-loop-slot l =
+    (slot : ℕ) → slot < length l.fn.counts
+    → get_or l.counts slot 0 ≡ get_or l.fn.counts slot 0 + is_among l.first l.slot slot

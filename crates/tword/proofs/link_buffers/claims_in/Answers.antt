@@ -7,5 +7,5 @@ use Rattle.tword.proofs.link_buffers.claims_in.Goals as goal
 pub returns-clause-is : goal.returns-clause-is
 returns-clause-is c =
     c.loop-claim.invariant.sum
-    ∙ ap (λ (xs : List (Option Span)). claims_in c.args.slot xs)
+    ∙ ap (λ (xs : List (Option Span)). claims_in c.args.word xs)
     (take_all c.loop-claim.claim-index c.args.claimed.now (omega arith))

@@ -11,13 +11,13 @@ lower-requires c =
     record {
       some = rw c.saved_words_of.ensures
           (enough_saved _ _ _ c.remove-removed.new.self _ c.remove-removed.result c.self.invariant
-          c.remove-removed.ensures.slots);
+          c.remove-removed.ensures.words);
     }
 
 pub invariant_of-self : goal.invariant_of-self
 invariant_of-self c =
     tally_drop _ _ _ _ _ _ c.remove-removed.result c.self.invariant c.remove-removed.ensures.count
-    c.remove-removed.ensures.slots (rw c.saved_words_of.ensures at c.lower.ensures)
+    c.remove-removed.ensures.words (rw c.saved_words_of.ensures at c.lower.ensures)
 
 pub returns-in-Some-clause-frees : goal.returns-in-Some-clause-frees
 returns-in-Some-clause-frees c = λ v.

@@ -9,6 +9,6 @@ invariant_of-self c =
     let few : length ws < 512 = omega (arith, sym (length-reverse ws) ∙ ap length c.self.view_is, c.requires.room) in
     let apart = rw (← c.self.view_is) at c.requires.apart in (
       rw c.push_reserved.ensures.items
-          (once_push ws _ _ c.args.workspace c.self.invariant.0 apart few (omega (arith, c.put.ensures))),
+          (once_push ws c.args.workspace c.self.invariant.0 apart few),
       omega (arith, c.push_reserved.ensures.capacity),
     )
