@@ -1,8 +1,8 @@
-use Rattle.std.proofs.Common.{◌≡◌, ℕ, ◌+◌, ◌-◌, ◌%◌, ◌^◌, ◌∙◌, pos, sym, ap, arith, rules}
+use Rattle.std.proofs.Common.{◌≡◌, ℕ, ◌+◌, ◌%◌, ◌^◌, ◌∙◌, pos, sym, ap, arith, rules}
 use Rattle.tword.specs.declared.breaks.Break.TheVariants.{LongPrefix}
-use Rattle.tword.specs.Actions.{run, run_from, value_of, breaks}
+use Rattle.tword.specs.Actions.{run_from, value_of, breaks}
 use Rattle.tword.specs.Words.{plus}
-use Rattle.tcode.specs.Decoding.{decode, fetch}
+use Rattle.tcode.specs.Decoding.{fetch}
 use Rattle.tcode.proofs.StoreSteps.{ended_at, fetched-breaks, fetched-ends, prefix-goes}
 use Rattle.tcode.proofs.decoding.decode_prefixed.Goals as goal
 
