@@ -12,7 +12,7 @@ use Rattle.tword.specs.Touches.{Mode, Reads, Writes, is_inside, is_open, is_in_t
 use Rattle.tword.specs.Touches.{word_break, word_span, deschedule_break, copy_break, claim_break, first_break}
 use Rattle.tword.specs.Words.{most_neg, mem_start, word_below}
 use Rattle.tword.specs.Actions.{is_slot, unmet, or_break}
-use Rattle.tword.proofs.Passing.{Passes, span_break-none, word_break-aligned, word_break-passes, both_none}
+use Rattle.tword.proofs.Passing.{Passes, span_break-none, word_break-aligned, word_break-passes}
 use Rattle.tword.proofs.Passing.{deschedule-words}
 use Rattle.tword.proofs.Descheduling.{inside_within, inside_within, deschedule-passes, saved_word-clear}
 use Rattle.tword.proofs.Blind.{Clear}

@@ -65,7 +65,7 @@ impl ClaimedMemory {
         ensures bad_size { IsErrOf result MemoryFault.BadSize ↔ ¬ IsMemorySize size }
     {
         let memory = Memory::new(alloc, size)?;
-        let marks = Marks::new(alloc)?;
+        let marks = Marks::new(alloc, size)?;
         Ok(ClaimedMemory { memory, marks })
     }
 

@@ -41,17 +41,17 @@ impl Model for Descheduled {
 }
 
 impl Descheduled {
-    /// Nobody, with room for all that may live.
+    /// Nobody, with room for all that may live in a memory of so many bytes.
     ///
     /// # Errors
     /// Where the allocator refuses.
-    pub fn new(alloc: Global) -> Result<Descheduled, AllocError>
+    pub fn new(alloc: Global, size: u32) -> Result<Descheduled, AllocError>
         ensures { IfOk result (λ d. d ≡ lists_of []) }
     {
         Ok(Descheduled {
             high: RunQueue::new(),
             low: RunQueue::new(),
-            table: ProcessTable::new(alloc)?,
+            table: ProcessTable::new(alloc, size)?,
         })
     }
 

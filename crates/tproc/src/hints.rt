@@ -1,30 +1,24 @@
 //! Where to look first for a process.
 
-ghost use Rattle.std.specs.Prelude.{◌≡◌, ◌<◌, vec_len};
-
 use std::alloc::{AllocError, Global};
 use tword::Word;
 
-/// How many slots the workspaces share. Two processes that are queued or wait have workspaces three words apart or
-/// more, so in a memory of 256 kilobytes no two of them share a slot.
-const SLOTS: usize = 32_768;
-
-/// For each process that is queued or waits, where it was put. It is a hint alone, which whoever takes it has to
-/// check: the process may have gone, and another may have taken its slot.
+/// For each process that is queued or waits, where it was put: a table with a hint for each two words of a memory. The
+/// workspaces of two such processes lie three words apart or more, so no two share one. It is a hint alone, which
+/// whoever takes it has to check: the process may have gone, or be one outside the memory or of another priority.
 #[derive(Drop)]
 pub struct Hints {
-    slots: Vec<u16>,
-    ghost size: { vec_len slots ≡ 32768 },
+    places: Vec<u16>,
 }
 
 impl Hints {
-    /// A table without hints.
+    /// A table without hints, for a memory of so many bytes. A workspace may begin behind its end.
     ///
     /// # Errors
     /// Where the allocator refuses.
-    pub fn new(alloc: Global) -> Result<Hints, AllocError> {
-        let slots = vec![in alloc; 0; SLOTS]?;
-        Ok(Hints { slots })
+    pub fn new(alloc: Global, size: u32) -> Result<Hints, AllocError> {
+        let places = vec![in alloc; 0; size as usize / 8 + 1]?;
+        Ok(Hints { places })
     }
 
     /// The same hints.
@@ -32,27 +26,30 @@ impl Hints {
     /// # Errors
     /// Where the allocator refuses.
     pub fn try_copy(&self, alloc: Global) -> Result<Hints, AllocError> {
-        let slots = Vec::from_slice(alloc, self.slots.as_slice())?;
-        Ok(Hints { slots })
+        let places = Vec::from_slice(alloc, self.places.as_slice())?;
+        Ok(Hints { places })
     }
 
-    /// Where a process was put, if it was and no other has taken its slot.
+    /// Where a process was put, if it was and no other has taken its hint.
     #[inline]
     pub fn of(&self, process: Word) -> u16 {
-        self.slots[slot_of(process)]
+        match self.places.get(hint_of(process)) {
+            Some(place) => *place,
+            None => 0,
+        }
     }
 
     /// Notes where a process was put.
     #[inline]
     pub fn note(&mut self, process: Word, place: u16) {
-        self.slots[slot_of(process)] = place;
+        if let Some(hint) = self.places.get_mut(hint_of(process)) {
+            *hint = place;
+        }
     }
 }
 
-/// The slot of a process.
+/// Where the hint for a process stands, if it has one.
 #[inline]
-fn slot_of(process: Word) -> usize
-    ensures { result < 32768 }
-{
-    (process.get() / 8 % 32_768) as usize
+fn hint_of(process: Word) -> usize {
+    (process.get().wrapping_sub(0x8000_0000) / 8) as usize
 }

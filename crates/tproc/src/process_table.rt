@@ -41,17 +41,17 @@ impl Model for ProcessTable {
 }
 
 impl ProcessTable {
-    /// Nobody, with room for all that may live.
+    /// Nobody, with room for all that may live in a memory of so many bytes.
     ///
     /// # Errors
     /// Where the allocator refuses.
-    pub fn new(alloc: Global) -> Result<ProcessTable, AllocError>
+    pub fn new(alloc: Global, size: u32) -> Result<ProcessTable, AllocError>
         ensures { IfOk result (λ t. t ≡ []) }
     {
         Ok(ProcessTable {
             entries: Vec::with_capacity(alloc, ENTRIES)?,
             count: 0,
-            hints: Hints::new(alloc)?,
+            hints: Hints::new(alloc, size)?,
         })
     }
 

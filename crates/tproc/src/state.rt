@@ -71,15 +71,16 @@ pub fn workspace_of(process: Word) -> Word
 }
 
 impl State {
-    /// No process, nothing pending and both flags clear, with room for all processes that may live.
+    /// No process, nothing pending and both flags clear, with room for all processes that may live in a memory of so
+    /// many bytes.
     ///
     /// # Errors
     /// Where the allocator refuses.
-    pub fn new(alloc: Global, timeslice: u32) -> Result<State, AllocError>
+    pub fn new(alloc: Global, size: u32, timeslice: u32) -> Result<State, AllocError>
         ensures { IfOk result (λ s. s ≡ no_processes timeslice) }
     {
         let zero = Word::new(0);
-        let descheduled = Descheduled::new(alloc)?;
+        let descheduled = Descheduled::new(alloc, size)?;
         Ok(State {
             registers: Registers {
                 a: zero,
