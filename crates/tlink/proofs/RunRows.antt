@@ -1,6 +1,6 @@
 -- Runs in a row: those of a node are the steps of its processor, and keep the node whole.
-use Rattle.std.proofs.Common.{◌≡◌, ◌∙◌, ℕ, zero, suc, ◌+◌, refl, sym, ap, subst, cond, Bool, true, false, List, Option, Some, None}
-use Rattle.std.proofs.Common.{Result, Ok, Err, arith}
+use Rattle.std.proofs.Common.{◌≡◌, ◌∙◌, ℕ, zero, suc, refl, sym, ap, subst, cond, Bool, true, false, List}
+use Rattle.std.proofs.Common.{Option, Some, None, Result, Ok, Err, arith}
 use Rattle.std.proofs.lemmas.Bool.{eqb-true}
 use Rattle.std.specs.Prelude.{◌==◌, is_some, option_map, if◌then◌else◌}
 use Rattle.tword.specs.declared.breaks.Break.{Break}
@@ -16,7 +16,7 @@ use Rattle.tlink.specs.declared.event.Emitted.{Emitted}
 use Rattle.tlink.specs.declared.event.NodeEvent.TheVariants.{Run}
 use Rattle.tlink.specs.declared.event.Runs.{Runs}
 use Rattle.tlink.specs.declared.event.StepFault.{StepFault}
-use Rattle.tlink.specs.declared.event.StepFault.TheVariants.{NotEnabled, Frozen}
+use Rattle.tlink.specs.declared.event.StepFault.TheVariants.{NotEnabled}
 use Rattle.tlink.specs.Node.{NodeState, with_machine}
 use Rattle.tlink.specs.Events.{happens, unless_frozen, at_work, node_answered, node_left_by, after_run}
 use Rattle.tlink.specs.Answers.{run_told, run_left}

@@ -1,6 +1,6 @@
 -- What a call on a node promises.
 -- Source: own choice, words for contracts.
-use Rattle.std.specs.Prelude.{◌≡◌, Option, Some, None, Result, Ok, Err}
+use Rattle.std.specs.Prelude.{◌≡◌, None, Result, Ok, Err}
 use Rattle.tword.specs.declared.breaks.Break.{Break}
 use Rattle.tproc.specs.declared.offer.Ran.{Ran}
 use Rattle.tproc.specs.declared.offer.Ran.TheVariants as ran

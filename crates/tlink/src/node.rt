@@ -74,7 +74,7 @@ impl Node {
     }
 
     /// Whether `step` would do the event, a freezing one too.
-    #[inline]
+    #[inline(always)]
     pub fn enabled(&self, event: NodeEvent) -> bool
         ensures { result ≡ is_node_enabled event self.now }
     {

@@ -1,4 +1,4 @@
-use Rattle.std.proofs.Common.{◌≡◌, Some, refl, sym, ap, ◌∙◌}
+use Rattle.std.proofs.Common.{Some, refl, sym, ap, ◌∙◌}
 use Rattle.tlink.specs.declared.event.Runs.{Runs}
 use Rattle.tlink.proofs.RunRows.{row-lifted, runs-frozen}
 use Rattle.tlink.proofs.links.Links.run_many.Goals as goal
