@@ -1,5 +1,5 @@
 -- What a node may answer to each kind of event: what it emits, what it tells, and which inputs stay.
-use Rattle.std.proofs.Common.{◌≡◌, ◌≢◌, ℕ, refl, sym, ap, ◌∙◌, List, set, Bool, true, false, Result, Ok, Err, Option}
+use Rattle.std.proofs.Common.{◌≡◌, ◌≢◌, ℕ, refl, ap, ◌∙◌, List, set, Bool, true, false, Result, Ok, Err, Option}
 use Rattle.std.proofs.Common.{Some, None, ◌⊎◌, inl, inr}
 use Rattle.std.specs.Prelude.{⊤, slice_index_or, ◌+◌, ◌&&◌, ◌==◌, not, nat_lt, if◌then◌else◌, is_none, IsSome, IfSome}
 use Rattle.std.proofs.lemmas.List.{get_or-set_other}
@@ -19,7 +19,6 @@ use Rattle.tproc.proofs.Resting.{halting_halts}
 use Rattle.tlink.specs.declared.counts.Arrival.{Arrival}
 use Rattle.tlink.specs.declared.counts.Counts.{Counts}
 use Rattle.tlink.specs.declared.event.Packet.{Packet}
-use Rattle.tlink.specs.declared.event.Packet.TheVariants as packet
 use Rattle.tlink.specs.declared.event.NodeEvent.{NodeEvent}
 use Rattle.tlink.specs.declared.event.NodeEvent.TheVariants.{Run, Send, Data, Take, Ack}
 use Rattle.tlink.specs.declared.event.Emitted.{Emitted}

@@ -1,14 +1,19 @@
--- The first fault of a list, element after element.
+-- The first fault of a list, element after element, and of a plan.
 use Rattle.std.proofs.Common.{◌≡◌, ℕ, suc, ◌+◌, ◌<◌, refl, sym, ap, ◌∙◌, List, [], ◌∷◌, length, get_or, take, drop}
-use Rattle.std.proofs.Common.{Bool, true, false, ◌||◌, Option, Some, is_some, add-one}
-use Rattle.std.specs.Prelude.{if◌then◌else◌}
+use Rattle.std.proofs.Common.{Bool, true, false, ◌||◌, Option, Some, None, is_some, option_map, add-one}
+use Rattle.std.specs.Prelude.{position, if◌then◌else◌}
 use Rattle.std.specs.List.{list_any}
 use Rattle.std.proofs.Math.Seq.{take-suc, drop-cons}
 use Rattle.std.proofs.lemmas.List.Folds.{list_any-append}
 use Rattle.tplan.specs.declared.plan.End.{End}
 use Rattle.tplan.specs.declared.plan.Wire.{Wire}
 use Rattle.tnet.specs.Wires.{same_end, joins, far_end}
-use Rattle.tnet.specs.Building.{end_twice_from}
+use Rattle.tplan.specs.declared.plan.Plan.{Plan}
+use Rattle.tplan.specs.declared.plan.BuildFault.{BuildFault}
+use Rattle.tplan.specs.declared.plan.BuildFault.TheVariants.{OutOfMemory, TooMany, BadSize, BadTimeslice, BadEnd}
+use Rattle.tplan.specs.declared.plan.BuildFault.TheVariants.{SameEnd, EndTwice, BadSegment, BadProcess}
+use Rattle.tnet.specs.Building.{end_twice_from, too_many, is_bad_size, is_bad_timeslice, has_bad_end, bad_segment}
+use Rattle.tnet.specs.Building.{bad_process, first_fault_from, or_else, when, fault_of}
 
 -- an end has a wire where it is one of a wire
 found : (ws : List Wire) (e : End) → is_some (far_end ws e) ≡ list_any (joins e) ws
@@ -64,3 +69,32 @@ pub twice_here : (place : ℕ) (ws : List Wire) (d : Wire) → place < length ws
 twice_here place ws d within h =
     let w : Wire = get_or ws place d in
     rw (drop-cons ws place d within, found (take place ws) w.a, found (take place ws) w.b, h) refl
+
+-- no plan has the fault that memory was refused
+neither_of : (a b : Option BuildFault) → (a ≡ Some OutOfMemory → ⊥) → (b ≡ Some OutOfMemory → ⊥)
+    → or_else a b ≡ Some OutOfMemory → ⊥
+neither_of None b f g h = g h
+neither_of (Some x) b f g h = f h
+
+not_when : (b : Bool) (x : BuildFault) → (x ≡ OutOfMemory → ⊥) → when b x ≡ Some OutOfMemory → ⊥
+not_when false x f h = cc
+not_when true x f h = let e : x ≡ OutOfMemory = cc in f e
+
+not_mapped : {A : Type 0} (g : A → BuildFault) (o : Option A) → ((x : A) → g x ≡ OutOfMemory → ⊥)
+    → option_map g o ≡ Some OutOfMemory → ⊥
+not_mapped g None f h = cc
+not_mapped g (Some x) f h = let e : g x ≡ OutOfMemory = cc in f x e
+
+pub no_memory_fault : (p : Plan) → fault_of p ≡ Some OutOfMemory → ⊥
+unfolding fault_of
+no_memory_fault p =
+    neither_of _ _ (not_when (too_many p) TooMany (λ e. cc))
+    (neither_of _ _ (not_mapped BadSize (position is_bad_size p.nodes) (λ x e. cc))
+    (neither_of _ _ (not_when (is_bad_timeslice p.timeslice) BadTimeslice (λ e. cc))
+    (neither_of _ _ (not_mapped BadEnd (position (has_bad_end (length p.nodes)) p.wires) (λ x e. cc))
+    (neither_of _ _ (not_mapped SameEnd (position (λ w. same_end w.a w.b) p.wires) (λ x e. cc))
+    (neither_of _ _ (not_mapped EndTwice (end_twice_from 0 [] p.wires) (λ x e. cc))
+    (neither_of _ _
+    (not_mapped (λ f. BadSegment f.0 f.1) (first_fault_from 0 bad_segment p.nodes) (λ x e. cc))
+    (not_mapped (λ f. BadProcess f.0 f.1.0 f.1.1) (first_fault_from 0 (bad_process p.timeslice) p.nodes)
+    (λ x e. cc))))))))

@@ -1,20 +1,17 @@
 -- Runs of a node in a row, as others see them.
-use Rattle.std.proofs.Common.{◌≡◌, ◌∙◌, ℕ, zero, suc, ◌+◌, ◌<◌, ◌≤◌, ◌⊎◌, inl, inr, refl, sym, ap, subst, Result, Ok, Err, Option}
-use Rattle.std.proofs.Common.{Some, None, arith}
+use Rattle.std.proofs.Common.{◌≡◌, ◌∙◌, ℕ, zero, suc, ◌+◌, ◌<◌, ◌≤◌, inl, inr, refl, sym, ap, subst, Result, Ok, Err}
+use Rattle.std.proofs.Common.{Option, Some, None, arith}
 use Rattle.std.specs.Prelude.{IfSome}
 use Rattle.tlink.specs.declared.event.NodeEvent.TheVariants.{Run}
 use Rattle.tlink.specs.declared.event.Emitted.{Emitted}
-use Rattle.tlink.specs.declared.event.Mark.TheVariants.{Nothing, Halted}
 use Rattle.tlink.specs.declared.event.Runs.{Runs}
 use Rattle.tlink.specs.declared.event.StepFault.{StepFault}
 use Rattle.tlink.specs.declared.event.StepFault.TheVariants.{NotEnabled, Frozen}
 use Rattle.tlink.specs.Node.{NodeState}
 use Rattle.tlink.specs.Events.{Answer, happens, node_answered, node_left_by}
 use Rattle.tlink.specs.Runs as row
-use Rattle.tplan.specs.declared.event.Note.{Note}
 use Rattle.tplan.specs.declared.event.Note.TheVariants.{Halt, Freeze}
 use Rattle.tplan.specs.declared.plan.End.{End}
-use Rattle.tnet.specs.declared.station.Done.{Done}
 use Rattle.tnet.specs.declared.station.RunsDone.{RunsDone}
 use Rattle.tnet.specs.Stations.{answer_done, answer_note, last_told, runs_done, after_asked, one_more}
 use Rattle.tnet.proofs.AnswerKinds as kinds
@@ -84,7 +81,8 @@ pub runs-told : (n : ℕ) (far : ℕ → Option End) (most : ℕ) (node node' : 
     → (node', r) ≡ row.runs most node → r.last ≡ last → told ≡ seen_last n r.count last
     → (node', told) ≡ runs_done n far most node
 runs-told n far most node node' r last told e l t =
-    ap (λ (d : RunsDone). (node', d)) (t ∙ ap (λ (o : Option (Result Emitted StepFault)). seen_last n r.count o) (sym l))
+    ap (λ (d : RunsDone). (node', d))
+    (t ∙ ap (λ (o : Option (Result Emitted StepFault)). seen_last n r.count o) (sym l))
     ∙ ap (λ (x : NodeState × Runs). seen n x) e ∙ sym (runs-seen n far most node)
 
 pub room_for_last : (most : ℕ) (node node' : NodeState) (r : Runs) (last : Result Emitted StepFault)

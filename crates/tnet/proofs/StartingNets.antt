@@ -22,7 +22,7 @@ use Rattle.tnet.proofs.OpenedPlans.{IsFaultless, opened, no_position, no_fault, 
 use Rattle.tnet.proofs.OpenedNets.{sound_opening, length-fresh_nodes}
 
 -- there are at most 64 nodes
-few_nodes : (p : Plan) → IsWellFormed p → length p.nodes ≤ 64
+pub few_nodes : (p : Plan) → IsWellFormed p → length p.nodes ≤ 64
 few_nodes p form =
     let some : ((nat_lt 64 (length p.nodes) || nat_lt 128 (length p.wires)) ≡ false) × (_ ≡ false) =
     or_parts _ _ form.few in

@@ -18,6 +18,7 @@ use Rattle.tplan.specs.declared.plan.Plan.{Plan}
 use Rattle.tnet.specs.Building.{AreOpened, IsWellFormed, is_bad_size, bad_segment, machines_of, IsOpened, IsFaultOf}
 use Rattle.tnet.specs.Building.{built_machine, bad_process, node_fault, first_fault_from, loaded_machine, or_loaded}
 use Rattle.tnet.specs.Building.{wired_links, fresh_nodes}
+use Rattle.tnet.proofs.OpenedNets.{length-fresh_nodes}
 use Rattle.tnet.proofs.OpenedPlans.{opened, no_position, no_fault}
 
 -- how far the building of nodes has come
@@ -27,6 +28,14 @@ pub record IsBuiltSoFar (timeslice : ℕ) (wires : List Wire) (plans : List Node
   pub sound : All IsSoundNode nodes
   pub added : first_fault_from 0 (bad_process timeslice) plans
       ≡ first_fault_from number (bad_process timeslice) (drop number plans)
+
+-- there are as many nodes as plans were gone through
+pub as_many : (timeslice : ℕ) (wires : List Wire) (plans : List NodePlan) (number : ℕ) (nodes : List NodeState)
+    → number ≤ length plans → IsBuiltSoFar timeslice wires plans number nodes → length nodes ≡ number
+as_many timeslice wires plans number nodes within so_far =
+    ap (λ (ns : List NodeState). length ns) so_far.opened
+    ∙ length-fresh_nodes wires 0 (map (opened timeslice) (take number plans))
+    ∙ length-map (take number plans) (opened timeslice) ∙ length-take-le number plans within
 
 fresh_nodes-append : (wires : List Wire) (k : ℕ) (ms : List Machine) (m : Machine)
     → fresh_nodes wires k (ms ++ m ∷ []) ≡ fresh_nodes wires k ms ++ fresh_node m (wired_links wires (k + length ms))

@@ -1,7 +1,7 @@
 -- A node at its place in a net: what lies at its links, and what an event of it takes, emits and tells.
 -- Source: the T414 data sheet: data and acknowledge packets. What is told: own choice.
-use Rattle.std.specs.Prelude.{ℕ, zero, suc, ◌+◌, true, false, List, [], ◌∷◌, Option, Some, None, Result, Ok, Err, slice_index_or}
-use Rattle.std.specs.Prelude.{slice_set, if◌then◌else◌}
+use Rattle.std.specs.Prelude.{ℕ, zero, suc, ◌+◌, true, false, List, [], ◌∷◌, Option, Some, None, Result, Ok, Err}
+use Rattle.std.specs.Prelude.{slice_index_or, slice_set, if◌then◌else◌}
 use Rattle.tword.specs.Stores.{bytes_at}
 use Rattle.tproc.specs.declared.offer.Offer.{Offer}
 use Rattle.tlink.specs.declared.counts.Arrival.{Arrival}
@@ -124,8 +124,8 @@ runs_done n far (suc k) node =
     after_asked (λ m. runs_done n far k m) (done_of n far at_node.Run node)
     (node_left_by node (happens at_node.Run node))
 
--- so many runs that told nothing, and the answer of the one behind them, which is the last: it halted the processor, was
--- not enabled, or froze the node
+-- so many runs that told nothing, and the answer of the one behind them, which is the last: it halted the processor,
+-- was not enabled, or froze the node
 abbrev pub last_told : ℕ → ℕ → Result Emitted StepFault → RunsDone
 last_told n k (Ok e) = record { count = k + 1; note = Some (Halt n) }
 last_told n k (Err NotEnabled) = record { count = k; note = None }

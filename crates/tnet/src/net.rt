@@ -9,7 +9,7 @@ ghost use Rattle.tnet.specs.Sound.{IsSound};
 ghost use Rattle.tnet.specs.Answers.{Did};
 ghost use Rattle.tnet.specs.View.{view};
 ghost use Rattle.tplan.specs.declared.plan.BuildFault.TheVariants.{OutOfMemory};
-ghost use Rattle.tnet.specs.Building.{built, opening_configuration};
+ghost use Rattle.tnet.specs.Building.{built, opening_configuration, IsWellFormed};
 ghost use Rattle.tnet.specs.Wires.{far_end};
 ghost use Rattle.tnet.specs.FarEnds.{IsRow};
 ghost use Rattle.tnet.specs.NetParts.{net_of_parts};
@@ -49,10 +49,14 @@ impl Net {
     /// processes are added in theirs; no packet and no byte is about.
     ///
     /// # Errors
-    /// The lowest fault of the plan, with its first place; `OutOfMemory` where the allocator refused.
+    /// The lowest fault of the plan, with its first place; `OutOfMemory` where the allocator refused, but never for a
+    /// plan whose fault shows before anything is built. The plan is given up.
     pub fn build(alloc: Global, plan: Plan) -> Result<Self, BuildFault>
         ensures exact { result ≢ Err OutOfMemory → result ≡ built plan }
         ensures sound { IfOk result IsSound }
+
+        // memory is wanted only for a plan without the faults that show before anything is built
+        ensures wanted { result ≡ Err OutOfMemory → IsWellFormed plan }
 
         // what is seen of it is the rendezvous machine's opening of the same plan
         ensures alike { IfOk result (λ net. view net ≡ opening_configuration plan) }

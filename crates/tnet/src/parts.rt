@@ -63,16 +63,6 @@ const ALL_ACTS: [Act; 17] = [
     Act::Ack(3),
 ];
 
-/// What lies at the links of a node; nothing where there is no such node.
-#[inline(always)]
-fn inboxes_at(all: &[[Inbox; 4]], node: u8) -> [Inbox; 4]
-    ensures { (act : Act) → asked act result ≡ asked act (slice_index_or all.now node []) }
-{
-    all.get(usize::from(node))
-        .copied()
-        .unwrap_or([Inbox::EMPTY; 4])
-}
-
 /// The end of a wire at a link.
 fn end_of(node: u8, link: u8) -> End
     ensures { result ≡ end_at node link }
@@ -157,7 +147,10 @@ impl Parts {
     fn node_event(&self, event: Event) -> Option<NodeEvent>
         ensures { result ≡ node_event self.now event.node event.act }
     {
-        station::asked(&inboxes_at(&self.inboxes, event.node), event.act)
+        match self.inboxes.get(usize::from(event.node)) {
+            Some(inboxes) => station::asked(inboxes, event.act),
+            None => station::asked(&[Inbox::EMPTY; 4], event.act),
+        }
     }
 
     /// The packet that an event takes is gone.

@@ -37,17 +37,6 @@ pub struct RunsDone {
     pub note: Option<Note>,
 }
 
-/// What lies at a link.
-#[inline(always)]
-fn inbox_at(inboxes: &[Inbox; 4], link: u8) -> Inbox
-    ensures { result ≡ box_at inboxes.now link }
-{
-    inboxes
-        .get(usize::from(link))
-        .copied()
-        .unwrap_or(Inbox::EMPTY)
-}
-
 /// The event that an act asks a node for, if its packet lies there.
 #[inline(always)]
 pub fn asked(inboxes: &[Inbox; 4], act: Act) -> Option<NodeEvent>
@@ -57,12 +46,12 @@ pub fn asked(inboxes: &[Inbox; 4], act: Act) -> Option<NodeEvent>
         Act::Run => Some(NodeEvent::Run),
         Act::Send(link) => Some(NodeEvent::Send(link)),
         Act::Data(link) => {
-            let Arrival { byte, last } = inbox_at(inboxes, link).carried?;
+            let Arrival { byte, last } = inboxes.get(usize::from(link))?.carried?;
             Some(NodeEvent::Data(link, byte, last))
         }
         Act::Take(link) => Some(NodeEvent::Take(link)),
         Act::Ack(link) => {
-            if inbox_at(inboxes, link).acknowledged {
+            if inboxes.get(usize::from(link))?.acknowledged {
                 Some(NodeEvent::Ack(link))
             } else {
                 None
@@ -71,41 +60,26 @@ pub fn asked(inboxes: &[Inbox; 4], act: Act) -> Option<NodeEvent>
     }
 }
 
-/// What lies at a link is set.
-#[inline(always)]
-fn set_inbox(inboxes: &mut [Inbox; 4], link: usize, inbox: Inbox)
-    ensures { inboxes.new ≡ slice_set inboxes.old link inbox }
-{
-    if link < inboxes.len() {
-        inboxes[link] = inbox;
-    }
-}
-
 /// The packet that an act takes is gone.
 #[inline(always)]
 pub fn empty(inboxes: &mut [Inbox; 4], act: Act)
     ensures { inboxes.new ≡ emptied act inboxes.old }
 {
-    let (link, inbox) = match act {
+    match act {
         Act::Data(link) => {
-            let lies = inbox_at(inboxes, link);
-            let carried = None;
-            (link, Inbox { carried, ..lies })
+            let link = usize::from(link);
+            if link < inboxes.len() {
+                inboxes[link].carried = None;
+            }
         }
         Act::Ack(link) => {
-            let lies = inbox_at(inboxes, link);
-            let acknowledged = false;
-            (
-                link,
-                Inbox {
-                    acknowledged,
-                    ..lies
-                },
-            )
+            let link = usize::from(link);
+            if link < inboxes.len() {
+                inboxes[link].acknowledged = false;
+            }
         }
-        _ => return,
-    };
-    set_inbox(inboxes, usize::from(link), inbox);
+        _ => {}
+    }
 }
 
 /// A packet lies at a link.
@@ -114,8 +88,9 @@ pub fn put(inboxes: &mut [Inbox; 4], link: u32, packet: Packet)
     ensures { inboxes.new ≡ slice_set inboxes.old link (put_in packet (box_at inboxes.old link)) }
 {
     let link = link as usize;
-    let lies = inboxes.get(link).copied().unwrap_or(Inbox::EMPTY);
-    set_inbox(inboxes, link, lies.with(packet));
+    if link < inboxes.len() {
+        inboxes[link].add(packet);
+    }
 }
 
 /// The input that an event takes a byte for.

@@ -1,6 +1,9 @@
-use Rattle.std.proofs.Common.{ap, ◌∙◌}
+use Rattle.std.proofs.Common.{◌≡◌, ap, ◌∙◌, Some}
 use Rattle.std.proofs.lemmas.Result.{err_from_is_err_and}
 use Rattle.tnet.specs.View.{view}
+use Rattle.tplan.specs.declared.plan.BuildFault.{BuildFault}
+use Rattle.tplan.specs.declared.plan.BuildFault.TheVariants.{OutOfMemory}
+use Rattle.tnet.proofs.FirstFaults.{no_memory_fault}
 use Rattle.tnet.proofs.OpenedNets.{opens_alike}
 use Rattle.tnet.proofs.StartingNets.{net_built, net_refused}
 use Rattle.tnet.proofs.net.Net.build.Goals as goal
@@ -17,3 +20,8 @@ returns-in_ok-open-in-None-clause-exact c =
 
 pub returns-in_ok-open-in-None-clause-alike : goal.returns-in_ok-open-in-None-clause-alike
 returns-in_ok-open-in-None-clause-alike c = ap view c.in_ok-open-in-None.ensures.0 ∙ opens_alike c.args.plan
+
+pub returns-in-Some-clause-wanted : goal.returns-in-Some-clause-wanted
+returns-in-Some-clause-wanted c = λ e.
+    let f : c.in-Some.fault ≡ OutOfMemory = cc in
+    absurd (no_memory_fault c.args.plan (c.in-Some.ensures ∙ ap (λ (x : BuildFault). Some x) f))
