@@ -1,5 +1,7 @@
 -- rounds
 pub mod RoundsRun
+pub mod GoingOn
+pub mod GoodHolds
 -- what the calls do
 pub mod Replaying
 pub mod ReplayNotes

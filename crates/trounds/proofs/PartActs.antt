@@ -1,7 +1,7 @@
 -- What an act does to a round node: how much it writes down, after which run there is none, and which room for messages
 -- stands.
-use Rattle.std.proofs.Common.{◌≡◌, ◌≢◌, ℕ, ◌≤◌, ◌<◌, refl, sym, ap, ◌∙◌, subst, List, length, get_or, set, map, Bool, true}
-use Rattle.std.proofs.Common.{false, Option, Some, None, Err, IfSome, ◌⊎◌, inl, inr, arith}
+use Rattle.std.proofs.Common.{◌≡◌, ◌≢◌, ℕ, ◌≤◌, ◌<◌, refl, sym, ap, ◌∙◌, subst, List, length, get_or, set, map, Bool}
+use Rattle.std.proofs.Common.{true, false, Option, Some, None, Err, IfSome, ◌⊎◌, inl, inr, arith}
 use Rattle.std.specs.Prelude.{is_none, if◌then◌else◌}
 use Rattle.std.proofs.lemmas.Bool.{cases_eq}
 use Rattle.std.proofs.lemmas.List.{set-get_or, get_or-map}

@@ -1,10 +1,9 @@
 -- The runs of a part are a row of runs of its node.
-use Rattle.std.proofs.Common.{◌≡◌, ◌∙◌, ℕ, zero, suc, ◌+◌, ◌≤◌, refl, sym, ap, List, [], ◌∷◌, ◌++◌, append_assoc}
-use Rattle.std.proofs.Common.{Ok, Err, Option, Some, None, ◌⊎◌, inl, inr, arith}
+use Rattle.std.proofs.Common.{◌≡◌, ◌∙◌, ℕ, zero, suc, refl, sym, ap, List, [], ◌∷◌, ◌++◌, append_assoc}
+use Rattle.std.proofs.Common.{Ok, Err, Option, None, inl, inr}
 use Rattle.std.specs.Prelude.{replicate}
 use Rattle.std.proofs.lemmas.List.{append-nil, replicate-append-replicate}
 use Rattle.tlink.specs.declared.event.NodeEvent.TheVariants as at_node
-use Rattle.tlink.specs.declared.event.Mark.TheVariants.{Nothing, Halted}
 use Rattle.tlink.specs.declared.event.StepFault.TheVariants.{NotEnabled, Frozen}
 use Rattle.tlink.specs.Node.{NodeState}
 use Rattle.tlink.specs.Events.{Answer, happens, node_answered, node_left_by}
@@ -17,7 +16,7 @@ use Rattle.tnet.specs.Stations.{answer_done, answer_note, after_asked, one_more,
 use Rattle.tnet.proofs.AnswerKinds as kinds
 use Rattle.tnet.proofs.AnswerKinds.{run_runs, frozen-stops}
 use Rattle.trounds.specs.declared.round_node.Sending.{Sending}
-use Rattle.trounds.specs.Parts.{Station, Part, far_at, part_done, part_does, part_runs}
+use Rattle.trounds.specs.Parts.{Part, far_at, part_done, part_runs}
 use Rattle.trounds.proofs.PartRooms.{run_rests}
 
 -- a run of a node

@@ -3,6 +3,7 @@ pub mod Rounds
 pub mod RoundExamples
 -- what the calls promise
 pub mod Reports
+pub mod GoingOn
 pub mod Replays
 pub mod Parts
 pub mod RoundNodes

@@ -9,8 +9,8 @@ use Rattle.trounds.proofs.round_node.RoundNode.byte_comes.Goals.{else-is_some-vi
 pub returns-then-not-is_held-clause-part : goal.returns-then-not-is_held-clause-part
 returns-then-not-is_held-clause-part c =
     comes_in c.args.lay c.args.holds.now c.args.round c.args.link (part_of c.args.self.now) c.end_at-end.result
-    c.end_at-end.ensures Data (part_of c.does.new.self) c.is_held.result c.is_held.ensures (sym c.is_some.ensures ∙ c.if-is_some.true)
-    c.if-not-is_held.true c.does.ensures.part
+    c.end_at-end.ensures Data (part_of c.does.new.self) c.is_held.result c.is_held.ensures
+    (sym c.is_some.ensures ∙ c.if-is_some.true) c.if-not-is_held.true c.does.ensures.part
 
 pub returns-else-is_some-clause-part : goal.returns-else-is_some-clause-part
 returns-else-is_some-clause-part c =
