@@ -47,6 +47,12 @@ pub record FullAtFront (l : ℕ) (node : NodeState) (clock : ℕ) (seen : List S
   pub enabled : is_node_enabled (event_taking l packet.packet) node ≡ true
   pub full : IsFull clock packet.stamp
 
+-- the event of the packet that is seen in front is enabled
+pub record EnabledAtFront (l : ℕ) (node : NodeState) (seen : List Sent) : Type 0 where
+  pub packet : Sent
+  pub front : IsFront packet seen
+  pub enabled : is_node_enabled (event_taking l packet.packet) node ≡ true
+
 -- whether a ring has room: with the other end at hand, whether fewer than two lie there; else it has where fewer than
 -- two were ever put there; where there is no ring, there is room
 pub record HasRoom (own : Option ℕ) (x : Option OutView) (ins : List (Option InView)) (room : Bool) : Type 0 where

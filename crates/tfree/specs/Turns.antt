@@ -159,6 +159,16 @@ MayTake v i (Ack l) stamp =
     IsFront (record { packet = packet.Ack; stamp = stamp }) (slice_index_or v.seen (link_place i l) [])
 MayTake v i _ stamp = stamp ≡ 0
 
+-- an event of one of the worker's nodes is enabled and was not done; the packet that it takes is still seen in front of
+-- its ring
+pub record IsEventLeft (v : View) : Type 0 where
+  pub i : ℕ
+  pub event : NodeEvent
+  pub taken : ℕ
+  pub own : i < v.share.owned
+  pub enabled : IsEnabled v.share (v.share.first + i) event v.events
+  pub takes : MayTake v i event taken
+
 -- the clock of a worker is full: an event of one of its nodes is enabled, and has no stamp
 pub record IsClockFull (v : View) : Type 0 where
   pub i : ℕ

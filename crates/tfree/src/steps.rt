@@ -7,13 +7,13 @@ ghost use Rattle.std.specs.Prelude.{List};
 ghost use Rattle.rtrb.specs.Ring.{known_items, known_free};
 ghost use Rattle.tlink.specs.Events.{happens, is_node_enabled};
 ghost use Rattle.tfree.specs.Lists.{Sent as Packets};
-ghost use Rattle.tfree.specs.declared.log.TurnFault.TheVariants.{ClockFull};
+ghost use Rattle.tfree.specs.declared.log.TurnFault.TheVariants.{OutOfMemory, ClockFull};
 ghost use Rattle.tfree.specs.Turns.{IsFull};
 ghost use Rattle.tfree.specs.Ends.{in_view, out_view, ins_view, outs_view, seen_of, IsFront, HasFree};
 ghost use Rattle.tfree.specs.Views.{InView, OutView, got_of, put_of, with_put};
 ghost use Rattle.tfree.specs.Logs.{log_view, Whether, sent_as};
 ghost use Rattle.tfree.specs.Steps.{SameRing, SameRingBack, Received, NoneDue, Emitted as Put, HasRoom};
-ghost use Rattle.tfree.specs.Steps.{FullAtFront};
+ghost use Rattle.tfree.specs.Steps.{FullAtFront, EnabledAtFront};
 
 use crate::ends::{InEnd, OutEnd};
 use crate::log::{Log, TurnFault, act, receive};
@@ -61,6 +61,7 @@ pub fn receive_at(
     ensures rests { result ≡ Ok false
         → NoneDue link own node.old (option_map in_view slot.old) (outs_view outs.old.items) }
     ensures full { result ≡ Err ClockFull → FullAtFront link node.old log.old.clock (seen_of slot.new) }
+    ensures wanted { result ≡ Err OutOfMemory → EnabledAtFront link node.old (seen_of slot.new) }
 {
     match slot {
         None => Ok(false),
@@ -139,6 +140,7 @@ pub fn emit_at(
     ensures rests { result ≡ Ok false → is_node_enabled event node.old ≡ true
         → HasRoom own (option_map out_view slot.old) (ins_view ins.old.items) false }
     ensures full { result ≡ Err ClockFull → (is_node_enabled event node.old ≡ true) × IsFull log.old.clock 0 }
+    ensures wanted { result ≡ Err OutOfMemory → is_node_enabled event node.old ≡ true }
 {
     if !node.enabled(event) {
         return Ok(false);

@@ -3,8 +3,8 @@
 ghost use Rattle.std.specs.Prelude.{◌≡◌, ◌+◌, ◌<◌, ℕ, length, is_ok, IfOk, Err};
 ghost use Rattle.tfree.specs.Logs.{IsActOf};
 ghost use Rattle.tfree.specs.Turns.{Phased, packets_of, emission_of, runs_of, all_packets, all_takes, all_sends};
-ghost use Rattle.tfree.specs.Turns.{NodeTurn, IsTurn, Extends, AreLeft, IsClockFull};
-ghost use Rattle.tfree.specs.declared.log.TurnFault.TheVariants.{ClockFull};
+ghost use Rattle.tfree.specs.Turns.{NodeTurn, IsTurn, Extends, AreLeft, IsClockFull, IsEventLeft};
+ghost use Rattle.tfree.specs.declared.log.TurnFault.TheVariants.{OutOfMemory, ClockFull};
 
 use crate::log::TurnFault;
 use crate::worker::Worker;
@@ -23,6 +23,7 @@ impl Worker {
         requires link { link < 4 }
         ensures phase { Phased (λ s. packets_of s (s.first + i) link) self.old (is_ok result) self.new }
         ensures full { result ≡ Err ClockFull → IsClockFull self.new }
+        ensures wanted { result ≡ Err OutOfMemory → IsEventLeft self.new }
     {
         if !self.has_ring(i, link) {
             return Ok(());
@@ -42,6 +43,7 @@ impl Worker {
         requires event { IsActOf link event }
         ensures phase { Phased (λ s. emission_of s (s.first + i) link event) self.old (is_ok result) self.new }
         ensures full { result ≡ Err ClockFull → IsClockFull self.new }
+        ensures wanted { result ≡ Err OutOfMemory → IsEventLeft self.new }
     {
         if self.enabled(i, event) {
             self.emit(i, link, event)?;
@@ -54,6 +56,7 @@ impl Worker {
         requires { i < self.old.share.owned }
         ensures phase { Phased (λ s. all_packets s (s.first + i)) self.old (is_ok result) self.new }
         ensures full { result ≡ Err ClockFull → IsClockFull self.new }
+        ensures wanted { result ≡ Err OutOfMemory → IsEventLeft self.new }
     {
         self.packets(i, 0)?;
         self.packets(i, 1)?;
@@ -66,6 +69,7 @@ impl Worker {
         requires { i < self.old.share.owned }
         ensures phase { Phased (λ s. all_takes s (s.first + i)) self.old (is_ok result) self.new }
         ensures full { result ≡ Err ClockFull → IsClockFull self.new }
+        ensures wanted { result ≡ Err OutOfMemory → IsEventLeft self.new }
     {
         self.emission(i, 0, NodeEvent::Take(0))?;
         self.emission(i, 1, NodeEvent::Take(1))?;
@@ -78,6 +82,7 @@ impl Worker {
         requires { i < self.old.share.owned }
         ensures phase { Phased (λ s. all_sends s (s.first + i)) self.old (is_ok result) self.new }
         ensures full { result ≡ Err ClockFull → IsClockFull self.new }
+        ensures wanted { result ≡ Err OutOfMemory → IsEventLeft self.new }
     {
         self.emission(i, 0, NodeEvent::Send(0))?;
         self.emission(i, 1, NodeEvent::Send(1))?;
@@ -90,6 +95,7 @@ impl Worker {
         requires { i < self.old.share.owned }
         ensures phase { Phased (λ s. runs_of s slice (s.first + i)) self.old (is_ok result) self.new }
         ensures full { result ≡ Err ClockFull → IsClockFull self.new }
+        ensures wanted { result ≡ Err OutOfMemory → IsEventLeft self.new }
     {
         let mut left = slice;
         while left > 0 {
@@ -107,6 +113,7 @@ impl Worker {
         requires { i < self.old.share.owned }
         ensures phase { Phased (λ s. NodeTurn s slice (s.first + i)) self.old (is_ok result) self.new }
         ensures full { result ≡ Err ClockFull → IsClockFull self.new }
+        ensures wanted { result ≡ Err OutOfMemory → IsEventLeft self.new }
     {
         self.all_packets(i)?;
         self.all_takes(i)?;
@@ -118,6 +125,7 @@ impl Worker {
     fn nodes_turn(&mut self, slice: u32) -> Result<(), TurnFault>
         ensures phase { Phased (λ s. IsTurn s slice) self.old (is_ok result) self.new }
         ensures full { result ≡ Err ClockFull → IsClockFull self.new }
+        ensures wanted { result ≡ Err OutOfMemory → IsEventLeft self.new }
     {
         for i in 0..self.nodes() {
             self.node_turn(i, slice)?;
@@ -130,12 +138,13 @@ impl Worker {
     ///
     /// # Errors
     /// `OutOfMemory`, or `ClockFull` where the stamp of the next event would not fit. The events that were done
-    /// stand.
+    /// stand, and the next one is not done: its packet is still in its ring. A later turn goes on from there.
     pub fn turn(&mut self, slice: u32) -> Result<Turned, TurnFault>
         ensures same { self.new.share ≡ self.old.share }
         ensures turn { IsTurn self.old.share slice self.old.events (is_ok result) self.new.events }
         ensures nodes { AreLeft self.new }
         ensures full { result ≡ Err ClockFull → IsClockFull self.new }
+        ensures wanted { result ≡ Err OutOfMemory → IsEventLeft self.new }
         ensures extends { Extends self.old.events self.new.events }
         ensures events { IfOk result (λ t. length self.new.events ≡ length self.old.events + t.events) }
     {
