@@ -12,6 +12,7 @@ pub mod SmallNumbers
 pub mod LineParts
 pub mod BadLines
 pub mod LeftText
+pub mod Failures
 pub mod Told
 pub mod DumpLines
 pub mod NetDumps

@@ -2,6 +2,7 @@
 use Rattle.std.proofs.Common.{◌≡◌, ℕ, ◌+◌, ◌-◌, ◌≤◌, ◌^◌, min, refl, sym, ap, ◌∙◌, subst, List, [], ◌++◌, length, take}
 use Rattle.std.proofs.Common.{drop, append_assoc, append-nil, length-append, length-drop, Bool, true, false, Option}
 use Rattle.std.proofs.Common.{Result, Ok, Err, arith}
+use Rattle.std.specs.Prelude.{IfErr}
 use Rattle.std.proofs.Math.Seq.{take-add}
 use Rattle.std.proofs.Math.ListN.{drop_of_length-le}
 use Rattle.std.proofs.lemmas.List.{take-append-le, drop-append-le, take_all}
@@ -13,7 +14,9 @@ use Rattle.std.specs.Io.KnownBytes.{Appends}
 use Rattle.tfiles.specs.declared.writing.output.Output.{Output}
 use Rattle.tfiles.specs.declared.writing.output.Progress.{Progress}
 use Rattle.tfiles.specs.declared.writing.output.WriteFault.{WriteFault}
-use Rattle.tfiles.specs.Outputs.{IsCut, IsOut, Takes, HandsOn, IsTold, Tells, IsFresh, IsEnd}
+use Rattle.tfiles.specs.Failures.{HasCause, HasRisen}
+use Rattle.tfiles.specs.Outputs.{IsCut, IsOut, Takes, HandsOn, IsTold, IsCaused, Tells, IsFresh, IsEnd}
+use Rattle.tfiles.proofs.Failures.{cause-then}
 
 -- a text that is cut and goes on is cut at the same place
 cut-longer : (start now : Option (List ℕ)) (text piece : List ℕ) (written : ℕ) → (c : IsCut start now text written)
@@ -47,41 +50,55 @@ cut-further start old new text rest written taken more c r l a m = (
 )
 
 -- so much was told, and this is left of a whole text
-pub record GoesOn {W : Type 0} (contents : W → Option (List ℕ)) (a b : Output W) (left whole : List ℕ) : Type 0 where
+pub record GoesOn {W : Type 0} (contents : W → Option (List ℕ)) (failures : W → Option ℕ) (a b : Output W)
+    (left whole : List ℕ) : Type 0 where
   pub piece : List ℕ
-  pub tells : Tells contents a b piece
+  pub tells : Tells contents failures a b piece
   pub is_whole : piece ++ left ≡ whole
 
-module _ {W : Type 0} {contents : W → Option (List ℕ)} where
+-- what is caused stays so, where neither the writer nor the progress changes
+caused_kept : {W : Type 0} (failures : W → Option ℕ) (a b : Output W) → b.writer.now ≡ a.writer.now
+    → b.progress ≡ a.progress → (start : Option ℕ) → IsCaused failures start a → IsCaused failures start b
+caused_kept {W} failures a b w p start h =
+    subst (λ (v : W). HasCause start (failures v) b.progress.failed) (sym w)
+    (subst (λ (q : Progress). HasCause start (failures a.writer.now) q.failed) (sym p) h)
+
+module _ {W : Type 0} {contents : W → Option (List ℕ)} {failures : W → Option ℕ} where
   -- nothing was said
-  pub tells_none : (o : Output W) → Tells contents o o []
+  pub tells_none : (o : Output W) → Tells contents failures o o []
   tells_none o =
       record {
         same = refl;
         goes_on =
             λ start text h. subst (λ (t : List ℕ). IsTold contents start t o) (sym (append-nil text)) h;
+        caused = λ start h. h;
       }
 
   -- two pieces, one after the other
-  pub tells_then : {a b c : Output W} {s t : List ℕ} → Tells contents a b s → Tells contents b c t
-      → Tells contents a c (s ++ t)
+  pub tells_then : {a b c : Output W} {s t : List ℕ} → Tells contents failures a b s → Tells contents failures b c t
+      → Tells contents failures a c (s ++ t)
   tells_then {a} {b} {c} {s} {t} f g =
       record {
         same = g.same ∙ f.same;
         goes_on =
             λ start text h. subst (λ (u : List ℕ). IsTold contents start u c) (append_assoc text s t)
             (g.goes_on start (text ++ s) (f.goes_on start text h));
+        caused = λ start h. g.caused start (f.caused start h);
       }
 
   -- the same piece
-  pub tells_as : {a b : Output W} {s t : List ℕ} → Tells contents a b s → s ≡ t → Tells contents a b t
-  tells_as {a} {b} f e = subst (Tells contents a b) e f
+  pub tells_as : {a b : Output W} {s t : List ℕ} → Tells contents failures a b s → s ≡ t → Tells contents failures a b t
+  tells_as {a} {b} f e = subst (Tells contents failures a b) e f
 
   -- bytes wait behind those that wait
   pub tells_kept : (a b : Output W) (bytes : List ℕ) → b.writer ≡ a.writer → b.progress ≡ a.progress
-      → b.waiting ≡ a.waiting ++ bytes → Tells contents a b bytes
+      → b.waiting ≡ a.waiting ++ bytes → Tells contents failures a b bytes
   tells_kept a b bytes w p e =
-      record { same = ap (λ (r : MutBor W). r.ghost_name) w; goes_on = λ start text h. told start text h }
+      record {
+        same = ap (λ (r : MutBor W). r.ghost_name) w;
+        goes_on = λ start text h. told start text h;
+        caused = λ start h. caused_kept failures a b (ap (λ (r : MutBor W). r.now) w) p start h;
+      }
     where
       told : (start : Option (List ℕ)) (text : List ℕ) → IsTold contents start text a
           → IsTold contents start (text ++ bytes) b
@@ -104,14 +121,26 @@ module _ {W : Type 0} {contents : W → Option (List ℕ)} where
   -- bytes that wait, or that come while none wait, are handed on
   pub tells_handed : (a b : Output W) (rest bytes : List ℕ) → rest ≡ a.waiting ++ bytes
       → b.writer.ghost_name ≡ a.writer.ghost_name
-      → HandsOn contents a.writer.now b.writer.now rest a.progress b.progress → b.waiting ≡ []
-      → Tells contents a b bytes
+      → HandsOn contents failures a.writer.now b.writer.now rest a.progress b.progress → b.waiting ≡ []
+      → Tells contents failures a b bytes
   tells_handed a b rest bytes r same h none =
-      record { same = same; goes_on = λ start text t. by start text t a.progress.failed refl h }
+      record {
+        same = same;
+        goes_on = λ start text t. by start text t a.progress.failed refl h;
+        caused = λ start t. why start t a.progress.failed h;
+      }
     where
+      why : (start : Option ℕ) → IsCaused failures start a → (f : Bool)
+          → MatchBool f ((b.writer.now ≡ a.writer.now) × (b.progress ≡ a.progress))
+          (Takes contents failures a.writer.now b.writer.now rest a.progress b.progress)
+          → IsCaused failures start b
+      why start t true k = caused_kept failures a b k.0 k.1 start t
+      why start t false k =
+          cause-then start (failures a.writer.now) (failures b.writer.now) b.progress.failed t.kept k.cause
+
       by : (start : Option (List ℕ)) (text : List ℕ) → IsTold contents start text a → (f : Bool) → a.progress.failed ≡ f
           → MatchBool f ((b.writer.now ≡ a.writer.now) × (b.progress ≡ a.progress))
-          (Takes contents a.writer.now b.writer.now rest a.progress b.progress)
+          (Takes contents failures a.writer.now b.writer.now rest a.progress b.progress)
           → IsTold contents start (text ++ bytes) b
       by start text t true f k =
           let c = cut-longer start (contents a.writer.now) text bytes a.progress.written t.cut in
@@ -137,8 +166,8 @@ module _ {W : Type 0} {contents : W → Option (List ℕ)} where
           }
 
   -- the end: the text is out
-  pub ends_whole : (a b : Output W) → Tells contents a b [] → b.waiting ≡ [] → b.progress.failed ≡ false
-      → IsEnd contents a b (Ok tt)
+  pub ends_whole : (a b : Output W) → Tells contents failures a b [] → b.waiting ≡ [] → b.progress.failed ≡ false
+      → IsEnd contents failures a b (Ok tt)
   ends_whole a b t w f =
       record {
         same = t.same;
@@ -149,23 +178,26 @@ module _ {W : Type 0} {contents : W → Option (List ℕ)} where
             take_all k.cut.count (text ++ []) (omega (arith, none, length-drop k.cut.count (text ++ [])))
             ∙ append-nil text in
             subst (Appends start (contents b.writer.now)) whole k.cut.out;
+        cause = λ start h. tt;
       }
 
   -- the end: the text is cut
-  pub ends_cut : (a b : Output W) (fault : WriteFault) → Tells contents a b [] → fault.written ≡ b.progress.written
-      → IsEnd contents a b (Err fault)
-  ends_cut a b fault t e =
+  pub ends_cut : (a b : Output W) (fault : WriteFault) → Tells contents failures a b []
+      → fault.written ≡ b.progress.written → b.progress.failed ≡ true
+      → IsEnd contents failures a b (Err fault)
+  ends_cut a b fault t e f =
       record {
         same = t.same;
         out = λ start text h.
             let k : IsTold contents start (text ++ []) b = t.goes_on start text h in
             subst (λ (n : ℕ). IsCut start (contents b.writer.now) text n) (sym e)
             (subst (λ (u : List ℕ). IsCut start (contents b.writer.now) u b.progress.written) (append-nil text) k.cut);
+        cause = λ start h. (t.caused start h).cause f;
       }
 
   -- a whole text, from its beginning to its end, with what the writer ends as
   pub written_out : {writer : MutBor W} {a b c : Output W} {text : List ℕ} {result : Result (Unit {0}) WriteFault}
-      → IsFresh contents writer a → Tells contents a b text → IsEnd contents b c result
+      → IsFresh contents failures writer a → Tells contents failures a b text → IsEnd contents failures b c result
       → (end : W) → (writer.ghost_name ≡ c.writer.ghost_name → end ≡ c.writer.now)
       → IsOut (contents writer.now) (contents end) text result
   written_out {writer} {c = c} {text = text} {result = result} f t e end is =
@@ -173,18 +205,28 @@ module _ {W : Type 0} {contents : W → Option (List ℕ)} where
       (sym (is (sym (e.same ∙ t.same ∙ f.same))))
       (e.out (contents writer.now) text (t.goes_on (contents writer.now) [] f.nothing))
 
+  -- where it is cut, its writer has counted a failure
+  pub cut_by_failure : {writer : MutBor W} {a b c : Output W} {text : List ℕ} {result : Result (Unit {0}) WriteFault}
+      → IsFresh contents failures writer a → Tells contents failures a b text → IsEnd contents failures b c result
+      → (end : W) → (writer.ghost_name ≡ c.writer.ghost_name → end ≡ c.writer.now)
+      → IfErr result (λ _. HasRisen (failures writer.now) (failures end))
+  cut_by_failure {writer} {c = c} {result = result} f t e end is =
+      subst (λ (w : W). IfErr result (λ _. HasRisen (failures writer.now) (failures w)))
+      (sym (is (sym (e.same ∙ t.same ∙ f.same))))
+      (e.cause (failures writer.now) (t.caused (failures writer.now) f.caused))
+
   -- so much was told of a whole text, and this is left of it
-  pub goes_on-start : (a : Output W) (whole : List ℕ) → GoesOn contents a a whole whole
+  pub goes_on-start : (a : Output W) (whole : List ℕ) → GoesOn contents failures a a whole whole
   goes_on-start a whole = record { piece = []; tells = tells_none a; is_whole = refl }
 
   -- the same is left
-  pub goes_on-as : {a b : Output W} {left rest whole : List ℕ} → GoesOn contents a b left whole → left ≡ rest
-      → GoesOn contents a b rest whole
-  goes_on-as {a} {b} {whole = whole} g e = subst (λ (l : List ℕ). GoesOn contents a b l whole) e g
+  pub goes_on-as : {a b : Output W} {left rest whole : List ℕ} → GoesOn contents failures a b left whole → left ≡ rest
+      → GoesOn contents failures a b rest whole
+  goes_on-as {a} {b} {whole = whole} g e = subst (λ (l : List ℕ). GoesOn contents failures a b l whole) e g
 
-  pub goes_on-next : {a b c : Output W} {left whole : List ℕ} (piece rest : List ℕ) → GoesOn contents a b left whole
-      → left ≡ piece ++ rest → Tells contents b c piece
-      → GoesOn contents a c rest whole
+  pub goes_on-next : {a b c : Output W} {left whole : List ℕ} (piece rest : List ℕ)
+      → GoesOn contents failures a b left whole → left ≡ piece ++ rest → Tells contents failures b c piece
+      → GoesOn contents failures a c rest whole
   goes_on-next piece rest g e t =
       record {
         piece = g.piece ++ piece;
@@ -192,7 +234,7 @@ module _ {W : Type 0} {contents : W → Option (List ℕ)} where
         is_whole = append_assoc g.piece piece rest ∙ ap (λ (xs : List ℕ). g.piece ++ xs) (sym e) ∙ g.is_whole;
       }
 
-  pub goes_on-end : {a b : Output W} {left whole : List ℕ} → GoesOn contents a b left whole → left ≡ []
-      → Tells contents a b whole
+  pub goes_on-end : {a b : Output W} {left whole : List ℕ} → GoesOn contents failures a b left whole → left ≡ []
+      → Tells contents failures a b whole
   goes_on-end g e =
       tells_as g.tells (sym (append-nil g.piece) ∙ ap (λ (xs : List ℕ). g.piece ++ xs) (sym e) ∙ g.is_whole)

@@ -1,16 +1,17 @@
 //! An image as instructions, as they stand in it.
 
-ghost use Rattle.std.specs.Prelude.{◌≡◌, ◌++◌, codes};
+ghost use Rattle.std.specs.Prelude.{IfErr, ◌≡◌, ◌++◌, codes};
 ghost use Rattle.std.specs.Fmt.{signed_decimal};
 ghost use Rattle.tcode.specs.Table.{function_entry};
 ghost use Rattle.tcode.specs.Texts.{instruction_text};
 ghost use Rattle.tfiles.specs.Disassembly.{at_address, byte_text, dis_text as disassembled, head_size, head_text};
 ghost use Rattle.tfiles.specs.Disassembly.{segment_lines};
+ghost use Rattle.tfiles.specs.Failures.{HasRisen};
 ghost use Rattle.tfiles.specs.Outputs.{IsOut, Tells};
 
+use crate::counted::CountedWrite;
 use crate::writing::output::{Output, WriteFault};
 use crate::writing::text::{put_byte, put_hex, put_signed};
-use std::io::Write;
 use tcode::{
     DecodeFault, Function, Instruction, decode_bytes, function_name, operation_name, operation_of,
 };
@@ -23,8 +24,9 @@ use tword::Word;
 ///
 /// # Errors
 /// Where the writer fails or takes nothing. Just so many of the first bytes are written as the fault tells.
-pub fn dis_text<W: Write>(image: &Image, out: &mut W) -> Result<(), WriteFault>
-    ensures { IsOut (W.contents out.old) (W.contents out.new) (disassembled image.now) result }
+pub fn dis_text<W: CountedWrite>(image: &Image, out: &mut W) -> Result<(), WriteFault>
+    ensures out { IsOut (W.contents out.old) (W.contents out.new) (disassembled image.now) result }
+    ensures cause { IfErr result (λ _. HasRisen (W.failures out.old) (W.failures out.new)) }
 {
     let mut output = Output::new(out);
     put_image(&mut output, image);
@@ -32,8 +34,8 @@ pub fn dis_text<W: Write>(image: &Image, out: &mut W) -> Result<(), WriteFault>
 }
 
 /// The lines of an image.
-fn put_image<W: Write>(out: &mut Output<'_, W>, image: &Image)
-    ensures { Tells W.contents out.old out.new (disassembled image.now) }
+fn put_image<W: CountedWrite>(out: &mut Output<'_, W>, image: &Image)
+    ensures { Tells W.contents W.failures out.old out.new (disassembled image.now) }
 {
     for segment in image.segments.as_slice() {
         put_segment(out, segment);
@@ -41,8 +43,8 @@ fn put_image<W: Write>(out: &mut Output<'_, W>, image: &Image)
 }
 
 /// The lines of a segment.
-fn put_segment<W: Write>(out: &mut Output<'_, W>, segment: &Segment)
-    ensures { Tells W.contents out.old out.new (segment_lines segment.now) }
+fn put_segment<W: CountedWrite>(out: &mut Output<'_, W>, segment: &Segment)
+    ensures { Tells W.contents W.failures out.old out.new (segment_lines segment.now) }
 {
     let mut address = segment.address;
     let mut rest = segment.bytes.as_slice();
@@ -66,13 +68,13 @@ fn size_of_head(head: &Result<Instruction, DecodeFault>) -> usize
 }
 
 /// One line.
-fn put_line<W: Write>(
+fn put_line<W: CountedWrite>(
     out: &mut Output<'_, W>,
     address: Word,
     head: &Result<Instruction, DecodeFault>,
     byte: u8,
 )
-    ensures { Tells W.contents out.old out.new (at_address address (head_text head.now byte)) }
+    ensures { Tells W.contents W.failures out.old out.new (at_address address (head_text head.now byte)) }
 {
     put_hex(out, &address.get().to_be_bytes());
     out.put(b": ");
@@ -81,8 +83,12 @@ fn put_line<W: Write>(
 }
 
 /// What stands on a line: an instruction, or a byte at which none begins.
-fn put_head<W: Write>(out: &mut Output<'_, W>, head: &Result<Instruction, DecodeFault>, byte: u8)
-    ensures { Tells W.contents out.old out.new (head_text head.now byte) }
+fn put_head<W: CountedWrite>(
+    out: &mut Output<'_, W>,
+    head: &Result<Instruction, DecodeFault>,
+    byte: u8,
+)
+    ensures { Tells W.contents W.failures out.old out.new (head_text head.now byte) }
 {
     match head {
         Ok(instruction) => put_instruction(out, instruction),
@@ -91,8 +97,8 @@ fn put_head<W: Write>(out: &mut Output<'_, W>, head: &Result<Instruction, Decode
 }
 
 /// An instruction.
-fn put_instruction<W: Write>(out: &mut Output<'_, W>, instruction: &Instruction)
-    ensures { Tells W.contents out.old out.new (instruction_text instruction.now) }
+fn put_instruction<W: CountedWrite>(out: &mut Output<'_, W>, instruction: &Instruction)
+    ensures { Tells W.contents W.failures out.old out.new (instruction_text instruction.now) }
 {
     if let Function::Opr = instruction.function
         && let Some(operation) = operation_of(instruction.operand)
@@ -104,8 +110,8 @@ fn put_instruction<W: Write>(out: &mut Output<'_, W>, instruction: &Instruction)
 }
 
 /// A function and its operand.
-fn put_function<W: Write>(out: &mut Output<'_, W>, function: Function, operand: i32)
-    ensures { Tells W.contents out.old out.new
+fn put_function<W: CountedWrite>(out: &mut Output<'_, W>, function: Function, operand: i32)
+    ensures { Tells W.contents W.failures out.old out.new
         ((function_entry function).name ++ (codes " " ++ signed_decimal operand)) }
 {
     out.put(function_name(function).as_bytes());
@@ -114,8 +120,8 @@ fn put_function<W: Write>(out: &mut Output<'_, W>, function: Function, operand: 
 }
 
 /// A byte at which no instruction begins.
-fn put_data<W: Write>(out: &mut Output<'_, W>, byte: u8)
-    ensures { Tells W.contents out.old out.new (byte_text byte) }
+fn put_data<W: CountedWrite>(out: &mut Output<'_, W>, byte: u8)
+    ensures { Tells W.contents W.failures out.old out.new (byte_text byte) }
 {
     out.put(b"db ");
     put_byte(out, byte);

@@ -1,16 +1,17 @@
 //! The dump of a net: those of its nodes, in their order.
 
-ghost use Rattle.std.specs.Prelude.{◌≡◌, length, option_map};
+ghost use Rattle.std.specs.Prelude.{IfErr, ◌≡◌, length, option_map};
 ghost use Rattle.tproc.specs.Machine.{buffer_of, claims_of};
 ghost use Rattle.tproc.specs.Hidden.{hidden};
 ghost use Rattle.tproc.specs.Messages.{input_of};
 ghost use Rattle.tnet.specs.View.{view};
 ghost use Rattle.tfiles.specs.Texts.{dump_of, dump_text};
+ghost use Rattle.tfiles.specs.Failures.{HasRisen};
 ghost use Rattle.tfiles.specs.Outputs.{IsOut, Tells};
 
+use crate::counted::CountedWrite;
 use crate::writing::node_dump::put_node_dump;
 use crate::writing::output::{Output, WriteFault};
-use std::io::Write;
 use tlink::Node;
 use tnet::Net;
 use tproc::Processor;
@@ -20,8 +21,9 @@ use tword::Span;
 ///
 /// # Errors
 /// Where the writer fails or takes nothing. Just so many of the first bytes are written as the fault tells.
-pub fn write_dump<W: Write>(out: &mut W, net: &Net) -> Result<(), WriteFault>
-    ensures { IsOut (W.contents out.old) (W.contents out.new) (dump_text (view net.now)) result }
+pub fn write_dump<W: CountedWrite>(out: &mut W, net: &Net) -> Result<(), WriteFault>
+    ensures out { IsOut (W.contents out.old) (W.contents out.new) (dump_text (view net.now)) result }
+    ensures cause { IfErr result (λ _. HasRisen (W.failures out.old) (W.failures out.new)) }
 {
     let mut output = Output::new(out);
     put_dump(&mut output, net);
@@ -29,8 +31,8 @@ pub fn write_dump<W: Write>(out: &mut W, net: &Net) -> Result<(), WriteFault>
 }
 
 /// The dumps of all nodes.
-pub fn put_dump<W: Write>(out: &mut Output<'_, W>, net: &Net)
-    ensures { Tells W.contents out.old out.new (dump_text (view net.now)) }
+pub fn put_dump<W: CountedWrite>(out: &mut Output<'_, W>, net: &Net)
+    ensures { Tells W.contents W.failures out.old out.new (dump_text (view net.now)) }
 {
     for (number, node) in net.nodes().iter().enumerate() {
         put_node(out, number, node);
@@ -38,9 +40,9 @@ pub fn put_dump<W: Write>(out: &mut Output<'_, W>, net: &Net)
 }
 
 /// The dump of a node.
-fn put_node<W: Write>(out: &mut Output<'_, W>, number: usize, node: &Node)
+fn put_node<W: CountedWrite>(out: &mut Output<'_, W>, number: usize, node: &Node)
     requires { length node.now.machine.control.links ≡ 4 }
-    ensures { Tells W.contents out.old out.new
+    ensures { Tells W.contents W.failures out.old out.new
         (dump_of number node.now.broken node.now.machine.control.halted (hidden node.now.machine).store) }
 {
     let processor = node.processor();

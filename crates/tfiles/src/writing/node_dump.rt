@@ -9,9 +9,9 @@ ghost use Rattle.tfiles.specs.Texts.{is_zero, is_pending};
 ghost use Rattle.tfiles.specs.Outputs.{Tells};
 
 use crate::break_names::break_name;
+use crate::counted::CountedWrite;
 use crate::writing::output::Output;
 use crate::writing::text::{put_byte, put_decimal, put_hex};
-use std::io::Write;
 use tword::limits::MOST_NEG;
 use tword::{Break, Span, Word};
 
@@ -21,7 +21,7 @@ const LINE_BYTES: usize = 16;
 /// The dump of a node (own choice of format): a line `node 3 ok`, `node 3 halted` or `node 3 frozen NAME`, and then
 /// a line for each sixteen bytes that are not all zero, as `800000f0: 00 00 .. 80`. A byte that a pending link
 /// input is to write, whose spans are given, is shown as `--`, and is not zero.
-pub(crate) fn put_node_dump<W: Write>(
+pub(crate) fn put_node_dump<W: CountedWrite>(
     out: &mut Output<'_, W>,
     node: usize,
     broken: Option<Break>,
@@ -30,7 +30,7 @@ pub(crate) fn put_node_dump<W: Write>(
     pending: &[Option<Span>],
 )
     requires { length bytes.now ≤ 2 ^ 20 }
-    ensures { Tells W.contents out.old out.new
+    ensures { Tells W.contents W.failures out.old out.new
         (dump_of node broken halted (hiding (is_pending pending.now) (as_cells bytes.now))) }
 {
     put_node_line(out, node, broken, halted);
@@ -38,13 +38,13 @@ pub(crate) fn put_node_dump<W: Write>(
 }
 
 /// The line that says how the node stands.
-fn put_node_line<W: Write>(
+fn put_node_line<W: CountedWrite>(
     out: &mut Output<'_, W>,
     node: usize,
     broken: Option<Break>,
     halted: bool,
 )
-    ensures { Tells W.contents out.old out.new (node_line node broken halted) }
+    ensures { Tells W.contents W.failures out.old out.new (node_line node broken halted) }
 {
     out.put(b"node ");
     put_decimal(out, node as u64);
@@ -54,8 +54,8 @@ fn put_node_line<W: Write>(
 }
 
 /// How a node stands.
-fn put_standing<W: Write>(out: &mut Output<'_, W>, broken: Option<Break>, halted: bool)
-    ensures { Tells W.contents out.old out.new (node_text broken halted) }
+fn put_standing<W: CountedWrite>(out: &mut Output<'_, W>, broken: Option<Break>, halted: bool)
+    ensures { Tells W.contents W.failures out.old out.new (node_text broken halted) }
 {
     match broken {
         Some(broken) => put_frozen(out, broken),
@@ -65,17 +65,18 @@ fn put_standing<W: Write>(out: &mut Output<'_, W>, broken: Option<Break>, halted
 }
 
 /// That it is frozen, and by which break.
-fn put_frozen<W: Write>(out: &mut Output<'_, W>, broken: Break)
-    ensures { Tells W.contents out.old out.new (codes "frozen " ++ break_name broken) }
+fn put_frozen<W: CountedWrite>(out: &mut Output<'_, W>, broken: Break)
+    ensures { Tells W.contents W.failures out.old out.new (codes "frozen " ++ break_name broken) }
 {
     out.put(b"frozen ");
     out.put(break_name(broken));
 }
 
 /// The lines of bytes.
-fn put_lines<W: Write>(out: &mut Output<'_, W>, bytes: &[u8], pending: &[Option<Span>])
+fn put_lines<W: CountedWrite>(out: &mut Output<'_, W>, bytes: &[u8], pending: &[Option<Span>])
     requires { length bytes.now ≤ 2 ^ 20 }
-    ensures { Tells W.contents out.old out.new (lines_of (hiding (is_pending pending.now) (as_cells bytes.now))) }
+    ensures { Tells W.contents W.failures out.old out.new
+        (lines_of (hiding (is_pending pending.now) (as_cells bytes.now))) }
 {
     for line in 0..bytes.len().div_ceil(LINE_BYTES) {
         let start = LINE_BYTES * line;
@@ -85,9 +86,14 @@ fn put_lines<W: Write>(out: &mut Output<'_, W>, bytes: &[u8], pending: &[Option<
 }
 
 /// One line. Only where a pending input has a byte of the line is each byte looked up.
-fn put_line<W: Write>(out: &mut Output<'_, W>, address: u32, bytes: &[u8], pending: &[Option<Span>])
+fn put_line<W: CountedWrite>(
+    out: &mut Output<'_, W>,
+    address: u32,
+    bytes: &[u8],
+    pending: &[Option<Span>],
+)
     requires { address + length bytes.now < 2 ^ 32 }
-    ensures { Tells W.contents out.old out.new
+    ensures { Tells W.contents W.failures out.old out.new
         (dump_line address (hiding_from (is_pending pending.now) address (as_cells bytes.now))) }
 {
     if has_pending(pending, address, bytes.len() as u32) {
@@ -98,14 +104,14 @@ fn put_line<W: Write>(out: &mut Output<'_, W>, address: u32, bytes: &[u8], pendi
 }
 
 /// One line, unless it has zeros alone.
-fn put_cells<W: Write>(
+fn put_cells<W: CountedWrite>(
     out: &mut Output<'_, W>,
     address: u32,
     bytes: &[u8],
     pending: &[Option<Span>],
 )
     requires { address + length bytes.now < 2 ^ 32 }
-    ensures { Tells W.contents out.old out.new
+    ensures { Tells W.contents W.failures out.old out.new
         (dump_line address (hiding_from (is_pending pending.now) address (as_cells bytes.now))) }
 {
     if are_zero(address, bytes, pending) {
@@ -118,14 +124,14 @@ fn put_cells<W: Write>(
 }
 
 /// The bytes of a line.
-fn put_shown<W: Write>(
+fn put_shown<W: CountedWrite>(
     out: &mut Output<'_, W>,
     address: u32,
     bytes: &[u8],
     pending: &[Option<Span>],
 )
     requires { address + length bytes.now < 2 ^ 32 }
-    ensures { Tells W.contents out.old out.new
+    ensures { Tells W.contents W.failures out.old out.new
         (flat_map cell_text (hiding_from (is_pending pending.now) address (as_cells bytes.now))) }
 {
     for (i, byte) in bytes.iter().enumerate() {
@@ -135,8 +141,13 @@ fn put_shown<W: Write>(
 
 /// One byte.
 #[inline]
-fn put_cell<W: Write>(out: &mut Output<'_, W>, address: u32, byte: u8, pending: &[Option<Span>])
-    ensures { Tells W.contents out.old out.new
+fn put_cell<W: CountedWrite>(
+    out: &mut Output<'_, W>,
+    address: u32,
+    byte: u8,
+    pending: &[Option<Span>],
+)
+    ensures { Tells W.contents W.failures out.old out.new
         (cell_text (if is_pending pending.now address then None else Some byte)) }
 {
     if has_pending(pending, address, 1) {
@@ -148,8 +159,8 @@ fn put_cell<W: Write>(out: &mut Output<'_, W>, address: u32, byte: u8, pending: 
 
 /// One byte that is not hidden.
 #[inline]
-fn put_seen<W: Write>(out: &mut Output<'_, W>, byte: u8)
-    ensures { Tells W.contents out.old out.new (cell_text (Some byte)) }
+fn put_seen<W: CountedWrite>(out: &mut Output<'_, W>, byte: u8)
+    ensures { Tells W.contents W.failures out.old out.new (cell_text (Some byte)) }
 {
     out.put(b" ");
     put_byte(out, byte);

@@ -1,11 +1,12 @@
 //! A text on its way to a writer, through a buffer on the stack.
 
-ghost use Rattle.std.specs.Prelude.{◌≡◌, ◌≤◌, ◌+◌, ◌⊎◌, List, [], ℕ, length, take};
+ghost use Rattle.std.specs.Prelude.{◌≡◌, ◌≤◌, ◌+◌, ◌⊎◌, List, [], ℕ, length, nat_lt, take};
 ghost use Rattle.std.specs.Io.KnownBytes.{Appends};
+ghost use Rattle.tfiles.specs.Failures.{HasCause};
 ghost use Rattle.tfiles.specs.Outputs.{HandsOn, IsEnd, IsFresh, Tells};
 
+use crate::counted::CountedWrite;
 use crate::writing::waiting::Waiting;
-use std::io::Write;
 use thiserror::Error;
 
 /// How many bytes of a text may wait.
@@ -36,10 +37,10 @@ pub struct Output<'a, W> {
     progress: Progress,
 }
 
-impl<'a, W: Write> Output<'a, W> {
+impl<'a, W: CountedWrite> Output<'a, W> {
     /// The beginning of a text.
     pub fn new(writer: &'a mut W) -> Output<'a, W>
-        ensures { IsFresh W.contents writer.entry result }
+        ensures { IsFresh W.contents W.failures writer.entry result }
     {
         Output {
             writer,
@@ -52,8 +53,9 @@ impl<'a, W: Write> Output<'a, W> {
     }
 
     /// The text goes on with these bytes. They are dropped where the writer has failed.
+    #[inline]
     pub fn put(&mut self, bytes: &[u8])
-        ensures { Tells W.contents self.old self.new bytes.now }
+        ensures { Tells W.contents W.failures self.old self.new bytes.now }
     {
         self.make_room(bytes.len());
         if self.waiting.has_room(bytes.len()) {
@@ -68,7 +70,7 @@ impl<'a, W: Write> Output<'a, W> {
     /// # Errors
     /// Where the writer has failed, now or before.
     pub fn finish(&mut self) -> Result<(), WriteFault>
-        ensures { IsEnd W.contents self.old self.new result }
+        ensures { IsEnd W.contents W.failures self.old self.new result }
     {
         self.send();
         let Progress { written, failed } = self.progress;
@@ -80,8 +82,9 @@ impl<'a, W: Write> Output<'a, W> {
     }
 
     /// Makes room for so many bytes, or as much as there is.
+    #[inline]
     fn make_room(&mut self, count: usize)
-        ensures told { Tells W.contents self.old self.new [] }
+        ensures told { Tells W.contents W.failures self.old self.new [] }
         ensures room { (length self.new.waiting + count ≤ 8192) ⊎ (self.new.waiting ≡ []) }
     {
         if !self.waiting.has_room(count) {
@@ -90,8 +93,9 @@ impl<'a, W: Write> Output<'a, W> {
     }
 
     /// Hands on what waits.
+    #[inline(never)]
     fn send(&mut self)
-        ensures told { Tells W.contents self.old self.new [] }
+        ensures told { Tells W.contents W.failures self.old self.new [] }
         ensures empty { self.new.waiting ≡ [] }
     {
         self.progress = hand_on(self.writer, self.waiting.as_slice(), self.progress);
@@ -100,8 +104,9 @@ impl<'a, W: Write> Output<'a, W> {
 }
 
 /// Hands bytes to a writer, unless it has failed before.
-fn hand_on<W: Write>(writer: &mut W, bytes: &[u8], before: Progress) -> Progress
-    ensures { HandsOn W.contents writer.old writer.new bytes.now before result }
+#[inline(never)]
+fn hand_on<W: CountedWrite>(writer: &mut W, bytes: &[u8], before: Progress) -> Progress
+    ensures { HandsOn W.contents W.failures writer.old writer.new bytes.now before result }
 {
     if before.failed {
         return before;
@@ -113,16 +118,18 @@ fn hand_on<W: Write>(writer: &mut W, bytes: &[u8], before: Progress) -> Progress
     }
 }
 
-/// Writes bytes until the writer has taken all, fails or takes none. Answers how many it took.
-fn write_while_taken<W: Write>(writer: &mut W, bytes: &[u8]) -> usize
+/// Writes bytes until the writer has taken all, fails or takes none. Answers how many it took: fewer than all only
+/// where a write has failed.
+fn write_while_taken<W: CountedWrite>(writer: &mut W, bytes: &[u8]) -> usize
     ensures within { result ≤ length bytes.now }
     ensures taken { Appends (W.contents writer.old) (W.contents writer.new) (take result bytes.now) }
+    ensures cause { HasCause (W.failures writer.old) (W.failures writer.new) (nat_lt result (length bytes.now)) }
 {
     let mut taken = 0;
     while taken < bytes.len() {
-        match writer.write(&bytes[taken..]) {
-            Ok(more) if more > 0 => taken += more,
-            _ => break,
+        match writer.write_counted(&bytes[taken..]) {
+            Ok(0) | Err(_) => return taken,
+            Ok(more) => taken += more,
         }
     }
     taken

@@ -6,13 +6,13 @@ ghost use Rattle.hex.specs.Hex.{encode_lower};
 ghost use Rattle.tfiles.specs.Texts.{end_text};
 ghost use Rattle.tfiles.specs.Outputs.{Tells};
 
+use crate::counted::CountedWrite;
 use crate::writing::output::Output;
-use std::io::Write;
 use tplan::plan::End;
 
 /// A number in decimal digits.
-pub fn put_decimal<W: Write>(out: &mut Output<'_, W>, number: u64)
-    ensures { Tells W.contents out.old out.new (decimal number) }
+pub fn put_decimal<W: CountedWrite>(out: &mut Output<'_, W>, number: u64)
+    ensures { Tells W.contents W.failures out.old out.new (decimal number) }
 {
     if number < 10 {
         out.put(&[b'0' + number as u8]);
@@ -23,16 +23,16 @@ pub fn put_decimal<W: Write>(out: &mut Output<'_, W>, number: u64)
 }
 
 /// A number in decimal digits, with a minus sign where it is negative.
-pub(crate) fn put_signed<W: Write>(out: &mut Output<'_, W>, number: i32)
-    ensures { Tells W.contents out.old out.new (signed_decimal number) }
+pub(crate) fn put_signed<W: CountedWrite>(out: &mut Output<'_, W>, number: i32)
+    ensures { Tells W.contents W.failures out.old out.new (signed_decimal number) }
 {
     put_sign(out, number < 0);
     put_decimal(out, u64::from(number.unsigned_abs()));
 }
 
 /// The sign of a number.
-fn put_sign<W: Write>(out: &mut Output<'_, W>, negative: bool)
-    ensures { Tells W.contents out.old out.new (if negative then codes "-" else []) }
+fn put_sign<W: CountedWrite>(out: &mut Output<'_, W>, negative: bool)
+    ensures { Tells W.contents W.failures out.old out.new (if negative then codes "-" else []) }
 {
     if negative {
         out.put(b"-");
@@ -40,8 +40,8 @@ fn put_sign<W: Write>(out: &mut Output<'_, W>, negative: bool)
 }
 
 /// Bytes as hexadecimal digits, in lower case.
-pub(crate) fn put_hex<W: Write>(out: &mut Output<'_, W>, bytes: &[u8])
-    ensures { Tells W.contents out.old out.new (encode_lower bytes.now) }
+pub(crate) fn put_hex<W: CountedWrite>(out: &mut Output<'_, W>, bytes: &[u8])
+    ensures { Tells W.contents W.failures out.old out.new (encode_lower bytes.now) }
 {
     for byte in bytes {
         put_byte(out, *byte);
@@ -49,8 +49,8 @@ pub(crate) fn put_hex<W: Write>(out: &mut Output<'_, W>, bytes: &[u8])
 }
 
 /// A byte as two hexadecimal digits.
-pub(crate) fn put_byte<W: Write>(out: &mut Output<'_, W>, byte: u8)
-    ensures { Tells W.contents out.old out.new (encode_lower (byte ∷ [])) }
+pub fn put_byte<W: CountedWrite>(out: &mut Output<'_, W>, byte: u8)
+    ensures { Tells W.contents W.failures out.old out.new (encode_lower (byte ∷ [])) }
 {
     let mut digits = [0; 2];
     // There is room for just two digits.
@@ -59,8 +59,8 @@ pub(crate) fn put_byte<W: Write>(out: &mut Output<'_, W>, byte: u8)
 }
 
 /// An end of a wire, as its node and its link.
-pub(crate) fn put_end<W: Write>(out: &mut Output<'_, W>, end: &End)
-    ensures { Tells W.contents out.old out.new (end_text end.now) }
+pub(crate) fn put_end<W: CountedWrite>(out: &mut Output<'_, W>, end: &End)
+    ensures { Tells W.contents W.failures out.old out.new (end_text end.now) }
 {
     put_decimal(out, u64::from(end.node));
     out.put(b".");

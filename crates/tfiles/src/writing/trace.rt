@@ -1,15 +1,16 @@
 //! The trace of a run: a line for each note.
 
-ghost use Rattle.std.specs.Prelude.{[], ◌∷◌, codes, decimal, length};
+ghost use Rattle.std.specs.Prelude.{IfErr, [], ◌∷◌, codes, decimal, length};
 ghost use Rattle.hex.specs.Hex.{encode_lower};
 ghost use Rattle.tfiles.specs.Logs.{line};
 ghost use Rattle.tfiles.specs.Texts.{break_name, end_text, note_text, trace_text, words};
+ghost use Rattle.tfiles.specs.Failures.{HasRisen};
 ghost use Rattle.tfiles.specs.Outputs.{IsOut, Tells};
 
 use crate::break_names::break_name;
+use crate::counted::CountedWrite;
 use crate::writing::output::{Output, WriteFault};
 use crate::writing::text::{put_decimal, put_end, put_hex};
-use std::io::Write;
 use tplan::Note;
 use tplan::plan::End;
 use tword::Break;
@@ -19,8 +20,9 @@ use tword::Break;
 ///
 /// # Errors
 /// Where the writer fails or takes nothing. Just so many of the first bytes are written as the fault tells.
-pub fn write_trace<W: Write>(out: &mut W, notes: &[Note]) -> Result<(), WriteFault>
-    ensures { IsOut (W.contents out.old) (W.contents out.new) (trace_text notes.now) result }
+pub fn write_trace<W: CountedWrite>(out: &mut W, notes: &[Note]) -> Result<(), WriteFault>
+    ensures out { IsOut (W.contents out.old) (W.contents out.new) (trace_text notes.now) result }
+    ensures cause { IfErr result (λ _. HasRisen (W.failures out.old) (W.failures out.new)) }
 {
     let mut output = Output::new(out);
     put_trace(&mut output, notes);
@@ -28,8 +30,8 @@ pub fn write_trace<W: Write>(out: &mut W, notes: &[Note]) -> Result<(), WriteFau
 }
 
 /// The lines of notes.
-pub fn put_trace<W: Write>(out: &mut Output<'_, W>, notes: &[Note])
-    ensures { Tells W.contents out.old out.new (trace_text notes.now) }
+pub fn put_trace<W: CountedWrite>(out: &mut Output<'_, W>, notes: &[Note])
+    ensures { Tells W.contents W.failures out.old out.new (trace_text notes.now) }
 {
     for note in notes {
         put_line(out, note);
@@ -37,16 +39,16 @@ pub fn put_trace<W: Write>(out: &mut Output<'_, W>, notes: &[Note])
 }
 
 /// The line of a note.
-fn put_line<W: Write>(out: &mut Output<'_, W>, note: &Note)
-    ensures { Tells W.contents out.old out.new (line (note_text note.now)) }
+fn put_line<W: CountedWrite>(out: &mut Output<'_, W>, note: &Note)
+    ensures { Tells W.contents W.failures out.old out.new (line (note_text note.now)) }
 {
     put_note(out, note);
     out.put(b"\n");
 }
 
 /// A note.
-fn put_note<W: Write>(out: &mut Output<'_, W>, note: &Note)
-    ensures { Tells W.contents out.old out.new (note_text note.now) }
+fn put_note<W: CountedWrite>(out: &mut Output<'_, W>, note: &Note)
+    ensures { Tells W.contents W.failures out.old out.new (note_text note.now) }
 {
     match note {
         Note::Msg { from, to, bytes } => put_message(out, from, to, bytes.as_slice()),
@@ -56,8 +58,8 @@ fn put_note<W: Write>(out: &mut Output<'_, W>, note: &Note)
 }
 
 /// A message: its two ends, its length and its bytes.
-fn put_message<W: Write>(out: &mut Output<'_, W>, from: &End, to: &End, bytes: &[u8])
-    ensures { Tells W.contents out.old out.new
+fn put_message<W: CountedWrite>(out: &mut Output<'_, W>, from: &End, to: &End, bytes: &[u8])
+    ensures { Tells W.contents W.failures out.old out.new
         (words (codes "msg" ∷ end_text from.now ∷ end_text to.now ∷ decimal (length bytes.now)
         ∷ encode_lower bytes.now ∷ [])) }
 {
@@ -72,16 +74,17 @@ fn put_message<W: Write>(out: &mut Output<'_, W>, from: &End, to: &End, bytes: &
 }
 
 /// A node that halted.
-fn put_halt<W: Write>(out: &mut Output<'_, W>, node: u8)
-    ensures { Tells W.contents out.old out.new (words (codes "halt" ∷ decimal node ∷ [])) }
+fn put_halt<W: CountedWrite>(out: &mut Output<'_, W>, node: u8)
+    ensures { Tells W.contents W.failures out.old out.new (words (codes "halt" ∷ decimal node ∷ [])) }
 {
     out.put(b"halt ");
     put_decimal(out, u64::from(node));
 }
 
 /// A node that froze.
-fn put_freeze<W: Write>(out: &mut Output<'_, W>, node: u8, broken: Break)
-    ensures { Tells W.contents out.old out.new (words (codes "freeze" ∷ decimal node ∷ break_name broken ∷ [])) }
+fn put_freeze<W: CountedWrite>(out: &mut Output<'_, W>, node: u8, broken: Break)
+    ensures { Tells W.contents W.failures out.old out.new
+        (words (codes "freeze" ∷ decimal node ∷ break_name broken ∷ [])) }
 {
     out.put(b"freeze ");
     put_decimal(out, u64::from(node));

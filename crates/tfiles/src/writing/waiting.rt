@@ -31,6 +31,7 @@ impl<const N: usize> Waiting<N> {
     }
 
     /// The bytes that wait.
+    #[inline]
     pub(crate) fn as_slice(&self) -> &[u8]
         ensures { result.now ≡ self.now }
     {
@@ -38,6 +39,7 @@ impl<const N: usize> Waiting<N> {
     }
 
     /// Whether there is room for so many more.
+    #[inline]
     pub(crate) fn has_room(&self, count: usize) -> bool
         ensures { IsTrue result ↔ (length self.now + count ≤ N) }
     {
@@ -45,6 +47,7 @@ impl<const N: usize> Waiting<N> {
     }
 
     /// More bytes wait.
+    #[inline]
     pub(crate) fn keep(&mut self, bytes: &[u8])
         requires { length self.old + length bytes.now ≤ N }
         ensures { self.new ≡ self.old ++ bytes.now }

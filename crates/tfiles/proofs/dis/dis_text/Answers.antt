@@ -1,6 +1,10 @@
 use Rattle.std.proofs.Common.{rules}
-use Rattle.tfiles.proofs.Told.{written_out}
+use Rattle.tfiles.proofs.Told.{cut_by_failure, written_out}
 use Rattle.tfiles.proofs.dis.dis_text.Goals as goal
 
 pub returns : goal.returns
-returns g c = written_out c.new-output.ensures c.put_image.ensures c.finish.ensures _ (search rules)
+returns g c =
+    record {
+      out = written_out c.new-output.ensures c.put_image.ensures c.finish.ensures _ (search rules);
+      cause = cut_by_failure c.new-output.ensures c.put_image.ensures c.finish.ensures _ (search rules);
+    }

@@ -6,5 +6,6 @@ use Rattle.tfiles.proofs.dis.put_image.Given as goal
 -- what was told and what is left
 abbrev pub invariant-loop-segment : goal.invariant-loop-segment
 invariant-loop-segment g l =
-    GoesOn g.W.Write.contents l.initial.out l.out (flat_map segment_lines (drop l.segment-index l.image.segments))
+    GoesOn g.W.Write.contents g.W.CountedWrite.failures l.initial.out l.out
+    (flat_map segment_lines (drop l.segment-index l.image.segments))
     (dis_text l.image)

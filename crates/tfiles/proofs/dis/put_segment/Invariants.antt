@@ -7,7 +7,8 @@ use Rattle.tfiles.proofs.dis.put_segment.Given as goal
 -- what was told and what is left
 abbrev pub invariant-loop-byte : goal.invariant-loop-byte
 invariant-loop-byte g l =
-    GoesOn g.W.Write.contents l.initial.out l.out (lines_at l.address l.rest) (segment_lines l.segment)
+    GoesOn g.W.Write.contents g.W.CountedWrite.failures l.initial.out l.out
+    (lines_at l.address l.rest) (segment_lines l.segment)
 
 abbrev pub decreases-loop-byte : goal.decreases-loop-byte
 decreases-loop-byte g l = length l.rest

@@ -17,7 +17,7 @@ pub loop-line-preserved : goal.loop-line-preserved
 loop-line-preserved g c =
     let within : 16 * c.loop-line.line < length c.args.bytes.now =
     is_within _ _ _ c.div_ceil-line-end.ensures c.loop-line-test.true in
-    let told : Tells g.W.Write.contents c.loop-line.out c.put_line.new.out
+    let told : Tells g.W.Write.contents g.W.CountedWrite.failures c.loop-line.out c.put_line.new.out
     (line_of (is_pending c.args.pending.now) c.loop-line.line c.args.bytes.now) =
     first_of (search rules, grind (arith, common_steps)) in
     goes_on-next (line_of (is_pending c.args.pending.now) c.loop-line.line c.args.bytes.now) _ c.loop-line.invariant

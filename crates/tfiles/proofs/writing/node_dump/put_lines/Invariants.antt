@@ -7,5 +7,6 @@ use Rattle.tfiles.proofs.writing.node_dump.put_lines.Given as goal
 -- what was told and what is left
 abbrev pub invariant-loop-line : goal.invariant-loop-line
 invariant-loop-line g l =
-    GoesOn g.W.Write.contents l.initial.out l.out (lines_from l.line (hiding (is_pending l.pending) (as_cells l.bytes)))
+    GoesOn g.W.Write.contents g.W.CountedWrite.failures l.initial.out l.out
+    (lines_from l.line (hiding (is_pending l.pending) (as_cells l.bytes)))
     (lines_of (hiding (is_pending l.pending) (as_cells l.bytes)))

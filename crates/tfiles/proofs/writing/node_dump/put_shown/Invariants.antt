@@ -7,6 +7,6 @@ use Rattle.tfiles.proofs.writing.node_dump.put_shown.Given as goal
 -- what was told and what is left
 abbrev pub invariant-loop-i : goal.invariant-loop-i
 invariant-loop-i g l =
-    GoesOn g.W.Write.contents l.initial.out l.out
+    GoesOn g.W.Write.contents g.W.CountedWrite.failures l.initial.out l.out
     (flat_map cell_text (hiding_from (is_pending l.pending) (l.address + l.i) (as_cells (drop l.i l.bytes))))
     (flat_map cell_text (hiding_from (is_pending l.pending) l.address (as_cells l.bytes)))

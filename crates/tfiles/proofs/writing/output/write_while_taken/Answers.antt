@@ -3,6 +3,7 @@ use Rattle.std.proofs.Math.Seq.{take-add}
 use Rattle.std.proofs.KnownBytes.{Appends-trans}
 use Rattle.std.proofs.lemmas.List.{length-drop, take-take, length-take-le}
 use Rattle.std.specs.Io.KnownBytes.{Appends}
+use Rattle.tfiles.proofs.Failures.{counts-not_fallen, not_fallen-then}
 use Rattle.tfiles.proofs.writing.output.write_while_taken.Goals as goal
 
 pub loop-taken-preserved : goal.loop-taken-preserved
@@ -22,11 +23,12 @@ loop-taken-preserved g c =
     ∙ sym (take-add c.loop-taken.taken c.in-Ok.more c.args.bytes.now) in
     record {
       within = omega (arith, few, c.loop-taken.invariant.within);
-      out = subst (Appends (g.W.Write.contents c.args.writer.now) (g.W.Write.contents c.write.new.self)) bytes
+      out = subst (Appends (g.W.Write.contents c.args.writer.now) (g.W.Write.contents c.write_counted.new.self)) bytes
           (Appends-trans (g.W.Write.contents c.args.writer.now) (g.W.Write.contents c.loop-taken.writer)
-          (g.W.Write.contents c.write.new.self)
+          (g.W.Write.contents c.write_counted.new.self)
           (take c.loop-taken.taken c.args.bytes.now)
           (take c.in-Ok.more
           (take (length c.args.bytes.now - c.loop-taken.taken) (drop c.loop-taken.taken c.args.bytes.now)))
           c.loop-taken.invariant.out c.in-Ok.ensures.bytes);
+      kept = not_fallen-then _ _ _ c.loop-taken.invariant.kept (counts-not_fallen _ _ _ c.in-Ok.ensures.count);
     }
