@@ -21,8 +21,8 @@ use Rattle.clap.specs.declared.parser.matches.ArgMatches.{ArgMatches}
 use Rattle.clap.specs.declared.parser.matches.ArgMatches.TheViews.{out-ArgMatches, out-SubCommand}
 use Rattle.std.specs.Box.{box_value}
 use Rattle.clap.proofs.ValueTestLemmas.{accepts-Accepts}
-use Rattle.twords.specs.CommandLines.{HasText, HasNumber, IsRun, IsWhole, between, program, refusals, running_shape}
-use Rattle.twords.specs.CommandLines.{run_shape, free_shape, replay_shape, dis_shape, file_rule, number_rule}
+use Rattle.twords.specs.CommandLines.{HasText, HasNumber, IsRun, IsWhole, between, program, running_shape}
+use Rattle.twords.specs.CommandLines.{refusals_without_help, run_shape, free_shape, replay_shape, dis_shape, file_rule, number_rule}
 use Rattle.twords.proofs.AcceptedRows.{Each, IsFit, Holds, Rows, each_found, neither}
 use Rattle.twords.proofs.LevelRows.{Found, default_found, level_passes, required_found, subcommand_wanted}
 
@@ -210,7 +210,7 @@ each_whole : Each (λ s. (words : List Text) → IsTaken s words → IsAnswered 
 each_whole = (run_whole, (free_whole, (replay_whole, (dis_whole, tt))))
 
 -- words that are not refused ask for one of the commands, with all that it needs
-pub whole : (words : List Text) → refusals words ≡ [] → IsAnswered (subcommand_of program words)
+pub whole : (words : List Text) → refusals_without_help words ≡ [] → IsAnswered (subcommand_of program words)
 whole words e =
     go (walk (built program).top.rules (names_of (built program)) nothing_held
     (argument_words (built program) words)).stopped
@@ -260,9 +260,10 @@ pair f g (Some b) name rows e h =
 pub met : (p : Parser) (words : List Text) (m : ArgMatches) (name : Text) (rows : List Row) → app_of p ≡ program
     → (is_simple_and_free (app_of p) ≡ true → fault_of (app_of p) words ≡ []) → HasMatchesOf (app_of p) words m
     → Some name ≡ subcommand_name_of m → Some rows ≡ option_map (λ (s : Text × List Row). s.1) (subcommand_rows_of m)
-    → (refusals words ≡ []) × (subcommand_of program words ≡ Some (name, rows)) × IsWhole name rows
+    → (refusals_without_help words ≡ []) × (subcommand_of program words ≡ Some (name, rows)) × IsWhole name rows
 met p words m name rows app faults matches is_name is_rows =
-    let taken : refusals words ≡ [] = ap (λ a. fault_of a words) (sym app) ∙ faults (ap is_simple_and_free app) in
+    let taken : refusals_without_help words ≡ [] =
+    ap (λ a. fault_of a words) (sym app) ∙ faults (ap is_simple_and_free app) in
     let sub : subcommand_of program words ≡ Some (name, rows) =
     ap (λ a. subcommand_of a words) (sym app) ∙ (sym (matches (ap is_simple app)).1
     ∙ pair (λ b. (out-SubCommand (box_value b)).name.now)

@@ -2,7 +2,7 @@
 -- Source: the forms of the commands, their defaults and their ranges are our own choice; `Rattle.clap.specs` says how
 -- `clap` reads words, and why it refuses them.
 use Rattle.std.specs.Prelude.{refl, ℕ, ◌≡◌, ◌≤◌, pos, true, false, List, [], ◌∷◌, Option, Some, None, is_some}
-use Rattle.std.specs.Prelude.{option_map, codes, bytes_eq, if◌then◌else◌}
+use Rattle.std.specs.Prelude.{◌++◌, option_map, codes, bytes_eq, if◌then◌else◌}
 use Rattle.std.specs.Option.{option_map_or}
 use Rattle.std.specs.Str.Parse.{digits_value, without_leading_plus}
 use Rattle.clap.specs.Words.{Text, Rule, Row, Shape, App, Kinds, IsSignedIn, app_of, new_rule, first_of, one_of}
@@ -137,13 +137,31 @@ command_in (Some (name, rows)) =
     else if bytes_eq name (codes "dis") then Some (dis_in rows)
     else None
 
+-- the program's name, some words, and `--help`
+abbrev pub asking_help : Text → List Text → List Text
+asking_help name words = (name ∷ []) ++ words ++ codes "--help" ∷ []
+
+-- the words, in which `help ..` behind the program's name stands for `.. --help`
+abbrev pub with_help_option : List Text → List Text
+with_help_option (name ∷ word ∷ words) =
+    if bytes_eq word (codes "help") then asking_help name words else name ∷ word ∷ words
+with_help_option words = words
+
+-- what words with no `help` ask for, where they are taken
+abbrev pub command_without_help : List Text → Option Asked
+command_without_help words = command_in (subcommand_of program words)
+
 -- what the words ask for, where they are taken
 abbrev pub command_of : List Text → Option Asked
-command_of words = command_in (subcommand_of program words)
+command_of words = command_without_help (with_help_option words)
+
+-- why words with no `help` are refused: help is asked for by `--help`, or they are a mistake
+abbrev pub refusals_without_help : List Text → Kinds
+refusals_without_help words = fault_of program words
 
 -- why the words are refused: help is asked for, or they are a mistake; none where they are taken
 abbrev pub refusals : List Text → Kinds
-refusals words = fault_of program words
+refusals words = refusals_without_help (with_help_option words)
 
 -- the options of a run lie in their ranges
 pub record AreOptions (o : Options) : Type 0 where
@@ -279,3 +297,16 @@ example_nothing = refl
 example_help : refusals (codes "temu" ∷ codes "run" ∷ codes "--help" ∷ []) ≡ DisplayHelp ∷ []
 unfolding clap_on_literals
 example_help = refl
+
+example_help_word : refusals (codes "temu" ∷ codes "help" ∷ []) ≡ DisplayHelp ∷ []
+unfolding clap_on_literals
+example_help_word = refl
+
+example_help_of_free : refusals (codes "temu" ∷ codes "help" ∷ codes "free" ∷ []) ≡ DisplayHelp ∷ []
+unfolding clap_on_literals
+example_help_of_free = refl
+
+-- a file may be called so
+example_help_file : command_of (codes "temu" ∷ codes "dis" ∷ codes "help" ∷ []) ≡ Some (dis (codes "help"))
+unfolding clap_on_literals
+example_help_file = refl

@@ -25,10 +25,11 @@ Examples:
   temu replay pair.toml pair.log
   temu dis first.img
 
-`temu run --help` and its like tell what goes into a command and what comes out.
+`temu run --help` or `temu help run`, and their like, tell what goes into a command and what comes
+out.
 
-Exit status: 0 done; 1 done, and a node is frozen, since it broke a usage rule; 2 bad input, which standard error
-names; 3 the output failed; 4 no memory.";
+Exit status: 0 done; 1 done, and a node is frozen, since it broke a usage rule; 2 bad input, which
+standard error names; 3 the output failed; 4 no memory.";
 
 /// The help of `run`.
 pub(crate) const RUN: RunHelp = RunHelp {
@@ -55,10 +56,8 @@ In: a wiring file such as
   until = 5            # and the first in which they do not
 
 Out: a line for each message that went over, as `msg 0.1 1.2 4 01020304` (from, to, length, bytes),
-    and for each node
-that halted or froze; the memory of each node, without lines of zeros;
-    last `end quiet R`, where nothing is left to do
-after R rounds, or `end rounds R`.
+and for each node that halted or froze; the memory of each node, without lines of zeros; last
+`end quiet R`, where nothing is left to do after R rounds, or `end rounds R`.
 
 Example:
   temu run pair.toml --workers 4 --log pair.log",
@@ -76,10 +75,11 @@ In: a wiring file (see `temu run --help`), whose holds are ignored.
 
 Out: what `temu run` prints; last `end quiet`, where nothing is left to do, or `end turns`.
 
-Each worker is one thread, which makes so many turns over its own nodes and waits for nobody. Packets cross between
-threads by rings of two places, so the threads' timing decides which order comes out; but what is printed is always
-one run of the machine. Where the order decides nothing,
-    a quiet end has the messages and the memories of `temu run`.
+Each worker is one thread, which makes so many turns over its own nodes and waits for nobody.
+Packets cross between threads by rings of two places, so the threads' timing decides which order
+comes out; but what is printed is always one run of the machine. Where the order decides nothing, a
+quiet end has the messages and the memories of `temu run`.
+
 `--log` writes the events in an order that `temu replay` does again.
 
 Example:
@@ -88,9 +88,8 @@ Example:
 
 /// What stands below the help of `replay`.
 pub(crate) const REPLAY: &str = "\
-In: a wiring file (see `temu run --help`) and a log, which has a line for each event: `run 0`, `send 0 1`,
-    `data 1 2`,
-`take 1 2` or `ack 0 1`, with the number of the node and that of its link.
+In: a wiring file (see `temu run --help`) and a log, which has a line for each event: `run 0`,
+`send 0 1`, `data 1 2`, `take 1 2` or `ack 0 1`, with the number of the node and that of its link.
 
 Out: what `temu run` prints of these events; last `end replay E` after E events.
 
@@ -99,12 +98,12 @@ Example:
 
 /// What stands below the help of `dis`.
 pub(crate) const DIS: &str = "\
-In: a boot image: the 8 bytes TEMUIMG1, the numbers of segments and of processes as little-endian words,
-    the address,
-the length and the bytes of each segment, and the workspace descriptor and the instruction pointer of each process.
+In: a boot image: the 8 bytes TEMUIMG1, the numbers of segments and of processes as little-endian
+words, the address, the length and the bytes of each segment, and the workspace descriptor and the
+instruction pointer of each process.
 
-Out: for each segment a line for each instruction, as `80000080: ldc 4`; a byte that begins none is shown as
-`80000080: db xx`.
+Out: for each segment a line for each instruction, as `80000080: ldc 4`; a byte that begins none is
+shown as `80000080: db xx`.
 
 Example:
   temu dis first.img";

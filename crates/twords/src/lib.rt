@@ -2,6 +2,7 @@
 #![tactic(auto)]
 
 mod help;
+mod help_words;
 pub mod words;
 
 pub use words::{Command, CommandFault, read_words};

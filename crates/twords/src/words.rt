@@ -7,6 +7,7 @@ ghost use Rattle.twords.specs.CommandLines as spec;
 ghost use Rattle.twords.specs.CommandLines.{IsInRange, asked_of, command_of, refusals};
 
 use crate::help::{self, RunHelp};
+use crate::help_words::with_help_option;
 use clap::{Arg, ArgMatches, Command as Parser, value_parser};
 use std::alloc::{AllocError, Global};
 use tplan::Options;
@@ -46,12 +47,22 @@ pub enum Command {
 /// that the words give or its default.
 ///
 /// # Errors
-/// Where help is asked for, or the words are a mistake: `clap`'s error of it, else `OutOfMemory` where the
-/// allocator refuses.
+/// Where help is asked for, by `help` or by `--help`, or the words are a mistake: `clap`'s error of it, else
+/// `OutOfMemory` where the allocator refuses.
 pub fn read_words(alloc: Global, words: &[&str]) -> Result<Command, CommandFault>
     ensures command { IfOk result (λ c. command_of (map (λ w. w.now) words.now) ≡ Some (asked_of c)) }
     ensures range { IfOk result IsInRange }
     ensures refused { FailsBy (refusals (map (λ w. w.now) words.now)) result }
+{
+    let words = with_help_option(alloc, words)?;
+    read_without_help(alloc, words.as_slice())
+}
+
+/// What words ask for in which help is asked for by `--help` alone.
+fn read_without_help(alloc: Global, words: &[&str]) -> Result<Command, CommandFault>
+    ensures command { IfOk result (λ c. spec.command_without_help (map (λ w. w.now) words.now) ≡ Some (asked_of c)) }
+    ensures range { IfOk result IsInRange }
+    ensures refused { FailsBy (spec.refusals_without_help (map (λ w. w.now) words.now)) result }
 {
     let matches = program(alloc)?.try_get_matches_from(words)?;
     let Some((name, given)) = matches.subcommand() else {

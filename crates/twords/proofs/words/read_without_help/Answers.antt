@@ -2,7 +2,7 @@ use Rattle.std.proofs.Common.{◌∙◌, ap, map, Bor}
 use Rattle.clap.specs.Words.{Text, found_of, rows_of}
 use Rattle.twords.specs.CommandLines.{command_in}
 use Rattle.twords.proofs.WordAnswers.{met}
-use Rattle.twords.proofs.words.read_words.Goals as goal
+use Rattle.twords.proofs.words.read_without_help.Goals as goal
 
 pub asked-requires : goal.asked-requires
 asked-requires c =
