@@ -1,7 +1,8 @@
 -- Files that are read as images one after another, and the plan of them.
 use Rattle.std.proofs.Common.{◌≡◌, ◌<◌, ℕ, suc, refl, sym, ap, ◌∙◌, List, [], ◌∷◌, ◌++◌, length, length-append, drop}
 use Rattle.std.proofs.Common.{get_or, Result, Ok, Err, append_assoc, append-nil, add-one, zip, map, arith, ◌+◌, ◌≤◌}
-use Rattle.std.proofs.lemmas.List.{at_drop_more, at_drop_all, map-append}
+use Rattle.std.proofs.lemmas.List.{at_drop_more, at_drop_all, length-map, map-append}
+use Rattle.std.proofs.lemmas.Slice.Zip.{length-zip}
 use Rattle.tplan.specs.declared.plan.Image.{Image}
 use Rattle.tplan.specs.declared.plan.NodePlan.{NodePlan}
 use Rattle.ttext.specs.declared.fault.Fault.{Fault}
@@ -139,6 +140,14 @@ one_planned nodes files place plans more image n d h e l read pushed =
           (ap (λ (k : ℕ). get_or nodes k n) (sym h.as_many)));
       as_many = length-append h.images (image ∷ []) ∙ ap (λ (k : ℕ). k + 1) h.as_many;
     }
+
+-- as many are planned as files were read
+pub as_many_planned : (nodes : List WiringNode) (files : List (List ℕ)) (place : ℕ) (plans : List NodePlan)
+    → length files ≡ length nodes → place ≤ length files → ArePlannedSoFar nodes files place plans
+    → length plans ≡ place
+as_many_planned nodes files place plans e within h =
+    ap (λ (ps : List NodePlan). length ps) h.planned ∙ length-map (zip nodes h.images) node_of
+    ∙ length-zip nodes h.images ∙ omega (arith, h.as_many)
 
 -- all are planned
 pub all_planned : (nodes : List WiringNode) (files : List (List ℕ)) (place : ℕ) (plans : List NodePlan)

@@ -1,6 +1,9 @@
 -- The line and the status by which the program tells why it printed nothing, or not all.
 -- Source: own choice.
-use Rattle.std.specs.Prelude.{ℕ, List, [], ◌∷◌, ◌++◌, codes, decimal}
+use Rattle.std.specs.Prelude.{ℕ, List, [], ◌∷◌, ◌++◌, codes, decimal, flat_map, if◌then◌else◌}
+use Rattle.std.specs.Char.{encode_utf8, is_control}
+use Rattle.std.specs.Str.{chars}
+use Rattle.hex.specs.Hex.{encode_lower}
 use Rattle.tplan.specs.declared.plan.BuildFault.{BuildFault}
 use Rattle.tplan.specs.declared.plan.BuildFault.TheVariants as build
 use Rattle.trounds.specs.declared.report.NetFault.{NetFault}
@@ -68,9 +71,21 @@ abbrev pub replay_words : ReplayFault → List (List ℕ)
 replay_words (replays.NotEnabled place) = codes "replay event" ∷ decimal place ∷ []
 replay_words replays.OutOfMemory = memory_words
 
+-- a byte that is told by its number, as `\x0a`
+abbrev pub escaped_byte : ℕ → List ℕ
+escaped_byte b = (92 ∷ 120 ∷ []) ++ encode_lower (b ∷ [])
+
+-- a character of a name: a control character (U+0000 to U+001F, U+007F to U+009F) by its bytes in UTF-8, else itself
+abbrev pub letter_text : ℕ → List ℕ
+letter_text c = if is_control c then flat_map escaped_byte (encode_utf8 c) else encode_utf8 c
+
+-- a name, character by character, so that it stays on one line
+abbrev pub name_text : List ℕ → List ℕ
+name_text name = flat_map letter_text (chars name)
+
 -- what is told of a fault
 abbrev pub fault_words : Fault → List (List ℕ)
-fault_words (fault.File name) = codes "file" ∷ name.bytes.items ∷ []
+fault_words (fault.File name) = codes "file" ∷ name_text name.bytes.items ∷ []
 fault_words (fault.Wiring f) = wiring_words f
 fault_words (fault.Image n f) = image_words n f
 fault_words (fault.Net f) = net_words f

@@ -28,6 +28,7 @@ use Rattle.ttext.specs.declared.fault.Fault.TheVariants as fault
 use Rattle.tfiles.specs.Images.{image_of}
 use Rattle.ttext.specs.Plans.{node_of, plan_of, net_of}
 use Rattle.tfiles.specs.Texts.{run_text, rounds_end}
+use Rattle.tfiles.specs.Failures.{HasRisen}
 use Rattle.tfiles.specs.Outputs.{IsCut}
 
 -- the image of a node, or its fault
@@ -111,6 +112,11 @@ abbrev pub IsLeft : {T W : Type 0} → (W → Option (List ℕ)) → (T → List
 IsLeft contents text due old new (fault.Output f) =
     IsOkAnd due (λ r. IsCut (contents old) (contents new) (text r) f.written)
 IsLeft contents text due old new f = new ≡ old
+
+-- the output is said to have failed only where its writer has counted a failure
+abbrev pub HasOutputCause : Option ℕ → Option ℕ → Fault → Type 0
+HasOutputCause before after (fault.Output f) = HasRisen before after
+HasOutputCause before after f = Unit {0}
 
 -- the plans of nodes with the images of files
 pub record ArePlansOf (nodes : List WiringNode) (files : List (List ℕ)) (plans : List NodePlan) : Type 0 where

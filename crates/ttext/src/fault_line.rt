@@ -1,13 +1,15 @@
 //! How the program says why it printed nothing, or not all: one line, and its exit status.
 
-ghost use Rattle.std.specs.Prelude.{◌≡◌, ◌++◌, IfOk, codes, decimal};
+ghost use Rattle.std.specs.Prelude.{◌≡◌, ◌++◌, IfErr, IfOk, codes, decimal};
 ghost use Rattle.tfiles.specs.Texts.{words};
+ghost use Rattle.tfiles.specs.Failures.{HasRisen};
 ghost use Rattle.tfiles.specs.Outputs.{IsOut, Tells};
 ghost use Rattle.ttext.specs.FaultLines as spec;
 
 use crate::fault::Fault;
-use std::io::Write;
+use crate::name::put_name;
 use tfiles::break_names::break_name;
+use tfiles::counted::CountedWrite;
 use tfiles::image::ImageFault;
 use tfiles::log_reading::LogFault;
 use tfiles::writing::output::{Output, WriteFault};
@@ -20,9 +22,10 @@ use trounds::{NetFault, ReplayFault};
 ///
 /// # Errors
 /// Where the writer fails or takes nothing. Just so many of the first bytes are written as the fault tells.
-pub fn write_fault<W: Write>(fault: &Fault, out: &mut W) -> Result<u8, WriteFault>
+pub fn write_fault<W: CountedWrite>(fault: &Fault, out: &mut W) -> Result<u8, WriteFault>
     ensures line { IsOut (W.contents out.old) (W.contents out.new) (spec.fault_line fault.now) result }
     ensures status { IfOk result (λ status. status ≡ spec.status_of fault.now) }
+    ensures cause { IfErr result (λ _. HasRisen (W.failures out.old) (W.failures out.new)) }
 {
     match write_line(fault, out) {
         Ok(()) => Ok(fault.status()),
@@ -31,8 +34,9 @@ pub fn write_fault<W: Write>(fault: &Fault, out: &mut W) -> Result<u8, WriteFaul
 }
 
 /// Writes the line of a fault.
-fn write_line<W: Write>(fault: &Fault, out: &mut W) -> Result<(), WriteFault>
-    ensures { IsOut (W.contents out.old) (W.contents out.new) (spec.fault_line fault.now) result }
+fn write_line<W: CountedWrite>(fault: &Fault, out: &mut W) -> Result<(), WriteFault>
+    ensures line { IsOut (W.contents out.old) (W.contents out.new) (spec.fault_line fault.now) result }
+    ensures cause { IfErr result (λ _. HasRisen (W.failures out.old) (W.failures out.new)) }
 {
     let mut output = Output::new(out);
     output.put(b"temu: ");
@@ -61,13 +65,13 @@ impl Fault {
 }
 
 /// What is told of a fault.
-fn put_fault<W: Write>(out: &mut Output<'_, W>, fault: &Fault)
-    ensures { Tells W.contents out.old out.new (words (spec.fault_words fault.now)) }
+fn put_fault<W: CountedWrite>(out: &mut Output<'_, W>, fault: &Fault)
+    ensures { Tells W.contents W.failures out.old out.new (words (spec.fault_words fault.now)) }
 {
     match fault {
         Fault::File(name) => {
             out.put(b"file ");
-            out.put(name.as_bytes());
+            put_name(out, name.as_str());
         }
         Fault::Wiring(fault) => out.put(wiring_text(*fault)),
         Fault::Image(node, fault) => put_image_fault(out, *node, *fault),
@@ -96,8 +100,8 @@ fn wiring_text(fault: WiringFault) -> &'static [u8]
 }
 
 /// A fault of the image of a node.
-fn put_image_fault<W: Write>(out: &mut Output<'_, W>, node: usize, fault: ImageFault)
-    ensures { Tells W.contents out.old out.new (words (spec.image_words node fault)) }
+fn put_image_fault<W: CountedWrite>(out: &mut Output<'_, W>, node: usize, fault: ImageFault)
+    ensures { Tells W.contents W.failures out.old out.new (words (spec.image_words node fault)) }
 {
     match fault {
         ImageFault::BadMagic => put_image(out, node, b" I1 BadMagic"),
@@ -109,16 +113,16 @@ fn put_image_fault<W: Write>(out: &mut Output<'_, W>, node: usize, fault: ImageF
 }
 
 /// The image of a node, and what is wrong with it.
-fn put_image<W: Write>(out: &mut Output<'_, W>, node: usize, wrong: &[u8])
-    ensures { Tells W.contents out.old out.new (codes "image " ++ (decimal node ++ wrong.now)) }
+fn put_image<W: CountedWrite>(out: &mut Output<'_, W>, node: usize, wrong: &[u8])
+    ensures { Tells W.contents W.failures out.old out.new (codes "image " ++ (decimal node ++ wrong.now)) }
 {
     put_numbered(out, b"image ", node);
     out.put(wrong);
 }
 
 /// A fault of a plan, with its places.
-fn put_net_fault<W: Write>(out: &mut Output<'_, W>, fault: &BuildFault)
-    ensures { Tells W.contents out.old out.new (words (spec.net_words fault.now)) }
+fn put_net_fault<W: CountedWrite>(out: &mut Output<'_, W>, fault: &BuildFault)
+    ensures { Tells W.contents W.failures out.old out.new (words (spec.net_words fault.now)) }
 {
     match fault {
         BuildFault::TooMany => out.put(b"net N1 TooMany"),
@@ -142,8 +146,8 @@ fn put_net_fault<W: Write>(out: &mut Output<'_, W>, fault: &BuildFault)
 }
 
 /// A fault of rounds.
-fn put_rounds_fault<W: Write>(out: &mut Output<'_, W>, fault: NetFault)
-    ensures { Tells W.contents out.old out.new (words (spec.rounds_words fault)) }
+fn put_rounds_fault<W: CountedWrite>(out: &mut Output<'_, W>, fault: NetFault)
+    ensures { Tells W.contents W.failures out.old out.new (words (spec.rounds_words fault)) }
 {
     match fault {
         NetFault::BadWorkers => out.put(b"rounds BadWorkers"),
@@ -153,8 +157,8 @@ fn put_rounds_fault<W: Write>(out: &mut Output<'_, W>, fault: NetFault)
 }
 
 /// A fault of a log.
-fn put_log_fault<W: Write>(out: &mut Output<'_, W>, fault: LogFault)
-    ensures { Tells W.contents out.old out.new (words (spec.log_words fault)) }
+fn put_log_fault<W: CountedWrite>(out: &mut Output<'_, W>, fault: LogFault)
+    ensures { Tells W.contents W.failures out.old out.new (words (spec.log_words fault)) }
 {
     match fault {
         LogFault::BadLine(line) => put_numbered(out, b"log line ", line),
@@ -163,8 +167,8 @@ fn put_log_fault<W: Write>(out: &mut Output<'_, W>, fault: LogFault)
 }
 
 /// A fault of a replay.
-fn put_replay_fault<W: Write>(out: &mut Output<'_, W>, fault: ReplayFault)
-    ensures { Tells W.contents out.old out.new (words (spec.replay_words fault)) }
+fn put_replay_fault<W: CountedWrite>(out: &mut Output<'_, W>, fault: ReplayFault)
+    ensures { Tells W.contents W.failures out.old out.new (words (spec.replay_words fault)) }
 {
     match fault {
         ReplayFault::NotEnabled(place) => put_numbered(out, b"replay event ", place),
@@ -173,8 +177,8 @@ fn put_replay_fault<W: Write>(out: &mut Output<'_, W>, fault: ReplayFault)
 }
 
 /// Some text with a number behind it.
-fn put_numbered<W: Write>(out: &mut Output<'_, W>, text: &[u8], number: usize)
-    ensures { Tells W.contents out.old out.new (text.now ++ decimal number) }
+fn put_numbered<W: CountedWrite>(out: &mut Output<'_, W>, text: &[u8], number: usize)
+    ensures { Tells W.contents W.failures out.old out.new (text.now ++ decimal number) }
 {
     out.put(text);
     put_decimal(out, number as u64);

@@ -7,17 +7,18 @@ ghost use Rattle.tnet.specs.Runs.{IsSeenRun};
 ghost use Rattle.tnet.specs.Sound.{IsSound};
 ghost use Rattle.tfree.specs.Opened.{share_of, IsOpened};
 ghost use Rattle.tfree.specs.Turning.{AreTurned};
+ghost use Rattle.tfiles.specs.Failures.{HasRisen};
 ghost use Rattle.tfiles.specs.Outputs.{IsOut};
 ghost use Rattle.ttext.specs.declared.fault.Fault.TheVariants.{Memory};
 ghost use Rattle.ttext.specs.Free as spec;
 ghost use Rattle.ttext.specs.Free.{shared_of, shared_with, free_last, AreFree, IsFreeLeft, IsFreeRun};
-ghost use Rattle.ttext.specs.Outcomes.{IsDue, IsFaultOf, ShowsOneRun};
+ghost use Rattle.ttext.specs.Outcomes.{HasOutputCause, IsDue, IsFaultOf, ShowsOneRun};
 
 use crate::fault::Fault;
 use crate::opened::open_net;
 use std::alloc::Global;
-use std::io::Write;
 use std::thread::Threads;
+use tfiles::counted::CountedWrite;
 use tfiles::writing::dump::put_dump;
 use tfiles::writing::end::put_free_end;
 use tfiles::writing::output::{Output, WriteFault};
@@ -40,19 +41,19 @@ use tword::Items;
 /// The first of these: `Image` for the first file that is no image, `Net` for the lowest fault of the plan,
 /// `Rounds` with `BadWorkers` outside 1 to 64, `Output` where the writer failed. `Memory` where the allocator
 /// refused, in a turn too. But for `Output` nothing was written.
-pub fn free_text<R: Threads + Sync, W: Write>(
+pub fn free_text<R: Threads + Sync, W: CountedWrite>(
     rt: &R,
     alloc: Global,
     wiring: &Wiring,
-    files: &[Items<u8>],
+    files: Items<Items<u8>>,
     options: &Options,
     out: &mut W,
 ) -> Result<Gathered, Fault>
-    requires { length files.now ≡ length wiring.now.nodes }
+    requires { length files ≡ length wiring.now.nodes }
     // what workers did on the net of the wiring; and each fault is the first that is due
     ensures answer { MatchResult result
-        (IsFreeRun wiring.now files.now options.now)
-        (IsDue (shared_of wiring.now files.now options.now)) }
+        (IsFreeRun wiring.now files options.now)
+        (IsDue (shared_of wiring.now files options.now)) }
 
     // its text is written
     ensures text { IfOk result (λ g. Appends (W.contents out.old) (W.contents out.new) (spec.free_text g)) }
@@ -60,10 +61,13 @@ pub fn free_text<R: Threads + Sync, W: Write>(
     // the headline: this is the text of one run of the rendezvous machine, in which each message that is complete
     // is one step that copies it whole
     ensures run { IfOk result
-        (λ g. ShowsOneRun wiring.now files.now g.history (free_last g) (W.contents out.old) (W.contents out.new)) }
+        (λ g. ShowsOneRun wiring.now files g.history (free_last g) (W.contents out.old) (W.contents out.new)) }
 
     // else nothing is written, or the beginning of the text of what workers did
-    ensures left { IfErr result (IsFreeLeft W.contents (IsFreeRun wiring.now files.now options.now) out.old out.new) }
+    ensures left { IfErr result (IsFreeLeft W.contents (IsFreeRun wiring.now files options.now) out.old out.new) }
+
+    // and the output failed only where a write did
+    ensures cause { IfErr result (HasOutputCause (W.failures out.old) (W.failures out.new)) }
 {
     let net = open_net(alloc, wiring, files)?;
     let gathered = run_free(rt, alloc, net, options)?;
@@ -130,9 +134,10 @@ fn turned<R: Threads + Sync>(
 }
 
 /// Writes what is printed of what workers did.
-fn write_gathered<W: Write>(out: &mut W, gathered: &Gathered) -> Result<(), WriteFault>
+fn write_gathered<W: CountedWrite>(out: &mut W, gathered: &Gathered) -> Result<(), WriteFault>
     requires { IsSound gathered.now.net }
-    ensures { IsOut (W.contents out.old) (W.contents out.new) (spec.free_text gathered.now) result }
+    ensures out { IsOut (W.contents out.old) (W.contents out.new) (spec.free_text gathered.now) result }
+    ensures cause { IfErr result (λ _. HasRisen (W.failures out.old) (W.failures out.new)) }
 {
     quiet_is_nothing_enabled();
     let mut output = Output::new(out);

@@ -3,13 +3,14 @@
 //! - `opened`: the net of a wiring and its images
 //! - `run`, `replaying`, `free`: the text of a run by rounds, of a replay of a log, and of a run by free workers
 //! - `commands`: the commands, from the bytes of their files to what they write
-//! - `fault`, `fault_line`: what may be wrong with the files, and the line that says so
+//! - `fault`, `fault_line`, `name`: what may be wrong with the files, and the line that says so
 #![tactic(auto)]
 
 pub mod commands;
 pub mod fault;
 mod fault_line;
 pub mod free;
+mod name;
 mod opened;
 pub mod replaying;
 pub mod run;

@@ -15,18 +15,19 @@ use tplan::plan::Image;
 use tplan::{BuildFault, NodePlan, Plan, Wiring, WiringNode};
 use tword::Items;
 
-/// The net that a wiring and the files of its images stand for, one file a node, before its first event.
+/// The net that a wiring and the files of its images stand for, one file a node, before its first event. The bytes of
+/// a file are given back once its image is read, and an image once its node is built.
 ///
 /// # Errors
 /// `Image` with the number of the first node whose file is no image, else `Net` with the lowest fault of the plan.
 /// `Memory` where the allocator refused.
-pub fn open_net(alloc: Global, wiring: &Wiring, files: &[Items<u8>]) -> Result<Net, Fault>
-    requires { length files.now ≡ length wiring.now.nodes }
-    ensures answer { MatchResult result (λ net. opened_of wiring.now files.now ≡ Ok net)
-        (IsFaultOf (opened_of wiring.now files.now)) }
+pub fn open_net(alloc: Global, wiring: &Wiring, files: Items<Items<u8>>) -> Result<Net, Fault>
+    requires { length files ≡ length wiring.now.nodes }
+    ensures answer { MatchResult result (λ net. opened_of wiring.now files ≡ Ok net)
+        (IsFaultOf (opened_of wiring.now files)) }
 
     // nothing is offered in it
-    ensures opening { IfOk result (IsOpening wiring.now files.now) }
+    ensures opening { IfOk result (IsOpening wiring.now files) }
 {
     let plan = plan(alloc, wiring, files)?;
     build(alloc, plan)
@@ -46,9 +47,9 @@ fn build(alloc: Global, plan: Plan) -> Result<Net, Fault>
 
 /// The plan of a wiring and the files of its images.
 #[tactic(auto, unfolding(crate::specs::Plans::plan_of))]
-fn plan(alloc: Global, wiring: &Wiring, files: &[Items<u8>]) -> Result<Plan, Fault>
-    requires { length files.now ≡ length wiring.now.nodes }
-    ensures { MatchResult result (IsPlanOf wiring.now files.now) (IsFaultOf (images_of files.now)) }
+fn plan(alloc: Global, wiring: &Wiring, files: Items<Items<u8>>) -> Result<Plan, Fault>
+    requires { length files ≡ length wiring.now.nodes }
+    ensures { MatchResult result (IsPlanOf wiring.now files) (IsFaultOf (images_of files)) }
 {
     let nodes = node_plans(alloc, wiring.nodes.as_slice(), files)?;
     let wires = Vec::from_slice(alloc, wiring.wires.as_slice())?;
@@ -63,13 +64,14 @@ fn plan(alloc: Global, wiring: &Wiring, files: &[Items<u8>]) -> Result<Plan, Fau
 fn node_plans(
     alloc: Global,
     nodes: &[WiringNode],
-    files: &[Items<u8>],
+    files: Items<Items<u8>>,
 ) -> Result<Items<NodePlan>, Fault>
-    requires { length files.now ≡ length nodes.now }
-    ensures { MatchResult result (ArePlansOf nodes.now files.now) (IsFaultOf (images_of files.now)) }
+    requires { length files ≡ length nodes.now }
+    ensures { MatchResult result (ArePlansOf nodes.now files) (IsFaultOf (images_of files)) }
 {
     let mut plans = Vec::new(alloc);
-    for (node, file) in files.iter().enumerate() {
+    for file in files.into_vec() {
+        let node = plans.len();
         let image = image_of_node(alloc, node, file.as_slice())?;
         let memory = nodes[node].memory;
         plans.push(NodePlan { memory, image })?;

@@ -1,7 +1,7 @@
 use Rattle.std.proofs.Common.{ap, rules, Bool, List}
 use Rattle.tplan.specs.declared.event.Note.{Note}
 use Rattle.tfiles.specs.Texts.{free_end, trace_text}
-use Rattle.tfiles.proofs.Told.{tells_as, tells_then, written_out}
+use Rattle.tfiles.proofs.Told.{cut_by_failure, tells_as, tells_then, written_out}
 use Rattle.ttext.proofs.GatheredWorkers.{quiet_as}
 use Rattle.ttext.proofs.free.write_gathered.Goals as goal
 
@@ -11,5 +11,8 @@ returns g c =
     c.is_quiet.ensures in
     let last = tells_as c.put_free_end.ensures (ap (λ (b : Bool). free_end b) quiet) in
     let trace = tells_as c.put_trace.ensures (ap (λ (notes : List Note). trace_text notes) c.as_slice.ensures) in
-    written_out c.new-output.ensures (tells_then trace (tells_then c.put_dump.ensures last)) c.finish.ensures _
-    (search rules)
+    let told = tells_then trace (tells_then c.put_dump.ensures last) in
+    record {
+      out = written_out c.new-output.ensures told c.finish.ensures _ (search rules);
+      cause = cut_by_failure c.new-output.ensures told c.finish.ensures _ (search rules);
+    }

@@ -10,7 +10,7 @@ returns-in_err-report-clause-answer g c =
     c.in_err-report.field-0.0 =
     subst (λ (holds : List Hold). IsFaultOf (rounds_of holds c.args.options.now c.in_ok-net.net)
     c.in_err-report.field-0.0) c.as_slice.ensures c.in_err-report.ensures.answer in
-    let due : IsDue (run_of c.args.wiring.now c.args.files.now c.args.options.now) c.in_err-report.field-0.0 =
-    run_refused c.args.wiring.now c.args.files.now c.args.options.now c.in_ok-net.net c.in_ok-net.ensures.answer
+    let due : IsDue (run_of c.args.wiring.now c.args.files c.args.options.now) c.in_err-report.field-0.0 =
+    run_refused c.args.wiring.now c.args.files c.args.options.now c.in_ok-net.net c.in_ok-net.ensures.answer
     c.in_err-report.field-0.0 refused in
     search rules
