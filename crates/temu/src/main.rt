@@ -4,40 +4,50 @@
 #![tactic(auto)]
 
 mod commands;
+mod log_file;
+mod streams;
+mod words;
 
 use crate::commands::do_command;
+use crate::streams::Missing;
+use crate::words::{WordFault, given_words};
 use clap::error::ErrorKind;
-use std::alloc::AllocError;
 use std::process::ExitCode;
-use std::{env, io};
-use tfiles::WriteFault;
+use tfiles::{Uncounted, WriteFault};
 use ttext::{Fault, end_command};
 use twords::{Command, CommandFault, read_words};
 
 fn main(rt: HostRuntime) -> ExitCode {
-    let Ok(words) = given_words(&rt) else {
-        return end(&rt, Err(Fault::Memory));
-    };
-    match command(&rt, words.as_slice()) {
-        Ok(command) => end(&rt, do_command(&rt, &command)),
-        Err(fault) if fault.kind() == ErrorKind::OutOfMemory => end(&rt, Err(Fault::Memory)),
-        Err(fault) => match fault.print(&rt) {
-            Err(_) if !fault.use_stderr() => {
-                end(&rt, Err(Fault::Output(WriteFault { written: 0 })))
-            }
-            // Where standard error fails too, the status alone tells.
-            _ => ExitCode::from(fault.exit_code() as u8),
+    let _missing = Missing::fill(&rt);
+    match given_words(&rt) {
+        Ok(words) => match command(&rt, words.as_slice()) {
+            Ok(command) => end(&rt, do_command(&rt, &command)),
+            Err(fault) => refuse(&rt, &fault),
         },
+        Err(WordFault::NotText(place)) => refuse_word(&rt, place),
+        Err(WordFault::OutOfMemory) => end(&rt, Err(Fault::Memory)),
     }
 }
 
-/// The words of the command line, and none where one of them is not UTF-8.
-fn given_words(rt: &HostRuntime) -> Result<Vec<String>, AllocError> {
-    match env::args(rt) {
-        Ok(given) => given.collect(rt.alloc()),
-        Err(error) if error.kind() == io::ErrorKind::OutOfMemory => Err(AllocError),
-        Err(_) => Ok(Vec::new(rt.alloc())),
+/// Tells why the words ask for no command, or gives the help that they ask for.
+fn refuse(rt: &HostRuntime, fault: &CommandFault) -> ExitCode {
+    if fault.kind() == ErrorKind::OutOfMemory {
+        return end(rt, Err(Fault::Memory));
     }
+    match fault.print(rt) {
+        Err(_) if !fault.use_stderr() => end(rt, Err(Fault::Output(WriteFault { written: 0 }))),
+        // Where standard error fails too, the status alone tells.
+        _ => ExitCode::from(fault.exit_code() as u8),
+    }
+}
+
+/// Tells on standard error that the word at this place is not UTF-8, as other mistakes in words are told.
+fn refuse_word(rt: &HostRuntime, place: usize) -> ExitCode {
+    // Where standard error fails too, the status alone tells.
+    let _ = eprint!(rt;
+        "error: word {place} is not UTF-8\n\nUsage: temu <COMMAND>\n\nFor more information, try '--help'.\n"
+    );
+    ExitCode::from(2)
 }
 
 /// What the words ask for.
@@ -51,5 +61,5 @@ fn command(rt: &HostRuntime, words: &[String]) -> Result<Command, CommandFault> 
 
 /// Ends a command: tells its fault on standard error, if it has one, and answers the status of the program.
 fn end(rt: &HostRuntime, answer: Result<bool, Fault>) -> ExitCode {
-    ExitCode::from(end_command(answer, &mut rt.stderr()))
+    ExitCode::from(end_command(answer, &mut Uncounted(rt.stderr())))
 }
