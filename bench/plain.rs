@@ -1,13 +1,17 @@
-//! A plain, safe emulator of nodes and nets, which the benchmarks compare ours with: the same rules, the same checks, the same
-//! tables. Alternatives are left out. Each benchmark uses a part of it.
+//! A plain, safe emulator of nodes and nets, which the benchmarks compare ours with: the same rules, the same checks,
+//! the same tables, and the same files and texts. Alternatives and holds are left out. Each benchmark uses a part of
+//! it.
 #![allow(dead_code)]
 
 pub mod code;
 pub mod cpu;
+pub mod image;
 pub mod memory;
 pub mod net;
 pub mod processor;
 pub mod programs;
+pub mod text;
+pub mod wiring;
 
 /// The next number of a checksum: FNV-1a over words.
 pub fn mixed(sum: u32, word: u32) -> u32 {

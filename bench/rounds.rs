@@ -4,7 +4,7 @@
 mod plain;
 
 use plain::memory::Break;
-use plain::net::{End, Net};
+use plain::net::{End, Net, Report};
 use plain::processor::Processor;
 use plain::programs::{COUNTED_PING, COUNTED_PONG, LOOP, PING, PONG, START};
 use plain::{checksum, mixed, BEGIN};
@@ -95,11 +95,12 @@ fn main() {
     let mut done = 0;
     while left > 0 {
         let count = left.min(RUNS / slice);
-        let events = net.rounds(count, slice).events.len();
-        if events == 0 {
+        let mut report = Report::default();
+        net.rounds(count, slice, &mut report);
+        if report.events.is_empty() {
             break;
         }
-        done += events;
+        done += report.events.len();
         left -= count;
     }
     let begin = mixed(BEGIN, done as u32);

@@ -197,6 +197,11 @@ impl Marks {
         self.outputs.set(link, None);
     }
 
+    /// Some of these bytes are in the buffer of an input.
+    pub fn hides(&self, span: Span) -> bool {
+        self.inputs.overlap(span)
+    }
+
     /// The claims let the bytes of a span be read: some bytes of one word.
     #[inline]
     fn check_read_in_word(&self, span: Span) -> Result<(), Break> {
@@ -386,6 +391,12 @@ impl Memory {
     #[inline]
     pub fn byte(&self, address: u32) -> u8 {
         self.bytes[address.wrapping_sub(MOST_NEG) as usize]
+    }
+
+    /// Bytes that were checked.
+    pub fn span(&self, span: Span) -> &[u8] {
+        let place = span.start.wrapping_sub(MOST_NEG) as usize;
+        &self.bytes[place..place + span.size as usize]
     }
 
     /// Sets a byte that was checked.

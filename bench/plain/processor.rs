@@ -126,6 +126,11 @@ impl Processor {
         self.memory.load(start, bytes);
     }
 
+    /// These bytes may be loaded, as long as there is no process.
+    pub fn may_load(&self, span: Span) -> bool {
+        self.memory.may_write(&self.marks, span).is_ok()
+    }
+
     pub fn bytes(&self) -> &[u8] {
         self.memory.bytes()
     }
@@ -456,6 +461,26 @@ impl Processor {
     #[inline]
     pub fn in_byte(&mut self, offer: Offer, at: u32, byte: u8) {
         self.memory.set_byte(offer.buffer.wrapping_add(at), byte);
+    }
+
+    /// The bytes of a pending message.
+    pub fn message(&self, offer: Offer) -> &[u8] {
+        self.memory.span(Span { start: offer.buffer, size: offer.length })
+    }
+
+    /// Some of these bytes are in the buffer of a pending link input.
+    pub fn hides(&self, span: Span) -> bool {
+        self.marks.hides(span)
+    }
+
+    pub fn is_halted(&self) -> bool {
+        self.halted
+    }
+
+    /// There is no step.
+    pub fn is_at_rest(&self) -> bool {
+        let is_idle = self.current.is_none() && self.interrupted.is_none();
+        self.halted || is_idle && self.high.is_empty() && self.low.is_empty()
     }
 
     pub fn notice(&mut self, link: u8) {

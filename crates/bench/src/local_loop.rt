@@ -100,7 +100,7 @@ pub fn looped(alloc: Global, thousands: u32, claims: Claims) -> Result<Answer, F
 {
     let steps = u64::from(thousands) * 1_000;
     let mut memory = Memory::new(alloc, SIZE).map_err(Fault::Memory)?;
-    let mut marks = Marks::new(alloc).map_err(Fault::Memory)?;
+    let mut marks = Marks::new(alloc, SIZE).map_err(Fault::Memory)?;
     load(&mut memory, &marks).map_err(Fault::Broken)?;
     claim(&mut marks, claims).map_err(Fault::Broken)?;
     let zero = Word::new(0);

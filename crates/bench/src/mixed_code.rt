@@ -103,7 +103,7 @@ pub fn decoded(alloc: Global, turns: u32) -> Result<Answer, Fault>
     ensures { IfOk result (λ answer. answer.operations ≡ turns * INSTRUCTIONS) }
 {
     let mut memory = Memory::new(alloc, SIZE).map_err(Fault::Memory)?;
-    let marks = Marks::new(alloc).map_err(Fault::Memory)?;
+    let marks = Marks::new(alloc, SIZE).map_err(Fault::Memory)?;
     load(&mut memory, &marks).map_err(Fault::Broken)?;
     Ok(Answer {
         operations: u64::from(turns) * u64::from(INSTRUCTIONS),
