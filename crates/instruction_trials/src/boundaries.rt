@@ -191,7 +191,7 @@ fn function_digest(memory: &mut Memory, marks: &Marks, function: Function) -> u6
 #[test]
 fn operations_agree_at_the_boundaries(rt: HostRuntime) -> Result<(), Fail> {
     let mut memory = Memory::new(rt.alloc(), 2048)?;
-    let marks = Marks::new(rt.alloc())?;
+    let marks = Marks::new(rt.alloc(), 2048)?;
     for (name, code, digest) in OPERATIONS {
         assert_eq!(rt;
             operation_digest(&mut memory, &marks, code),
@@ -205,7 +205,7 @@ fn operations_agree_at_the_boundaries(rt: HostRuntime) -> Result<(), Fail> {
 #[test]
 fn functions_agree_at_the_boundaries(rt: HostRuntime) -> Result<(), Fail> {
     let mut memory = Memory::new(rt.alloc(), 2048)?;
-    let marks = Marks::new(rt.alloc())?;
+    let marks = Marks::new(rt.alloc(), 2048)?;
     for (function, digest) in FUNCTIONS {
         assert_eq!(rt;
             function_digest(&mut memory, &marks, function),

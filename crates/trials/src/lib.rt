@@ -1,4 +1,5 @@
-//! Proved tests of nets, rounds, free workers and texts, which no case of the built program can show, by subject.
+//! Proved tests of nets, rounds, free workers, texts and files, which no case of the built program can show, by
+//! subject.
 #![tactic(auto)]
 
 #[cfg(test)]
@@ -9,6 +10,8 @@ mod free;
 mod gates;
 #[cfg(test)]
 mod plans;
+#[cfg(test)]
+mod readers;
 #[cfg(test)]
 mod refused;
 #[cfg(test)]

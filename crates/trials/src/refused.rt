@@ -1,4 +1,4 @@
-//! Free workers, where a request for memory is refused.
+//! The building of a net, and free workers, where a request for memory is refused.
 
 ghost use Rattle.tfree.specs.Opened.{ComeFromOneOpen};
 
@@ -10,6 +10,28 @@ use std::process::Abort;
 use std::test::Fail;
 use tfree::{GatherFault, Gathered, OpenFault, TurnFault, Worker, gather, open};
 use tnet::Net;
+use tplan::{BuildFault, Plan};
+
+/// The plan of the pair, where memory is refused once at most.
+fn planned_at_last(rt: &impl Abort, alloc: Global) -> Plan {
+    match transfer(alloc) {
+        Ok(plan) => plan,
+        Err(_refused) => transfer(alloc).ok().expect(rt, "the plan is made"),
+    }
+}
+
+/// The net of the pair, where memory is refused once at most: then its plan is given up, and built anew.
+fn built_at_last(rt: &impl Abort, alloc: Global) -> Net {
+    match Net::build(alloc, planned_at_last(rt, alloc)) {
+        Ok(net) => net,
+        Err(fault) => {
+            assert_eq!(rt; fault, BuildFault::OutOfMemory);
+            Net::build(alloc, planned_at_last(rt, alloc))
+                .ok()
+                .expect(rt, "the plan is built")
+        }
+    }
+}
 
 /// A net is opened for two workers, where memory is refused once at most: then it comes back, and is opened again.
 fn opened_at_last(rt: &impl Abort, alloc: Global, net: Net) -> Vec<Worker>
@@ -60,12 +82,7 @@ fn gathered_at_last(rt: &impl Abort, alloc: Global, workers: Vec<Worker>) -> Gat
 #[test]
 fn a_refused_request_is_made_again(rt: HostRuntime) -> Result<(), Fail> {
     let alloc = rt.alloc();
-    let Ok(plan) = transfer(alloc) else {
-        return Ok(());
-    };
-    let Ok(net) = Net::build(alloc, plan) else {
-        return Ok(());
-    };
+    let net = built_at_last(&rt, alloc);
     let mut workers = opened_at_last(&rt, alloc, net);
     idle_at_last(&rt, &mut workers);
     let done = gathered_at_last(&rt, alloc, workers);

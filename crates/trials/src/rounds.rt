@@ -1,4 +1,4 @@
-//! Rounds of a net: what is refused, and what is left where memory was refused.
+//! Rounds of a net: what is refused, and how they go on where memory was refused.
 
 use crate::plans::{event, transfer};
 use std::alloc::Global;
@@ -6,7 +6,7 @@ use std::process::Abort;
 use std::test::Fail;
 use std::thread::Threads;
 use tnet::Net;
-use tplan::{Act, End, Hold, Note, PacketKind, Plan};
+use tplan::{Act, End, Event, Hold, Note, PacketKind, Plan};
 use tproc::Processor;
 use trounds::{Ending, Gate, NetFault, Report, run_rounds};
 use tword::Word;
@@ -162,34 +162,108 @@ fn is_same_net(one: &Net, other: &Net) -> bool {
     true
 }
 
-/// Whether a net looks like that of the pair after some number of whole rounds.
-fn is_after_whole_rounds<R: Threads + Sync>(rt: &R, alloc: Global, net: &Net) -> bool {
-    for rounds in 0..10 {
-        let Some(fresh) = opened(alloc) else {
-            return false;
-        };
-        if let Ok(report) = run_rounds(rt, alloc, fresh, rounds, 64, &[], 1, &Open) {
-            if is_same_net(&report.net, net) {
-                return true;
-            }
-        }
+/// A hold where so many rounds are done.
+fn later(hold: Hold, rounds: u32) -> Hold {
+    Hold {
+        from: hold.from.saturating_sub(rounds),
+        until: hold.until.saturating_sub(rounds),
+        ..hold
     }
-    false
 }
 
-/// It holds whichever request for memory is refused, if one is.
+/// Rounds of a net of the pair with one hold, by one worker.
+fn rounds_of<R: Threads + Sync>(
+    rt: &R,
+    alloc: Global,
+    net: Net,
+    rounds: u32,
+    hold: Hold,
+) -> Result<Report, (NetFault, Net)> {
+    run_rounds(rt, alloc, net, rounds, 64, &[hold], 1, &Open)
+}
+
+/// So many rounds of the pair, whose bytes are held, from its opening.
+fn first_rounds<R: Threads + Sync>(rt: &R, alloc: Global, rounds: u32) -> Option<Report> {
+    rounds_of(rt, alloc, opened(alloc)?, rounds, HELD).ok()
+}
+
+/// How many rounds are asked for.
+const ROUNDS: u32 = 20;
+
+/// The report of the rounds after which a net looks so, if it is after whole rounds.
+fn rounds_before<R: Threads + Sync>(rt: &R, alloc: Global, net: &Net) -> Option<Report> {
+    for rounds in 0..=ROUNDS {
+        let report = first_rounds(rt, alloc, rounds)?;
+        if is_same_net(&report.net, net) {
+            return Some(report);
+        }
+    }
+    None
+}
+
+/// Whether events are those of two reports, one behind the other.
+fn are_joined(first: &[Event], rest: &[Event], whole: &[Event]) -> bool {
+    whole.len().checked_sub(first.len()) == Some(rest.len())
+        && whole.starts_with(first)
+        && whole.ends_with(rest)
+}
+
+/// Some rounds, and what was left of them, are all of them in one go.
+fn assert_joined(rt: &impl Abort, first: &Report, rest: &Report, whole: &Report) {
+    assert!(rt; rest.end == whole.end);
+    assert_eq!(rt; whole.rounds.checked_sub(first.rounds), Some(rest.rounds));
+    let joined = are_joined(
+        first.events.as_slice(),
+        rest.events.as_slice(),
+        whole.events.as_slice(),
+    );
+    assert!(rt; joined);
+    let told = whole.notes.as_slice().len();
+    assert_eq!(rt;
+        told.checked_sub(first.notes.as_slice().len()),
+        Some(rest.notes.as_slice().len())
+    );
+    assert!(rt; is_same_net(&rest.net, &whole.net));
+}
+
+/// A run that was refused memory goes on from the net that it gave back, and comes to the end of the whole run.
+fn assert_goes_on<R: Threads + Sync + Abort>(rt: &R, alloc: Global, stopped: Net, whole: &Report) {
+    let first = rounds_before(rt, alloc, &stopped).expect(rt, "the net is after whole rounds");
+    let left = ROUNDS.saturating_sub(first.rounds);
+    let rest = rounds_of(rt, alloc, stopped, left, later(HELD, first.rounds))
+        .ok()
+        .expect(rt, "the net that came back goes on");
+    assert_joined(rt, &first, &rest, whole);
+}
+
+/// It holds whichever single request for memory is refused, if one is: the rounds go on.
 #[test]
-fn a_refused_run_stops_after_whole_rounds(rt: HostRuntime) -> Result<(), Fail> {
+fn refused_rounds_go_on(rt: HostRuntime) -> Result<(), Fail> {
     let alloc = rt.alloc();
     let Some(net) = opened(alloc) else {
         return Ok(());
     };
-    match run_rounds(&rt, alloc, net, 20, 64, &[], 1, &Open) {
-        Ok(report) => assert_message(&rt, &report),
+    match rounds_of(&rt, alloc, net, ROUNDS, HELD) {
+        Ok(report) => assert_eq!(rt; report.events.as_slice().len(), 32),
         Err((fault, stopped)) => {
             assert_eq!(rt; fault, NetFault::OutOfMemory);
-            assert!(rt; is_after_whole_rounds(&rt, alloc, &stopped));
+            let whole = first_rounds(&rt, alloc, ROUNDS).expect(&rt, "the whole run");
+            assert_eq!(rt; whole.events.as_slice().len(), 32);
+            assert_goes_on(&rt, alloc, stopped, &whole);
         }
+    }
+    Ok(())
+}
+
+/// The message comes over, where no request for memory is refused.
+#[test]
+fn a_run_of_the_pair(rt: HostRuntime) -> Result<(), Fail> {
+    let alloc = rt.alloc();
+    let Some(net) = opened(alloc) else {
+        return Ok(());
+    };
+    if let Ok(report) = run_rounds(&rt, alloc, net, ROUNDS, 64, &[], 1, &Open) {
+        assert_message(&rt, &report);
     }
     Ok(())
 }

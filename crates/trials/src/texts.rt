@@ -1,9 +1,16 @@
 //! What is printed of small nets: trace and dumps.
 
 use std::alloc::{AllocError, Global};
-use tfiles::{WriteFault, write_dump, write_trace};
+use tfiles::{Uncounted, WriteFault, write_dump, write_trace};
 use tnet::Net;
 use tplan::Note;
+
+/// The dump of the first example's node at the end of its run.
+pub const FIRST_LINES: &str = "node 0 ok
+80000080: 44 d0 70 81 d1 21 f5 00 00 00 00 00 00 00 00 00
+800000f0: 00 00 00 00 00 00 00 00 00 00 00 00 87 00 00 80
+80000100: 04 00 00 00 05 00 00 00 00 00 00 00 00 00 00 00
+";
 
 /// The trace and the dumps of both nodes after the message.
 pub const PAIR_LINES: &str = "msg 0.1 1.2 4 01020304
@@ -66,8 +73,8 @@ pub fn ring_lines(alloc: Global) -> Result<String, AllocError> {
 
 /// The trace and the dumps of a run.
 pub fn shown(alloc: Global, notes: &[Note], net: &Net) -> Result<Vec<u8>, WriteFault> {
-    let mut out = Vec::new(alloc);
+    let mut out = Uncounted(Vec::new(alloc));
     write_trace(&mut out, notes)?;
     write_dump(&mut out, net)?;
-    Ok(out)
+    Ok(out.0)
 }
