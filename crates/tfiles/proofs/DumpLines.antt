@@ -5,9 +5,9 @@ use Rattle.std.proofs.Common.{None, arith, add-one, drop-cons}
 use Rattle.std.specs.Prelude.{codes, if◌then◌else◌, ◌&&◌, ◌||◌, nat_lt, slice_range}
 use Rattle.std.specs.Int.{div_ceil, to_be_bytes, w32}
 use Rattle.hex.specs.Hex.{encode_lower}
-use Rattle.std.specs.List.{list_all, list_any}
+use Rattle.std.specs.List.{list_all, list_any, sum}
 use Rattle.std.proofs.Math.ListN.{drop_of_length-le}
-use Rattle.std.proofs.lemmas.Bool.{or_parts, and_parts, lt-ltb, ltb-true, both_ways, cases_lt}
+use Rattle.std.proofs.lemmas.Bool.{or_parts, and_from, and_parts, eq-eqb, lt-ltb, ltb-true, both_ways, cases_lt}
 use Rattle.std.proofs.lemmas.List.{drop-map, take-map, drop-drop, length-map, length-drop, take_all}
 use Rattle.tword.specs.declared.span.Span.{Span}
 use Rattle.tword.specs.Claims.{overlap, overlaps_claim}
@@ -130,6 +130,17 @@ pub line_left_out : (a : ℕ) (cells : Store) → true ≡ list_all is_zero cell
 line_left_out a cells e =
     ap (λ (z : Bool). if z then [] else line
     (encode_lower (to_be_bytes w32 a) ++ (codes ":" ++ flat_map cell_text cells))) e
+
+-- bytes that come to nothing are zeros
+none_summed : (bytes : List ℕ) → sum bytes ≡ 0 → list_all is_zero (as_cells bytes) ≡ true
+none_summed [] h = refl
+none_summed (b ∷ bytes) h =
+    let none : b ≡ 0 = omega arith in
+    and_from _ _ (eq-eqb b 0 none) (none_summed bytes (omega arith))
+
+-- so a line of them is left out
+pub zeros_left_out : (a : ℕ) (bytes : List ℕ) → sum bytes ≡ 0 → [] ≡ dump_line a (as_cells bytes)
+zeros_left_out a bytes h = line_left_out a (as_cells bytes) (sym (none_summed bytes h))
 
 -- any other is not
 pub line_shown : (a : ℕ) (cells : Store) → false ≡ list_all is_zero cells

@@ -141,7 +141,14 @@ impl Memory {
     pub fn may_deschedule(&self, marks: &Marks, workspace: Word) -> Result<(), Break>
         ensures { result ≡ or_break (deschedule_break (length self.now) marks.now workspace) tt }
     {
-        self.may_write_word(marks, workspace.minus(Word::new(12)))?;
+        // No memory ends at the last address.
+        let _ = self.size();
+        let lowest = workspace.minus(Word::new(12));
+        // All three at once, and one by one only where that fails, for the first break.
+        if lowest.get() % 4 == 0 && self.may_write(marks, lowest, 12).is_ok() {
+            return Ok(());
+        }
+        self.may_write_word(marks, lowest)?;
         self.may_write_word(marks, workspace.minus(Word::new(8)))?;
         self.may_write_word(marks, workspace.minus(Word::new(4)))
     }

@@ -49,14 +49,22 @@ impl ClaimTable {
         })
     }
 
-    /// Whether the span lies within one word, which is counted and which no claim has.
+    /// Whether the span lies within one word, or is three whole ones, which are counted and which no claim has.
     #[inline(always)]
     pub fn is_clear_of(&self, span: &Span) -> bool
         ensures { result ≡ true → AreEmpty self.now span.now }
     {
         let address = span.start.get();
+        let first = slot_of(address);
+        if span.size == 12 {
+            return address % 4 == 0
+                && first + 3 <= self.counts.len()
+                && self.counts[first] == 0
+                && self.counts[first + 1] == 0
+                && self.counts[first + 2] == 0;
+        }
         u64::from(address % 4) + u64::from(span.size) <= 4
-            && matches!(self.counts.get(slot_of(address)), Some(0))
+            && matches!(self.counts.get(first), Some(0))
     }
 
     /// Whether words in a row, 65,536 at most, are all counted, and no claim has one of them.
@@ -92,7 +100,7 @@ impl ClaimTable {
         let counts = self.counts.as_mut_slice();
         let first = slot_of(span.start.get());
         if has_three_in_a_row(span, first, counts.len()) {
-            count_up(counts, first, first + 3);
+            count_three_up(counts, first);
         } else {
             let (first, behind) = slots_of(span, counts.len());
             count_up(counts, first, behind);
@@ -109,7 +117,7 @@ impl ClaimTable {
         let counts = self.counts.as_mut_slice();
         let first = slot_of(span.start.get());
         if has_three_in_a_row(span, first, counts.len()) {
-            count_down(counts, first, first + 3);
+            count_three_down(counts, first);
         } else {
             let (first, behind) = slots_of(span, counts.len());
             count_down(counts, first, behind);
@@ -191,9 +199,34 @@ fn has_three_in_a_row(span: &Span, first: usize, slots: usize) -> bool
     span.size == 12 && span.start.get() % 4 == 0 && first + 3 <= slots
 }
 
-/// One more claim in each slot from the first on, up to the one before `behind`.
-// In line, so that three are counted without a loop.
+/// One more claim in each of three slots in a row: those of a workspace, without a loop.
 #[inline(always)]
+fn count_three_up(counts: &mut [u16], first: usize)
+    requires within { first + 3 ≤ length counts.old }
+    requires room { HasRoom counts.old }
+    ensures { (slot : ℕ) → slot < length counts.old
+        → slice_index counts.new slot ≡ slice_index counts.old slot + is_among first (first + 3) slot }
+{
+    counts[first] += 1;
+    counts[first + 1] += 1;
+    counts[first + 2] += 1;
+}
+
+/// One claim less in each of three slots in a row.
+#[inline(always)]
+fn count_three_down(counts: &mut [u16], first: usize)
+    requires within { first + 3 ≤ length counts.old }
+    requires some { (slot : ℕ) → slot < length counts.old → is_among first (first + 3) slot ≤ slice_index counts.old slot }
+    ensures { (slot : ℕ) → slot < length counts.old
+        → slice_index counts.new slot + is_among first (first + 3) slot ≡ slice_index counts.old slot }
+{
+    counts[first] -= 1;
+    counts[first + 1] -= 1;
+    counts[first + 2] -= 1;
+}
+
+/// One more claim in each slot from the first on, up to the one before `behind`.
+#[inline(never)]
 fn count_up(counts: &mut [u16], first: usize, behind: usize)
     requires order { first ≤ behind }
     requires within { behind ≤ length counts.old }
@@ -207,7 +240,7 @@ fn count_up(counts: &mut [u16], first: usize, behind: usize)
 }
 
 /// One claim less in each slot from the first on, up to the one before `behind`.
-#[inline(always)]
+#[inline(never)]
 fn count_down(counts: &mut [u16], first: usize, behind: usize)
     requires order { first ≤ behind }
     requires within { behind ≤ length counts.old }

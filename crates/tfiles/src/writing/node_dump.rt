@@ -1,6 +1,6 @@
 //! The dump of a node: how it stands, and its bytes.
 
-ghost use Rattle.std.specs.Prelude.{◌≡◌, ◌+◌, ◌<◌, ◌≤◌, ◌^◌, ◌++◌, codes, length, None, Some, if◌then◌else◌};
+ghost use Rattle.std.specs.Prelude.{◌≡◌, ◌+◌, ◌<◌, ◌≤◌, ◌^◌, ◌++◌, codes, length, None, Some, if◌then◌else◌, sum};
 ghost use Rattle.std.specs.List.{list_any, list_all, flat_map};
 ghost use Rattle.tword.specs.Claims.{overlaps_claim};
 ghost use Rattle.tword.specs.Stores.{as_cells, hiding, hiding_from};
@@ -85,20 +85,22 @@ fn put_lines<W: CountedWrite>(out: &mut Output<'_, W>, bytes: &[u8], pending: &[
     }
 }
 
-/// One line. Only where a pending input has a byte of the line is each byte looked up.
+/// One line. Only where a pending input has a byte of the line is each byte looked up, and each is looked at only
+/// where the line may be shown.
 fn put_line<W: CountedWrite>(
     out: &mut Output<'_, W>,
     address: u32,
     bytes: &[u8],
     pending: &[Option<Span>],
 )
-    requires { address + length bytes.now < 2 ^ 32 }
+    requires within { address + length bytes.now < 2 ^ 32 }
+    requires line { length bytes.now ≤ 16 }
     ensures { Tells W.contents W.failures out.old out.new
         (dump_line address (hiding_from (is_pending pending.now) address (as_cells bytes.now))) }
 {
     if has_pending(pending, address, bytes.len() as u32) {
         put_cells(out, address, bytes, pending);
-    } else {
+    } else if sum_of(bytes) != 0 {
         put_cells(out, address, bytes, &[]);
     }
 }
@@ -164,6 +166,15 @@ fn put_seen<W: CountedWrite>(out: &mut Output<'_, W>, byte: u8)
 {
     out.put(b" ");
     put_byte(out, byte);
+}
+
+/// The sum of the bytes of a line, without a look at each, so that several are added at a time.
+#[inline]
+fn sum_of(bytes: &[u8]) -> u16
+    requires { length bytes.now ≤ 16 }
+    ensures { result ≡ sum bytes.now }
+{
+    bytes.iter().map(|byte| u16::from(*byte)).sum()
 }
 
 /// Whether all bytes are zero and none is pending.
