@@ -1,11 +1,12 @@
 //! A node, whose processor and links fit one another at all times.
 
 ghost use Rattle.std.specs.Prelude.{◌≡◌, IfOk};
-ghost use Rattle.tlink.specs.Node.{NodeState, fresh_node};
+ghost use Rattle.tlink.specs.Node.{NodeState, counts_at, fresh_node};
 ghost use Rattle.tlink.specs.Events.{happens, node_answered, node_left_by, is_node_enabled};
 ghost use Rattle.tlink.specs.Runs.{runs};
 ghost use Rattle.tlink.specs.Whole.{HasNoticedNothing, IsWhole};
 
+use crate::counts::Counts;
 use crate::event::{Emitted, NodeEvent, Runs, StepFault};
 use crate::links::Links;
 use std::alloc::{AllocError, Global};
@@ -86,6 +87,13 @@ impl Node {
         ensures { result.now ≡ self.now.machine }
     {
         self.links.processor()
+    }
+
+    /// What a link has counted; past the four links, nothing.
+    pub fn counts(&self, link: u8) -> Counts
+        ensures { result ≡ counts_at self.now link }
+    {
+        self.links.counts_at(link)
     }
 
     /// The break that froze the node, if one has.

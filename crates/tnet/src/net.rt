@@ -2,7 +2,7 @@
 
 ghost use Rattle.std.specs.Prelude.{◌≡◌, ◌≢◌, ◌≤◌, ℕ, length, IsTrue, IfOk, ◌↔◌};
 ghost use Rattle.tlink.specs.Node.{NodeState};
-ghost use Rattle.tnet.specs.Net.{NetState};
+ghost use Rattle.tnet.specs.Net.{NetState, inbox_at};
 ghost use Rattle.tnet.specs.Packets.{net_happens, answered, net_left_by, after_event, applied_from, is_enabled};
 ghost use Rattle.tnet.specs.Packets.{IsQuiet};
 ghost use Rattle.tnet.specs.Sound.{IsSound};
@@ -17,6 +17,7 @@ ghost use Rattle.tnet.specs.Runs.{IsSeenRun, refused, done, done_one};
 ghost use Rattle.tnet.specs.WireLaw.{WiresCarryInOrder};
 
 use crate::faults::first_fault;
+use crate::inbox::Inbox;
 use crate::opening::open;
 use crate::parts::Parts;
 use crate::wires::{NetParts, Wires};
@@ -142,6 +143,13 @@ impl Net {
         ensures sound { IsSound self.now }
     {
         self.parts.nodes()
+    }
+
+    /// What lies at an end; at one that is no link of a node, nothing.
+    pub fn inbox(&self, end: End) -> Inbox
+        ensures { result ≡ inbox_at self.now end }
+    {
+        self.parts.inbox(end)
     }
 
     /// The far end of an end, if it is a wired link.

@@ -5,7 +5,7 @@ ghost use Rattle.std.specs.List.{list_all};
 ghost use Rattle.tlink.specs.Node.{NodeState};
 ghost use Rattle.tnet.specs.Quiet.{node_events, is_quiet, is_quiet_from};
 ghost use Rattle.tnet.specs.Wires.{end_at, far_end};
-ghost use Rattle.tnet.specs.Net.{NetState, node_at};
+ghost use Rattle.tnet.specs.Net.{NetState, inbox_at, node_at};
 ghost use Rattle.tnet.specs.Packets.{node_event, received, delivered, sent_off, net_happens, is_enabled};
 ghost use Rattle.tnet.specs.Stations.{put_in};
 ghost use Rattle.tnet.specs.Answers.{DoesAt, DoesNet};
@@ -163,6 +163,16 @@ impl Parts {
         let place = usize::from(event.node);
         if place < self.inboxes.len() {
             empty(&mut self.inboxes[place], event.act);
+        }
+    }
+
+    /// What lies at an end.
+    pub fn inbox(&self, end: End) -> Inbox
+        ensures { result ≡ inbox_at self.now end }
+    {
+        match self.inboxes.get(end.node as usize) {
+            Some(links) => links.get(end.link as usize).copied().unwrap_or(Inbox::EMPTY),
+            None => Inbox::EMPTY,
         }
     }
 

@@ -63,6 +63,10 @@ queued_by priority process (Some r) = None
 abbrev pub queue_in : ℕ → List Entry → List ℕ
 queue_in priority table = filter_map (λ e. queued_by priority e.process e.reason) table
 
+-- and those that wait
+abbrev pub waiting_in : List Entry → List Waiter
+waiting_in table = filter_map waiter_of table
+
 -- the two queues, and those that wait
 pub record Lists : Type 0 where
   pub high : List ℕ
@@ -72,7 +76,7 @@ pub record Lists : Type 0 where
 -- those of a table
 abbrev pub lists_of : List Entry → Lists
 lists_of table =
-    record { high = queue_in 0 table; low = queue_in 1 table; waiting = filter_map waiter_of table }
+    record { high = queue_in 0 table; low = queue_in 1 table; waiting = waiting_in table }
 
 -- all workspaces of them
 abbrev pub workspaces_in : Lists → List ℕ

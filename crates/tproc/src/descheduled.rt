@@ -78,6 +78,16 @@ impl Descheduled {
         self.table.len()
     }
 
+    /// All of them, in the order in which they came.
+    ///
+    /// # Errors
+    /// Where the allocator refuses.
+    pub fn to_vec(&self, alloc: Global) -> Result<Vec<Entry>, AllocError>
+        ensures { IfOk result (λ entries. lists_of entries.items ≡ self.now) }
+    {
+        self.table.to_vec(alloc)
+    }
+
     /// Whether no process of high priority is queued.
     #[inline]
     pub fn is_high_empty(&self) -> bool

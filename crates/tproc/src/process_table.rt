@@ -81,6 +81,22 @@ impl ProcessTable {
         self.count
     }
 
+    /// All of them, in the order in which they came.
+    ///
+    /// # Errors
+    /// Where the allocator refuses.
+    pub fn to_vec(&self, alloc: Global) -> Result<Vec<Entry>, AllocError>
+        ensures { IfOk result (λ entries. entries.items ≡ self.now) }
+    {
+        let mut all = Vec::with_capacity(alloc, self.count)?;
+        for entry in self.entries.as_slice() {
+            if let Some(entry) = entry {
+                all.push(*entry)?;
+            }
+        }
+        Ok(all)
+    }
+
     /// The entry of a process. All of the table have their words saved, so that a process that runs is not sought.
     #[inline]
     pub fn find(&self, claimed: &ClaimedMemory, process: Word) -> Option<Entry>
