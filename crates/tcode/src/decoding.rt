@@ -90,6 +90,7 @@ fn decode_prefixed(
 }
 
 /// The instruction at an address where a prefix was fetched.
+#[cold]
 #[inline(never)]
 fn decode_chain(
     memory: &Memory,

@@ -149,6 +149,7 @@ impl ProcessTable {
     }
 
     /// The same, where the process is sought.
+    #[cold]
     #[inline(never)]
     fn remove_sought(&mut self, process: Word)
         requires { ShareNoWorkspace self.old }
@@ -173,6 +174,7 @@ fn is_of(entry: &Option<Entry>, process: Word) -> bool
 }
 
 /// Where the entry of a process is.
+#[cold]
 #[inline(never)]
 fn search(entries: &[Option<Entry>], process: Word) -> Option<usize>
     ensures found { IfSome result (λ i. IsEntryAt entries.now i process) }
@@ -201,6 +203,7 @@ fn make_room(entries: &mut Vec<Option<Entry>>, hints: &mut Hints)
 }
 
 /// Closes the empty entries up, and notes where each process comes to be.
+#[cold]
 #[inline(never)]
 fn close_up(entries: &mut Vec<Option<Entry>>, hints: &mut Hints)
     requires few { length (present entries.old.items) < 1024 }

@@ -49,6 +49,7 @@ fn jumps(claimed: &ClaimedMemory, i: Instruction, registers: &Registers) -> Resu
 }
 
 /// Whether any instruction of a step jumps.
+#[cold]
 #[inline(never)]
 fn jumps_otherwise(
     claimed: &ClaimedMemory,

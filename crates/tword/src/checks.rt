@@ -137,18 +137,30 @@ impl Memory {
     ///
     /// # Errors
     /// The break of the first word that may not.
-    #[tactic(auto, unfolding(crate::specs::Touches::deschedule_break))]
+    #[inline]
     pub fn may_deschedule(&self, marks: &Marks, workspace: Word) -> Result<(), Break>
         ensures { result ≡ or_break (deschedule_break (length self.now) marks.now workspace) tt }
     {
         // No memory ends at the last address.
         let _ = self.size();
         let lowest = workspace.minus(Word::new(12));
-        // All three at once, and one by one only where that fails, for the first break.
-        if lowest.get() % 4 == 0 && self.may_write(marks, lowest, 12).is_ok() {
+        if lowest.get() % 4 == 0
+            && self.lies_open(lowest, 12).is_ok()
+            && marks.are_three_clear(lowest)
+        {
             return Ok(());
         }
-        self.may_write_word(marks, lowest)?;
+        self.may_deschedule_closely(marks, workspace)
+    }
+
+    /// The same, by a look at one word after another.
+    #[cold]
+    #[inline(never)]
+    #[tactic(auto, unfolding(crate::specs::Touches::deschedule_break))]
+    fn may_deschedule_closely(&self, marks: &Marks, workspace: Word) -> Result<(), Break>
+        ensures { result ≡ or_break (deschedule_break (length self.now) marks.now workspace) tt }
+    {
+        self.may_write_word(marks, workspace.minus(Word::new(12)))?;
         self.may_write_word(marks, workspace.minus(Word::new(8)))?;
         self.may_write_word(marks, workspace.minus(Word::new(4)))
     }

@@ -6,6 +6,7 @@ ghost use Rattle.tword.specs.Slots.{word_at, slot_of, is_among, has_word, claims
 ghost use Rattle.tword.specs.Slots.{AreEmpty, Counts, HasRoom, IsEmpty, IsExchanged};
 
 use crate::span::Span;
+use crate::word::Word;
 use std::alloc::{AllocError, Global};
 use std::marker::Model;
 
@@ -49,22 +50,27 @@ impl ClaimTable {
         })
     }
 
-    /// Whether the span lies within one word, or is three whole ones, which are counted and which no claim has.
+    /// Whether the span lies within one word, which is counted and which no claim has.
     #[inline(always)]
     pub fn is_clear_of(&self, span: &Span) -> bool
         ensures { result ≡ true → AreEmpty self.now span.now }
     {
         let address = span.start.get();
-        let first = slot_of(address);
-        if span.size == 12 {
-            return address % 4 == 0
-                && first + 3 <= self.counts.len()
-                && self.counts[first] == 0
-                && self.counts[first + 1] == 0
-                && self.counts[first + 2] == 0;
-        }
         u64::from(address % 4) + u64::from(span.size) <= 4
-            && matches!(self.counts.get(first), Some(0))
+            && matches!(self.counts.get(slot_of(address)), Some(0))
+    }
+
+    /// Whether three whole words, from the one at an address on, are counted, and no claim has one of them.
+    #[inline(always)]
+    pub fn are_three_clear(&self, lowest: Word) -> bool
+        requires { lowest % 4 ≡ 0 }
+        ensures { result ≡ true → AreEmpty self.now (record { start = lowest; size = 12 }) }
+    {
+        let first = slot_of(lowest.get());
+        first + 3 <= self.counts.len()
+            && self.counts[first] == 0
+            && self.counts[first + 1] == 0
+            && self.counts[first + 2] == 0
     }
 
     /// Whether words in a row, 65,536 at most, are all counted, and no claim has one of them.

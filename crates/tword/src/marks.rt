@@ -171,6 +171,7 @@ impl Marks {
     ///
     /// # Errors
     /// As `may_read`.
+    #[cold]
     #[inline(never)]
     fn may_read_closely(&self, start: Word, size: u32) -> Result<(), Break>
         ensures { result ≡ or_break (claim_break self.now Reads (record { start = start; size = size })) tt }
@@ -204,6 +205,7 @@ impl Marks {
     ///
     /// # Errors
     /// As `may_write`.
+    #[cold]
     #[inline(never)]
     fn may_write_closely(&self, start: Word, size: u32) -> Result<(), Break>
         ensures { result ≡ or_break (claim_break self.now Writes (record { start = start; size = size })) tt }
@@ -216,6 +218,15 @@ impl Marks {
             return Err(Break::SavedWord);
         }
         Ok(())
+    }
+
+    /// Whether the counts show that no claim has one of three whole words, from the one at an address on.
+    #[inline(always)]
+    pub fn are_three_clear(&self, lowest: Word) -> bool
+        requires { lowest % 4 ≡ 0 }
+        ensures { result ≡ true → claim_break self.now Writes (record { start = lowest; size = 12 }) ≡ None }
+    {
+        self.table.are_three_clear(lowest)
     }
 
     /// Claims the three words below a workspace, where the claims that there are let them be written.

@@ -78,6 +78,8 @@ impl Saved {
     }
 
     /// Where a workspace stands in the list, by a search of it.
+    #[cold]
+    #[inline(never)]
     pub fn position(&self, workspace: Word) -> Option<usize>
         ensures found { IfSome result (λ i. IsPlaceIn self.now i workspace) }
         ensures none { result ≡ None → list_any (λ w. w == workspace) self.now ≡ false }

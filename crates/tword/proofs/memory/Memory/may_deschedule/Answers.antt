@@ -8,10 +8,11 @@ none_if_ok : (b : Option Break) → is_ok (or_break b (tt {0})) ≡ true → b �
 none_if_ok None h = refl
 none_if_ok (Some x) h = cc
 
-pub returns-then-is_ok : goal.returns-then-is_ok
-returns-then-is_ok c =
-    let alone = none_if_ok _ (ap is_ok (sym c.may_write.ensures.checks) ∙ sym c.is_ok.ensures.value ∙ c.if-is_ok.true) in
+pub returns-then-are_three_clear : goal.returns-then-are_three_clear
+returns-then-are_three_clear c =
+    let place = none_if_ok _
+    (ap is_ok (sym c.lies_open.ensures) ∙ sym c.is_ok.ensures.value ∙ c.if-is_ok.true) in
     rw (
     deschedule-together _ c.args.marks.now c.args.workspace c.minus-lowest.result (omega arith) (omega arith)
-    (omega arith) alone
+    (omega arith) place (c.are_three_clear.ensures c.if-are_three_clear.true)
     ) refl
