@@ -6,13 +6,10 @@ ghost use Rattle.tword.specs.Touches.{Reads, Writes, place_break, word_place_bre
 ghost use Rattle.tword.specs.Touches.{copy_break, deschedule_break, is_inside, word_span};
 
 use crate::breaks::Break;
-use crate::limits::{MEM_START, MOST_NEG};
+use crate::limits::{CLOSED, MEM_START, MOST_NEG};
 use crate::marks::Marks;
 use crate::memory::Memory;
 use crate::word::Word;
-
-/// How many bytes from the least address on are closed to programs.
-const CLOSED: u64 = (MEM_START - MOST_NEG) as u64;
 
 impl Memory {
     /// Whether the bytes of a span lie in the memory, where programs may use them.
@@ -20,8 +17,25 @@ impl Memory {
     /// # Errors
     /// `BadAddress` where one lies outside, else `Reserved` where one lies below the first address that programs may
     /// use. A span without bytes passes.
+    // An address below lies further from the first one that programs may use than any memory reaches.
     #[inline(always)]
     fn lies_open(&self, start: Word, size: u32) -> Result<(), Break>
+        ensures { result ≡ or_break (place_break (length self.now) (record { start = start; size = size })) tt }
+    {
+        let place = u64::from(start.get().wrapping_sub(MEM_START));
+        if place + u64::from(size) <= u64::from(self.open_size()) {
+            return Ok(());
+        }
+        self.lies_open_closely(start, size)
+    }
+
+    /// The same, by one check after another.
+    ///
+    /// # Errors
+    /// As `lies_open`.
+    #[cold]
+    #[inline(never)]
+    fn lies_open_closely(&self, start: Word, size: u32) -> Result<(), Break>
         ensures { result ≡ or_break (place_break (length self.now) (record { start = start; size = size })) tt }
     {
         let place = u64::from(start.get().wrapping_sub(MOST_NEG));
@@ -31,7 +45,7 @@ impl Memory {
         if u64::from(self.size()) < place + u64::from(size) {
             return Err(Break::BadAddress);
         }
-        if place < CLOSED {
+        if place < u64::from(CLOSED) {
             return Err(Break::Reserved);
         }
         Ok(())
@@ -77,6 +91,21 @@ impl Memory {
     fn is_open_word(&self, address: Word) -> Result<(), Break>
         ensures { result ≡ or_break (word_place_break (length self.now) address) tt }
     {
+        if address.get() % 4 == 0 && address.get().wrapping_sub(MEM_START) < self.open_size() {
+            return Ok(());
+        }
+        self.is_open_word_closely(address)
+    }
+
+    /// The same, by one check after another.
+    ///
+    /// # Errors
+    /// As `is_open_word`.
+    #[cold]
+    #[inline(never)]
+    fn is_open_word_closely(&self, address: Word) -> Result<(), Break>
+        ensures { result ≡ or_break (word_place_break (length self.now) address) tt }
+    {
         if address.get() % 4 != 0 {
             return Err(Break::Unaligned);
         }
@@ -84,7 +113,7 @@ impl Memory {
         if u64::from(self.size()) <= place {
             return Err(Break::BadAddress);
         }
-        if place < CLOSED {
+        if place < u64::from(CLOSED) {
             return Err(Break::Reserved);
         }
         Ok(())

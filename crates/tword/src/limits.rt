@@ -7,6 +7,9 @@ pub const MOST_NEG: u32 = 0x8000_0000;
 /// The lowest address that programs may use, as its unsigned reading (the Compiler Writer's Guide: MemStart).
 pub const MEM_START: u32 = 0x8000_0048;
 
+/// How many bytes from the lowest address on are closed to programs.
+pub(crate) const CLOSED: u32 = MEM_START - MOST_NEG;
+
 /// The least number of bytes of a memory (own choice).
 pub const SMALLEST_MEMORY: u32 = 2_048;
 

@@ -86,15 +86,26 @@ impl Marks {
         self.place_of(workspace).is_some()
     }
 
-    /// Where a workspace stands among those whose words are saved. Only where its hint tells of another one, and its
-    /// highest saved word is one of some workspace or is not counted, is the list searched.
+    /// Where a workspace stands among those whose words are saved.
+    #[inline]
     fn place_of(&self, workspace: Word) -> Option<usize>
         ensures found { IfSome result (λ i. IsPlaceIn self.now.saved i workspace) }
         ensures none { result ≡ None → has_saved self.now workspace ≡ false }
     {
-        if let Some(place) = self.saved.noted(workspace) {
-            return Some(place);
+        match self.saved.noted(workspace) {
+            Some(place) => Some(place),
+            None => self.sought_place_of(workspace),
         }
+    }
+
+    /// The same, where the hint tells of another workspace. Only where its highest saved word is one of some workspace
+    /// or is not counted is the list searched.
+    #[cold]
+    #[inline(never)]
+    fn sought_place_of(&self, workspace: Word) -> Option<usize>
+        ensures found { IfSome result (λ i. IsPlaceIn self.now.saved i workspace) }
+        ensures none { result ≡ None → has_saved self.now workspace ≡ false }
+    {
         if self.saves_none_in(u64::from(words_below(workspace).get() / 4) + 2) {
             return None;
         }

@@ -10,7 +10,7 @@ ghost use Rattle.tword.specs.Touches.{Reads, Writes, span_break, word_break, is_
 ghost use Rattle.tword.specs.Words.{most_neg};
 
 use crate::breaks::{Break, MemoryFault};
-use crate::limits::{LARGEST_MEMORY, MOST_NEG, SMALLEST_MEMORY};
+use crate::limits::{CLOSED, LARGEST_MEMORY, MOST_NEG, SMALLEST_MEMORY};
 use crate::marks::Marks;
 use crate::span::Span;
 use crate::word::Word;
@@ -22,10 +22,12 @@ use std::marker::Model;
 #[derive(Drop)]
 pub struct Memory {
     bytes: Vec<u8>,
+    /// How many of them programs may use: all but those below `MEM_START`.
+    open: u32,
 }
 
 impl Model for Memory {
-    ghost use Rattle.std.specs.Prelude.{length};
+    ghost use Rattle.std.specs.Prelude.{◌≡◌, ◌+◌, length};
     ghost use Rattle.tword.specs.Stores.{Store, as_cells};
     ghost use Rattle.tword.specs.Accesses.{IsMemorySize};
 
@@ -33,7 +35,7 @@ impl Model for Memory {
 
     ghost view = { λ m. as_cells m.bytes.items };
 
-    ghost invariant = { λ m. IsMemorySize (length m.bytes.items) };
+    ghost invariant = { λ m. IsMemorySize (length m.bytes.items) × (m.open + 72 ≡ length m.bytes.items) };
 }
 
 impl Memory {
@@ -51,6 +53,7 @@ impl Memory {
         }
         Ok(Memory {
             bytes: vec![in alloc; 0; size as usize]?,
+            open: size - CLOSED,
         })
     }
 
@@ -63,6 +66,7 @@ impl Memory {
     {
         Ok(Memory {
             bytes: Vec::from_slice(alloc, self.bytes.as_slice())?,
+            open: self.open,
         })
     }
 
@@ -73,6 +77,15 @@ impl Memory {
         ensures sized { IsMemorySize result }
     {
         self.bytes.len() as u32
+    }
+
+    /// How many of its bytes programs may use: those from `MEM_START` on.
+    #[inline(always)]
+    pub(crate) fn open_size(&self) -> u32
+        ensures is { result + 72 ≡ length self.now }
+        ensures sized { IsMemorySize (length self.now) }
+    {
+        self.open
     }
 
     /// Its bytes, the one of the least address first.

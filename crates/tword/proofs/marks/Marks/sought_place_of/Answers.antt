@@ -2,7 +2,7 @@ use Rattle.std.proofs.Common.{◌≡◌, ◌+◌, ◌/◌, ℕ, ap, ◌∙◌, a
 use Rattle.tword.specs.Slots.{saved_in}
 use Rattle.tword.specs.Words.{word_below}
 use Rattle.tword.proofs.ClaimTally.{absent_by_count}
-use Rattle.tword.proofs.marks.Marks.place_of.Goals as goal
+use Rattle.tword.proofs.marks.Marks.sought_place_of.Goals as goal
 
 pub returns-then-saves_none_in-clause-none : goal.returns-then-saves_none_in-clause-none
 returns-then-saves_none_in-clause-none c = λ e.
