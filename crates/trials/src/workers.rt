@@ -1,8 +1,9 @@
 //! Free workers that turn one after another, and are gathered.
 
-ghost use Rattle.std.specs.Prelude.{◌≡◌, ◌<◌, ◌≤◌, length, IfOk};
+ghost use Rattle.std.specs.Prelude.{◌≡◌, ◌<◌, ◌≤◌, length, IfOk, IfErr};
 ghost use Rattle.std.specs.List.{insert};
-ghost use Rattle.tfree.specs.Opened.{ComeFromOneOpen};
+ghost use Rattle.tfree.specs.Gather.{IsWhy};
+ghost use Rattle.tfree.specs.Opened.{ComeFromOneOpen, Gathers};
 
 use crate::texts::shown;
 use std::alloc::{AllocError, Global};
@@ -89,6 +90,8 @@ pub fn put_back(workers: &mut Vec<Worker>, place: usize, worker: Worker) -> Resu
 /// The workers are brought together again, where none is missing.
 pub fn gathered(alloc: Global, workers: Vec<Worker>) -> Result<Gathered, GatherFault>
     requires { ComeFromOneOpen workers.items }
+    ensures gathered { IfOk result (λ g. Gathers workers.items g.history g.notes g.net) }
+    ensures why { IfErr result (λ fault. IsWhy workers.items fault) }
 {
     match gather(alloc, workers) {
         Ok(done) => Ok(done),
