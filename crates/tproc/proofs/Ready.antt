@@ -336,8 +336,3 @@ pub fetched_at_alike : (address : ℕ) (c : Claims) (n : Machine) → Agrees c n
 fetched_at_alike address c n a =
     ap (λ (r : Result (Instruction × Store) Break). value_of r)
     (run_from-same (decode address) n.store n.store c (claims_of n.control) (same_from c n.control a))
-
-pub fetched_alike : (c : Claims) (n : Machine) → Agrees c n.control
-    → value_of (run (decode n.control.registers.iptr) n.store c)
-    ≡ value_of (run (decode n.control.registers.iptr) n.store (claims_of n.control))
-fetched_alike c n a = fetched_at_alike n.control.registers.iptr c n a
