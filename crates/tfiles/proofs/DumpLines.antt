@@ -2,12 +2,13 @@
 use Rattle.std.proofs.Common.{◌≡◌, ℕ, zero, suc, ◌+◌, ◌*◌, ◌-◌, ◌<◌, ◌≤◌, refl, sym, ap, ap₂, ◌∙◌, List, [], ◌∷◌, ◌++◌}
 use Rattle.std.proofs.Common.{length, get_or, take, drop, flat_map, min, Bool, true, false, ◌⊎◌, inl, inr, Option, Some}
 use Rattle.std.proofs.Common.{None, arith, add-one, drop-cons}
-use Rattle.std.specs.Prelude.{codes, if◌then◌else◌, ◌&&◌, ◌||◌, nat_lt, slice_range}
+use Rattle.std.specs.Prelude.{codes, if◌then◌else◌, ◌&&◌, ◌||◌, ◌==◌, nat_lt, slice_range}
 use Rattle.std.specs.Int.{div_ceil, to_be_bytes, w32}
 use Rattle.hex.specs.Hex.{encode_lower}
 use Rattle.std.specs.List.{list_all, list_any, sum}
 use Rattle.std.proofs.Math.ListN.{drop_of_length-le}
-use Rattle.std.proofs.lemmas.Bool.{or_parts, and_from, and_parts, eq-eqb, lt-ltb, ltb-true, both_ways, cases_lt}
+use Rattle.std.proofs.lemmas.Bool.{or_parts, and_parts, eq-eqb, lt-ltb, ltb-true, both_ways, cases_lt}
+use Rattle.std.proofs.lemmas.List.Folds.{sum_by-zero}
 use Rattle.std.proofs.lemmas.List.{drop-map, take-map, drop-drop, length-map, length-drop, take_all}
 use Rattle.tword.specs.declared.span.Span.{Span}
 use Rattle.tword.specs.Claims.{overlap, overlaps_claim}
@@ -132,15 +133,24 @@ line_left_out a cells e =
     (encode_lower (to_be_bytes w32 a) ++ (codes ":" ++ flat_map cell_text cells))) e
 
 -- bytes that come to nothing are zeros
-none_summed : (bytes : List ℕ) → sum bytes ≡ 0 → list_all is_zero (as_cells bytes) ≡ true
-none_summed [] h = refl
-none_summed (b ∷ bytes) h =
-    let none : b ≡ 0 = omega arith in
-    and_from _ _ (eq-eqb b 0 none) (none_summed bytes (omega arith))
+cells_zero : (bytes : List ℕ) → list_all is_zero (as_cells bytes) ≡ list_all (λ b. b == 0) bytes
+cells_zero [] = refl
+cells_zero (b ∷ bytes) = ap (λ (x : Bool). (b == 0) && x) (cells_zero bytes)
 
--- so a line of them is left out
-pub zeros_left_out : (a : ℕ) (bytes : List ℕ) → sum bytes ≡ 0 → [] ≡ dump_line a (as_cells bytes)
-zeros_left_out a bytes h = line_left_out a (as_cells bytes) (sym (none_summed bytes h))
+none_summed : (bytes : List ℕ) → sum bytes ≡ 0 → list_all is_zero (as_cells bytes) ≡ true
+none_summed bytes h = cells_zero bytes ∙ sym (sum_by-zero (λ b. b) bytes) ∙ eq-eqb (sum bytes) 0 h
+
+-- so a line of them is left out, where no pending input has a byte of it
+none_hidden : (a : ℕ) (cells : Store) → hiding_from (is_pending []) a cells ≡ cells
+none_hidden a [] = refl
+none_hidden a (cell ∷ cells) = ap (λ (s : Store). cell ∷ s) (none_hidden (suc a) cells)
+
+pub zeros_left_out : (pending : List (Option Span)) (a : ℕ) (bytes : List ℕ) → sum bytes ≡ 0
+    → list_any (overlaps_claim (record { start = a; size = length bytes })) pending ≡ false
+    → [] ≡ dump_line a (hiding_from (is_pending pending) a (as_cells bytes))
+zeros_left_out pending a bytes none apart =
+    line_left_out a (as_cells bytes) (sym (none_summed bytes none))
+    ∙ ap (λ (cells : Store). dump_line a cells) (sym (none_hidden a (as_cells bytes)) ∙ shown_same pending a bytes apart)
 
 -- any other is not
 pub line_shown : (a : ℕ) (cells : Store) → false ≡ list_all is_zero cells
