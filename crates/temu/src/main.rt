@@ -1,6 +1,5 @@
-//! The program `temu`: it runs nets of T414 transputers from wiring files, replays logs of events, and shows the
-//! instructions of
-//! images.
+//! The program `temu`: it runs nets of T414 transputers from wiring files, replays logs of events, tells where each
+//! process stands after them, and shows the instructions of images.
 #![tactic(auto)]
 
 mod commands;

@@ -97,7 +97,7 @@ fn put_head<W: CountedWrite>(
 }
 
 /// An instruction.
-fn put_instruction<W: CountedWrite>(out: &mut Output<'_, W>, instruction: &Instruction)
+pub fn put_instruction<W: CountedWrite>(out: &mut Output<'_, W>, instruction: &Instruction)
     ensures { Tells W.contents W.failures out.old out.new (instruction_text instruction.now) }
 {
     if let Function::Opr = instruction.function

@@ -4,7 +4,7 @@
 pub mod dump;
 pub mod end;
 pub mod log;
-mod node_dump;
+pub mod node_dump;
 pub mod output;
 pub mod text;
 pub mod trace;

@@ -4,4 +4,5 @@ pub mod Outcomes
 pub mod Replays
 pub mod FaultLines
 pub mod Commands
+pub mod Wheres
 pub mod Free

@@ -2,6 +2,7 @@
 //!
 //! - `opened`: the net of a wiring and its images
 //! - `run`, `replaying`, `free`: the text of a run by rounds, of a replay of a log, and of a run by free workers
+//! - `wheres`: the text of where a net stands after the events of a log
 //! - `commands`: the commands, from the bytes of their files to what they write
 //! - `fault`, `fault_line`, `name`: what may be wrong with the files, and the line that says so
 #![tactic(auto)]
@@ -14,10 +15,12 @@ mod name;
 mod opened;
 pub mod replaying;
 pub mod run;
+pub mod wheres;
 
-pub use commands::{dis_file, end_command, free_files, replay_files, run_files};
+pub use commands::{dis_file, end_command, free_files, replay_files, run_files, where_files};
 pub use fault::Fault;
 pub use fault_line::write_fault;
 pub use free::free_text;
 pub use replaying::replay_text;
 pub use run::run_text;
+pub use wheres::where_text;

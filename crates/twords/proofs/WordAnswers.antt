@@ -22,7 +22,8 @@ use Rattle.clap.specs.declared.parser.matches.ArgMatches.TheViews.{out-ArgMatche
 use Rattle.std.specs.Box.{box_value}
 use Rattle.clap.proofs.ValueTestLemmas.{accepts-Accepts}
 use Rattle.twords.specs.CommandLines.{HasText, HasNumber, IsRun, IsWhole, between, program, running_shape}
-use Rattle.twords.specs.CommandLines.{refusals_without_help, run_shape, free_shape, replay_shape, dis_shape, file_rule, number_rule}
+use Rattle.twords.specs.CommandLines.{refusals_without_help, run_shape, free_shape, replay_shape, where_shape}
+use Rattle.twords.specs.CommandLines.{dis_shape, file_rule, number_rule}
 use Rattle.twords.proofs.AcceptedRows.{Each, IsFit, Holds, Rows, each_found, neither}
 use Rattle.twords.proofs.LevelRows.{Found, default_found, level_passes, required_found, subcommand_wanted}
 
@@ -104,13 +105,19 @@ free_fits = (
 replay_fits : RulesFit (built_of replay_shape)
 replay_fits = (one_value _ _ refl refl refl, (one_value _ _ refl refl refl, (asks_help _ _ refl refl, tt)))
 
+where_fits : RulesFit (built_of where_shape)
+where_fits = (
+  one_value _ _ refl refl refl,
+  (one_value _ _ refl refl refl, (one_value _ _ refl refl refl, (asks_help _ _ refl refl, tt))),
+)
+
 dis_fits : RulesFit (built_of dis_shape)
 dis_fits = (one_value _ _ refl refl refl, (asks_help _ _ refl refl, tt))
 
 top_fits : RulesFit (built program).top
 top_fits = (asks_help _ _ refl refl, tt)
 
--- ---- the four commands
+-- ---- the five commands
 
 -- what the words ask for is whole
 abbrev pub IsAnswered : Option (Text × List Row) → Type 0
@@ -171,7 +178,8 @@ run_whole words e = record {
   run = λ is. is_run (codes "run") (codes "rounds") words run_fits e;
   free = other;
   replay = other;
-  dis = λ run. absurd (true≢false run);
+  whereabouts = other;
+  dis = λ run free replay stands. absurd (true≢false run);
 }
 
 free_whole : (words : List Text) → IsTaken (built_of free_shape) words
@@ -180,7 +188,8 @@ free_whole words e = record {
   run = other;
   free = λ is. is_run (codes "free") (codes "turns") words free_fits e;
   replay = other;
-  dis = λ run free. absurd (true≢false free);
+  whereabouts = other;
+  dis = λ run free replay stands. absurd (true≢false free);
 }
 
 replay_whole : (words : List Text) → IsTaken (built_of replay_shape) words
@@ -192,7 +201,24 @@ replay_whole words e = record {
     file_named (built_of replay_shape) words (file_built 1 (codes "wiring")) replay_fits e refl refl,
     file_named (built_of replay_shape) words (file_built 2 (codes "log")) replay_fits e refl refl,
   );
-  dis = λ run free replay. absurd (true≢false replay);
+  whereabouts = other;
+  dis = λ run free replay stands. absurd (true≢false replay);
+}
+
+where_whole : (words : List Text) → IsTaken (built_of where_shape) words
+    → IsWhole (codes "where") (rows_after (built_of where_shape).rules [] words)
+where_whole words e = record {
+  run = other;
+  free = other;
+  replay = other;
+  whereabouts = λ is. (
+    file_named (built_of where_shape) words (file_built 1 (codes "wiring")) where_fits e refl refl,
+    file_named (built_of where_shape) words (file_built 2 (codes "log")) where_fits e refl refl,
+    number_named (built_of where_shape) words
+        (number_built (codes "events") (between 0 4294967295) (codes "4294967295")) 0 4294967295 where_fits e refl
+        (omega arith) refl,
+  );
+  dis = λ run free replay stands. absurd (true≢false stands);
 }
 
 dis_whole : (words : List Text) → IsTaken (built_of dis_shape) words
@@ -201,13 +227,14 @@ dis_whole words e = record {
   run = other;
   free = other;
   replay = other;
-  dis = λ run free replay.
+  whereabouts = other;
+  dis = λ run free replay stands.
       (refl, file_named (built_of dis_shape) words (file_built 1 (codes "image")) dis_fits e refl refl);
 }
 
 each_whole : Each (λ s. (words : List Text) → IsTaken s words → IsAnswered (Some (rows_at s words)))
     (built program).subs
-each_whole = (run_whole, (free_whole, (replay_whole, (dis_whole, tt))))
+each_whole = (run_whole, (free_whole, (replay_whole, (where_whole, (dis_whole, tt)))))
 
 -- words that are not refused ask for one of the commands, with all that it needs
 pub whole : (words : List Text) → refusals_without_help words ≡ [] → IsAnswered (subcommand_of program words)

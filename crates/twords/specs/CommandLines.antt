@@ -19,7 +19,7 @@ use Rattle.clap.specs.declared.builder.value_parser.ValueParser.{ValueParser}
 use Rattle.clap.specs.declared.builder.value_parser.ValueParser.TheVariants.{Signed}
 use Rattle.tplan.specs.declared.options.Options.{Options}
 use Rattle.twords.specs.declared.words.Command.{Command}
-use Rattle.twords.specs.declared.words.Command.TheVariants.{Run, Free, Replay, Dis}
+use Rattle.twords.specs.declared.words.Command.TheVariants.{Run, Free, Replay, Where, Dis}
 
 -- ---- the words that are taken
 
@@ -62,6 +62,15 @@ free_shape = running_shape (codes "free") (codes "turns")
 abbrev pub replay_shape : Shape
 replay_shape = record (new_shape (codes "replay")) { rules = file_rule (codes "wiring") ∷ file_rule (codes "log") ∷ [] }
 
+-- `where WIRING LOG [--events N]`
+abbrev pub where_shape : Shape
+where_shape = record (new_shape (codes "where")) {
+  rules = file_rule (codes "wiring")
+      ∷ file_rule (codes "log")
+      ∷ number_rule (codes "events") (between 0 4294967295) (codes "4294967295")
+      ∷ [];
+}
+
 -- `dis IMAGE`
 abbrev pub dis_shape : Shape
 dis_shape = record (new_shape (codes "dis")) { rules = file_rule (codes "image") ∷ [] }
@@ -79,8 +88,10 @@ top = record {
 
 -- the program
 abbrev pub program : App
-program = with_subcommand (with_subcommand (with_subcommand (with_subcommand top run_shape) free_shape) replay_shape)
-    dis_shape
+program =
+    with_subcommand (
+    with_subcommand (with_subcommand (with_subcommand (with_subcommand top run_shape) free_shape) replay_shape)
+    where_shape) dis_shape
 
 -- ---- what they ask for
 
@@ -89,12 +100,14 @@ pub data Asked : Type 0 where
   run : Text → Options → Option Text → Asked
   free : Text → Options → Option Text → Asked
   replay : Text → Text → Asked
+  whereabouts : Text → Text → ℕ → Asked
   dis : Text → Asked
 
 abbrev pub asked_of : Command → Asked
 asked_of (Run wiring options log) = run wiring.bytes.items options (option_map (λ s. s.bytes.items) log)
 asked_of (Free wiring options log) = free wiring.bytes.items options (option_map (λ s. s.bytes.items) log)
 asked_of (Replay wiring log) = replay wiring.bytes.items log.bytes.items
+asked_of (Where wiring log events) = whereabouts wiring.bytes.items log.bytes.items events
 asked_of (Dis image) = dis image.bytes.items
 
 -- the text of an argument
@@ -124,6 +137,10 @@ free_in rows = free (text_at (codes "wiring") rows) (options_in (codes "turns") 
 abbrev pub replay_in : List Row → Asked
 replay_in rows = replay (text_at (codes "wiring") rows) (text_at (codes "log") rows)
 
+abbrev pub where_in : List Row → Asked
+where_in rows =
+    whereabouts (text_at (codes "wiring") rows) (text_at (codes "log") rows) (number_at (codes "events") rows)
+
 abbrev pub dis_in : List Row → Asked
 dis_in rows = dis (text_at (codes "image") rows)
 
@@ -134,6 +151,7 @@ command_in (Some (name, rows)) =
     if bytes_eq name (codes "run") then Some (run_in rows)
     else if bytes_eq name (codes "free") then Some (free_in rows)
     else if bytes_eq name (codes "replay") then Some (replay_in rows)
+    else if bytes_eq name (codes "where") then Some (where_in rows)
     else if bytes_eq name (codes "dis") then Some (dis_in rows)
     else None
 
@@ -173,6 +191,7 @@ abbrev pub IsInRange : Command → Type 0
 IsInRange (Run wiring options log) = AreOptions options
 IsInRange (Free wiring options log) = AreOptions options
 IsInRange (Replay wiring log) = Unit {0}
+IsInRange (Where wiring log events) = Unit {0}
 IsInRange (Dis image) = Unit {0}
 
 -- ---- what the private functions speak of
@@ -197,16 +216,21 @@ pub record IsRun (id : Text) (rows : List Row) : Type 0 where
 abbrev pub IsReplay : List Row → Type 0
 IsReplay rows = HasText (codes "wiring") rows × HasText (codes "log") rows
 
+abbrev pub IsWhere : List Row → Type 0
+IsWhere rows = HasText (codes "wiring") rows × HasText (codes "log") rows × HasNumber 0 4294967295 (codes "events") rows
+
 abbrev pub IsDis : List Row → Type 0
 IsDis rows = HasText (codes "image") rows
 
--- the command of this name is one of the four, and its arguments are there
+-- the command of this name is one of the five, and its arguments are there
 pub record IsWhole (name : Text) (rows : List Row) : Type 0 where
   pub run : bytes_eq name (codes "run") ≡ true → IsRun (codes "rounds") rows
   pub free : bytes_eq name (codes "free") ≡ true → IsRun (codes "turns") rows
   pub replay : bytes_eq name (codes "replay") ≡ true → IsReplay rows
+  pub whereabouts : bytes_eq name (codes "where") ≡ true → IsWhere rows
   pub dis : bytes_eq name (codes "run") ≡ false → bytes_eq name (codes "free") ≡ false
-      → bytes_eq name (codes "replay") ≡ false → (bytes_eq name (codes "dis") ≡ true) × IsDis rows
+      → bytes_eq name (codes "replay") ≡ false → bytes_eq name (codes "where") ≡ false
+      → (bytes_eq name (codes "dis") ≡ true) × IsDis rows
 
 -- a parser reads a command of this shape, and no subcommand
 abbrev pub HasShape : Shape → Parser → Type 0
@@ -250,6 +274,18 @@ example_replay : command_of (codes "temu" ∷ codes "replay" ∷ codes "pair.tom
     ≡ Some (replay (codes "pair.toml") (codes "pair.log"))
 unfolding clap_on_literals
 example_replay = refl
+
+-- all events, or the first of them
+example_where : command_of (codes "temu" ∷ codes "where" ∷ codes "pair.toml" ∷ codes "pair.log" ∷ [])
+    ≡ Some (whereabouts (codes "pair.toml") (codes "pair.log") 4294967295)
+unfolding clap_on_literals
+example_where = refl
+
+example_where_first : command_of (codes "temu" ∷ codes "where" ∷ codes "pair.toml" ∷ codes "--events" ∷ codes "7"
+    ∷ codes "pair.log" ∷ [])
+    ≡ Some (whereabouts (codes "pair.toml") (codes "pair.log") 7)
+unfolding clap_on_literals
+example_where_first = refl
 
 example_dis : command_of (codes "temu" ∷ codes "dis" ∷ codes "first.img" ∷ []) ≡ Some (dis (codes "first.img"))
 unfolding clap_on_literals

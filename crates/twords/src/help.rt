@@ -23,6 +23,7 @@ Examples:
   temu run pair.toml --workers 4 --log pair.log
   temu free pair.toml --workers 4
   temu replay pair.toml pair.log
+  temu where pair.toml pair.log --events 40
   temu dis first.img
 
 `temu run --help` or `temu help run`, and their like, tell what goes into a command and what comes
@@ -95,6 +96,40 @@ Out: what `temu run` prints of these events; last `end replay E` after E events.
 
 Example:
   temu replay pair.toml pair.log";
+
+/// What stands below the help of `where`.
+pub(crate) const WHERE: &str = "\
+In: a wiring file (see `temu run --help`) and a log (see `temu replay --help`).
+
+Out: for each node a line as `temu run` prints it before its memory, `node 0 ok`, and below it:
+
+  node 0 frozen ZeroLength                 the break of a usage rule
+    runs          #80000101 low            the process that runs, or that broke the rule: its
+                                           descriptor and its priority
+      Iptr        #80000086: in            the instruction there, or the break of its fetch
+      A           #00000000                the registers
+      B           #80000010
+      C           #80000104
+      Wptr        #80000100
+      Error       set                      only where it is; so is HaltOnError
+    interrupted   #80000201 low            likewise, the low process that a high one interrupted
+    high queue    #80000300 Iptr #80000090 those that are queued, the first one first
+    low queue     #80000401 Iptr #80000094
+    waits         #80000501 Iptr #80000098 output on channel #80000700 buffer #80000710 length 4
+    waits         #80000601 Iptr #8000009c input on link 2 buffer #80000720 length 4 over 1
+    waits         #80000701 Iptr #800000a0 alternative
+    link 0        sent 2 acknowledged 1    of the pending output
+    link 2        got 1                    of the pending input
+    link 2        byte waits 2a last       a byte that came, marked as the last of its message
+    link 2        packet data 2a           a packet that lies at the link
+    link 2        packet acknowledge       an acknowledge that lies there
+    link 3        enabled by #80000701     the process that is told when a byte comes
+
+Only what there is has a line. `over` tells how many bytes of the message went over. Last `end
+replay E` after E events. Nothing is told of what the buffer of a pending link input holds.
+
+Example:
+  temu where pair.toml pair.log --events 40";
 
 /// What stands below the help of `dis`.
 pub(crate) const DIS: &str = "\

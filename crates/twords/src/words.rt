@@ -37,6 +37,12 @@ pub enum Command {
         wiring: String,
         log: String,
     },
+    /// Does the first events of a log file, at most so many, on the net of a wiring file, and writes where it stands.
+    Where {
+        wiring: String,
+        log: String,
+        events: u32,
+    },
     /// Writes the instructions of an image file.
     Dis {
         image: String,
@@ -84,6 +90,8 @@ fn asked(alloc: Global, name: &str, given: &ArgMatches) -> Result<Command, Alloc
         free(alloc, given)
     } else if name == "replay" {
         replay(alloc, given)
+    } else if name == "where" {
+        whereabouts(alloc, given)
     } else {
         dis(alloc, given)
     }
@@ -159,6 +167,18 @@ fn replay(alloc: Global, given: &ArgMatches) -> Result<Command, AllocError>
     })
 }
 
+/// What the arguments of `where` ask for.
+fn whereabouts(alloc: Global, given: &ArgMatches) -> Result<Command, AllocError>
+    requires { spec.IsWhere (rows_of (found_of given.now)) }
+    ensures { IfOk result (λ c. asked_of c ≡ spec.where_in (rows_of (found_of given.now))) }
+{
+    Ok(Command::Where {
+        wiring: file(alloc, given, "wiring")?,
+        log: file(alloc, given, "log")?,
+        events: number(given, "events"),
+    })
+}
+
 /// What the arguments of `dis` ask for.
 fn dis(alloc: Global, given: &ArgMatches) -> Result<Command, AllocError>
     requires { spec.IsDis (rows_of (found_of given.now)) }
@@ -204,6 +224,7 @@ fn program<'a>(alloc: Global) -> Result<Parser<'a>, AllocError>
         .subcommand(run_parser(alloc)?)?
         .subcommand(free_parser(alloc)?)?
         .subcommand(replay_parser(alloc)?)?
+        .subcommand(where_parser(alloc)?)?
         .subcommand(dis_parser(alloc)?)
 }
 
@@ -276,6 +297,30 @@ fn replay_parser<'a>(alloc: Global) -> Result<Parser<'a>, AllocError>
         ))
 }
 
+/// The words of `where`.
+fn where_parser<'a>(alloc: Global) -> Result<Parser<'a>, AllocError>
+    ensures { IfOk result (spec.HasShape spec.where_shape) }
+{
+    Parser::new(alloc, "where")
+        .about(
+            "Does the events of a log on the net of a wiring file, and prints where each process stands then",
+        )
+        .after_help(help::WHERE)
+        .arg(file_arg(
+            alloc,
+            "wiring",
+            "WIRING",
+            "The wiring file, as TOML; its holds are ignored",
+        ))?
+        .arg(file_arg(
+            alloc,
+            "log",
+            "LOG",
+            "The log file, as `run --log` or `free --log` writes it",
+        ))?
+        .arg(events_arg(alloc))
+}
+
 /// The words of `dis`.
 fn dis_parser<'a>(alloc: Global) -> Result<Parser<'a>, AllocError>
     ensures { IfOk result (spec.HasShape spec.dis_shape) }
@@ -327,6 +372,17 @@ fn limit_arg<'a>(alloc: Global, id: &'a str, help: &'a str) -> Arg<'a>
         .value_parser(value_parser!(u32))
         .default_value("100000")
         .help(help)
+}
+
+/// `--events N`.
+fn events_arg<'a>(alloc: Global) -> Arg<'a>
+    ensures rule { rule_of result ≡ spec.number_rule (codes "events") (spec.between 0 4294967295) (codes "4294967295") }
+    ensures local { spec.IsLocal result }
+{
+    number_arg(alloc, "events")
+        .value_parser(value_parser!(u32))
+        .default_value("4294967295")
+        .help("How many events of the log are done at most, from its first on: 0 to 4294967295")
 }
 
 /// `--slice N`.

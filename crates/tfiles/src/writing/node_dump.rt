@@ -38,7 +38,7 @@ pub(crate) fn put_node_dump<W: CountedWrite>(
 }
 
 /// The line that says how the node stands.
-fn put_node_line<W: CountedWrite>(
+pub fn put_node_line<W: CountedWrite>(
     out: &mut Output<'_, W>,
     node: usize,
     broken: Option<Break>,

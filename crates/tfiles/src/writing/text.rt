@@ -40,7 +40,7 @@ fn put_sign<W: CountedWrite>(out: &mut Output<'_, W>, negative: bool)
 }
 
 /// Bytes as hexadecimal digits, in lower case.
-pub(crate) fn put_hex<W: CountedWrite>(out: &mut Output<'_, W>, bytes: &[u8])
+pub fn put_hex<W: CountedWrite>(out: &mut Output<'_, W>, bytes: &[u8])
     ensures { Tells W.contents W.failures out.old out.new (encode_lower bytes.now) }
 {
     for byte in bytes {

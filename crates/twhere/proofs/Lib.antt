@@ -1,0 +1,3 @@
+pub mod WhereNodes
+pub mod UnseenBytes
+pub mod UnseenNets

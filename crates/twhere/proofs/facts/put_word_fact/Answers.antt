@@ -1,0 +1,5 @@
+use Rattle.tfiles.proofs.Told.{tells_then}
+use Rattle.twhere.proofs.facts.put_word_fact.Goals as goal
+
+pub returns : goal.returns
+returns g c = tells_then (tells_then c.put.ensures c.put_word.ensures) c.put-2.ensures

@@ -1,0 +1,5 @@
+use Rattle.tfiles.proofs.Told.{tells_then}
+use Rattle.twhere.proofs.processes.put_queued.Goals as goal
+
+pub returns : goal.returns
+returns g c = tells_then (tells_then c.put.ensures c.put_place.ensures) c.put-2.ensures

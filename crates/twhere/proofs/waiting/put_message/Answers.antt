@@ -1,0 +1,9 @@
+use Rattle.std.proofs.Common.{ap, decimal}
+use Rattle.tfiles.proofs.Told.{tells_then, tells_as}
+use Rattle.twhere.proofs.waiting.put_message.Goals as goal
+
+pub returns : goal.returns
+returns g c =
+    tells_then c.put.ensures
+    (tells_then c.put_word.ensures
+    (tells_then c.put-2.ensures (tells_as c.put_decimal.ensures (ap decimal c.from.ensures))))

@@ -1,0 +1,91 @@
+//! Small parts of the text: words, instructions, and where a process that does not run stands.
+
+ghost use Rattle.std.specs.Prelude.{◌≡◌, ◌++◌};
+ghost use Rattle.tproc.specs.Machine.{workspace_of as the_workspace};
+ghost use Rattle.tfiles.specs.Outputs.{Tells};
+ghost use Rattle.twhere.specs.Wheres as spec;
+
+use tcode::Instruction;
+use tfiles::CountedWrite;
+use tfiles::break_names::break_name;
+use tfiles::dis::put_instruction;
+use tfiles::writing::output::Output;
+use tfiles::writing::text::put_hex;
+use tproc::Processor;
+use tword::{Break, Word};
+
+/// A word, in hexadecimal.
+pub(crate) fn put_word<W: CountedWrite>(out: &mut Output<'_, W>, word: Word)
+    ensures { Tells W.contents W.failures out.old out.new (spec.word_text word) }
+{
+    out.put(b"#");
+    put_hex(out, &word.get().to_be_bytes());
+}
+
+/// A line of a name and a word.
+pub(crate) fn put_word_fact<W: CountedWrite>(out: &mut Output<'_, W>, name: &[u8], word: Word)
+    ensures { Tells W.contents W.failures out.old out.new (spec.word_fact name.now word) }
+{
+    out.put(name);
+    put_word(out, word);
+    out.put(b"\n");
+}
+
+/// What a fetch answers: an instruction, or the name of its break.
+pub(crate) fn put_fetched<W: CountedWrite>(
+    out: &mut Output<'_, W>,
+    fetched: &Result<Instruction, Break>,
+)
+    ensures { Tells W.contents W.failures out.old out.new (spec.fetched_text fetched.now) }
+{
+    match fetched {
+        Ok(instruction) => put_instruction(out, instruction),
+        Err(broken) => out.put(break_name(*broken)),
+    }
+}
+
+/// A process that is queued or waits, and its Iptr.
+pub(crate) fn put_place<W: CountedWrite>(
+    out: &mut Output<'_, W>,
+    processor: &Processor,
+    process: Word,
+)
+    ensures { Tells W.contents W.failures out.old out.new (spec.place_text processor.now process) }
+{
+    put_word(out, process);
+    out.put(b" Iptr ");
+    put_word(out, saved_iptr(processor, process));
+}
+
+/// The saved Iptr of a process that is queued or waits.
+fn saved_iptr(processor: &Processor, process: Word) -> Word
+    ensures { result ≡ spec.saved_iptr processor.now process }
+{
+    word_there(processor, workspace_of(process).minus(Word::new(4)))
+}
+
+/// The workspace of a descriptor.
+fn workspace_of(process: Word) -> Word
+    ensures { result ≡ the_workspace process }
+{
+    Word::new(process.get() - process.get() % 2)
+}
+
+/// The word whose four bytes begin at an address.
+fn word_there(processor: &Processor, address: Word) -> Word
+    ensures { result ≡ spec.word_there processor.now.store address }
+{
+    Word::new(u32::from_le_bytes([
+        byte_there(processor, address),
+        byte_there(processor, address.plus(Word::new(1))),
+        byte_there(processor, address.plus(Word::new(2))),
+        byte_there(processor, address.plus(Word::new(3))),
+    ]))
+}
+
+/// The byte at an address, 0 where there is none.
+fn byte_there(processor: &Processor, address: Word) -> u8
+    ensures { result ≡ spec.byte_there processor.now.store address }
+{
+    processor.byte_at(address).unwrap_or(0)
+}

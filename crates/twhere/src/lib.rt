@@ -1,0 +1,14 @@
+//! Where the processes and the links of a net stand, as text: of each node the process that runs, the one that was
+//! interrupted, the queues, who waits and for what, and the links that are not at rest.
+#![tactic(auto)]
+
+mod facts;
+pub mod laws;
+mod links;
+pub mod listing;
+mod processes;
+mod waiting;
+pub mod wheres;
+
+pub use listing::{Listed, list_net};
+pub use wheres::put_where;

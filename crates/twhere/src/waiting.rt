@@ -1,0 +1,116 @@
+//! The processes that wait, and for what.
+
+ghost use Rattle.std.specs.Prelude.{◌≡◌};
+ghost use Rattle.tlink.specs.Node.{counts_at, input_at, output_at};
+ghost use Rattle.tfiles.specs.Outputs.{Tells};
+ghost use Rattle.twhere.specs.Wheres as spec;
+
+use crate::facts::{put_place, put_word};
+use tfiles::CountedWrite;
+use tfiles::writing::output::Output;
+use tfiles::writing::text::put_decimal;
+use tlink::Node;
+use tproc::{Offer, Reason, Waiter};
+use tword::Word;
+
+/// Those that wait, each on a line.
+pub(crate) fn put_waiting<W: CountedWrite>(out: &mut Output<'_, W>, node: &Node, waiting: &[Waiter])
+    ensures { Tells W.contents W.failures out.old out.new (spec.waiting_facts node.now waiting.now) }
+{
+    for waiter in waiting {
+        put_waiter(out, node, waiter);
+    }
+}
+
+/// One of them: its Iptr, and for what it waits.
+fn put_waiter<W: CountedWrite>(out: &mut Output<'_, W>, node: &Node, waiter: &Waiter)
+    ensures { Tells W.contents W.failures out.old out.new (spec.waiter_fact node.now waiter.now) }
+{
+    out.put(b"  waits         ");
+    put_place(out, node.processor(), waiter.process);
+    put_reason(out, node, waiter.reason);
+    out.put(b"\n");
+}
+
+/// What a process waits for.
+fn put_reason<W: CountedWrite>(out: &mut Output<'_, W>, node: &Node, reason: Reason)
+    ensures { Tells W.contents W.failures out.old out.new (spec.reason_text node.now reason) }
+{
+    match reason {
+        Reason::Receives {
+            channel,
+            buffer,
+            length,
+        } => {
+            out.put(b" input");
+            put_channel(out, channel, buffer, length);
+        }
+        Reason::Sends {
+            channel,
+            buffer,
+            length,
+        } => {
+            out.put(b" output");
+            put_channel(out, channel, buffer, length);
+        }
+        Reason::LinkInput(link) => put_link_input(out, node, link),
+        Reason::LinkOutput(link) => put_link_output(out, node, link),
+        Reason::Chooses => out.put(b" alternative"),
+    }
+}
+
+/// A message on an internal channel.
+fn put_channel<W: CountedWrite>(out: &mut Output<'_, W>, channel: Word, buffer: Word, length: u32)
+    ensures { Tells W.contents W.failures out.old out.new (spec.channel_text channel buffer length) }
+{
+    out.put(b" on channel ");
+    put_word(out, channel);
+    put_message(out, buffer, length);
+}
+
+/// A message.
+fn put_message<W: CountedWrite>(out: &mut Output<'_, W>, buffer: Word, length: u32)
+    ensures { Tells W.contents W.failures out.old out.new (spec.message_text buffer length) }
+{
+    out.put(b" buffer ");
+    put_word(out, buffer);
+    out.put(b" length ");
+    put_decimal(out, u64::from(length));
+}
+
+/// The input of a link.
+fn put_link_input<W: CountedWrite>(out: &mut Output<'_, W>, node: &Node, link: u8)
+    ensures { Tells W.contents W.failures out.old out.new (spec.link_input_text node.now link) }
+{
+    out.put(b" input on link ");
+    put_decimal(out, u64::from(link));
+    put_offer(
+        out,
+        node.processor().pending_in(link),
+        node.counts(link).got,
+    );
+}
+
+/// The output of a link.
+fn put_link_output<W: CountedWrite>(out: &mut Output<'_, W>, node: &Node, link: u8)
+    ensures { Tells W.contents W.failures out.old out.new (spec.link_output_text node.now link) }
+{
+    out.put(b" output on link ");
+    put_decimal(out, u64::from(link));
+    put_offer(
+        out,
+        node.processor().pending_out(link),
+        node.counts(link).acked,
+    );
+}
+
+/// A message on a link, and how many of its bytes went over.
+fn put_offer<W: CountedWrite>(out: &mut Output<'_, W>, offer: Option<Offer>, over: u32)
+    ensures { Tells W.contents W.failures out.old out.new (spec.offer_text offer over) }
+{
+    if let Some(offer) = offer {
+        put_message(out, offer.buffer, offer.length);
+        out.put(b" over ");
+        put_decimal(out, u64::from(over));
+    }
+}

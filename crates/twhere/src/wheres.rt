@@ -1,0 +1,47 @@
+//! Where the processes and the links of a net stand, as text.
+
+ghost use Rattle.std.specs.Prelude.{◌≡◌, ◌≤◌, length, map};
+ghost use Rattle.tfiles.specs.Outputs.{Tells};
+ghost use Rattle.twhere.specs.Wheres as spec;
+
+use crate::links::put_links;
+use crate::listing::Listed;
+use crate::processes::{put_interrupted, put_queue, put_running};
+use crate::waiting::put_waiting;
+use tfiles::CountedWrite;
+use tfiles::writing::node_dump::put_node_line;
+use tfiles::writing::output::Output;
+use tlink::Node;
+use tnet::Net;
+
+/// Where the processes and the links of each node stand (own choice of format, `specs/Wheres`), in the order of the
+/// nodes. The processes that are queued or wait are those that `list_net` lists. It takes no memory.
+pub fn put_where<W: CountedWrite>(out: &mut Output<'_, W>, net: &Net, listed: &[Listed])
+    requires listed { listed.now ≡ map (λ n. spec.listed_of n.machine.control) net.now.nodes }
+    requires few { length net.now.nodes ≤ 64 }
+    ensures { Tells W.contents W.failures out.old out.new (spec.where_text net.now) }
+{
+    for (number, node) in net.nodes().iter().enumerate() {
+        put_node(out, net, number as u32, node, &listed[number]);
+    }
+}
+
+/// One node, whose number is given.
+fn put_node<W: CountedWrite>(
+    out: &mut Output<'_, W>,
+    net: &Net,
+    number: u32,
+    node: &Node,
+    listed: &Listed,
+)
+    ensures { Tells W.contents W.failures out.old out.new (spec.listed_text net.now number node.now listed.now) }
+{
+    let processor = node.processor();
+    put_node_line(out, number as usize, node.broken(), processor.is_halted());
+    put_running(out, processor);
+    put_interrupted(out, processor);
+    put_queue(out, b"  high queue    ", processor, listed.high.as_slice());
+    put_queue(out, b"  low queue     ", processor, listed.low.as_slice());
+    put_waiting(out, node, listed.waiting.as_slice());
+    put_links(out, net, number, node);
+}
