@@ -331,13 +331,8 @@ placed_loaded start bytes n s p small inside e =
     (loaded_keeps_placed start bytes n p small inside)
 
 -- what is fetched does not depend on the order in which the claims are kept
-pub fetched_at_alike : (address : ℕ) (c : Claims) (n : Machine) → Agrees c n.control
+pub fetched_alike : (address : ℕ) (c : Claims) (n : Machine) → Agrees c n.control
     → value_of (run (decode address) n.store c) ≡ value_of (run (decode address) n.store (claims_of n.control))
-fetched_at_alike address c n a =
+fetched_alike address c n a =
     ap (λ (r : Result (Instruction × Store) Break). value_of r)
     (run_from-same (decode address) n.store n.store c (claims_of n.control) (same_from c n.control a))
-
-pub fetched_alike : (c : Claims) (n : Machine) → Agrees c n.control
-    → value_of (run (decode n.control.registers.iptr) n.store c)
-    ≡ value_of (run (decode n.control.registers.iptr) n.store (claims_of n.control))
-fetched_alike c n a = fetched_at_alike n.control.registers.iptr c n a
