@@ -172,9 +172,11 @@ fn whereabouts(alloc: Global, given: &ArgMatches) -> Result<Command, AllocError>
     requires { spec.IsWhere (rows_of (found_of given.now)) }
     ensures { IfOk result (λ c. asked_of c ≡ spec.where_in (rows_of (found_of given.now))) }
 {
+    let wiring = file(alloc, given, "wiring")?;
+    let log = file(alloc, given, "log")?;
     Ok(Command::Where {
-        wiring: file(alloc, given, "wiring")?,
-        log: file(alloc, given, "log")?,
+        wiring,
+        log,
         events: number(given, "events"),
     })
 }
