@@ -171,7 +171,10 @@ impl Parts {
         ensures { result ≡ inbox_at self.now end }
     {
         match self.inboxes.get(end.node as usize) {
-            Some(links) => links.get(end.link as usize).copied().unwrap_or(Inbox::EMPTY),
+            Some(links) => links
+                .get(end.link as usize)
+                .copied()
+                .unwrap_or(Inbox::EMPTY),
             None => Inbox::EMPTY,
         }
     }
