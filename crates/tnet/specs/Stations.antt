@@ -14,8 +14,7 @@ use Rattle.tlink.specs.declared.event.Mark.{Mark}
 use Rattle.tlink.specs.declared.event.Mark.TheVariants.{Nothing, Halted, Completed}
 use Rattle.tlink.specs.declared.event.StepFault.{StepFault}
 use Rattle.tlink.specs.declared.event.StepFault.TheVariants.{NotEnabled, Frozen}
-pub use Rattle.tlink.specs.Kinds.{due}
-use Rattle.tlink.specs.Node.{NodeState, due_at}
+use Rattle.tlink.specs.Node.{NodeState, input_at}
 use Rattle.tlink.specs.Events.{happens, node_answered, node_left_by}
 use Rattle.tplan.specs.declared.event.Act.{Act}
 use Rattle.tplan.specs.declared.event.Act.TheVariants.{Run, Send, Data, Take, Ack}
@@ -56,9 +55,9 @@ abbrev pub put_in : Packet → Inbox → Inbox
 put_in (packet.Data byte last) i = record i { carried = Some (record { byte = byte; last = last }) }
 put_in packet.Ack i = record i { acknowledged = true }
 
--- the message that an event may complete
+-- the input that an event takes a byte for
 abbrev pub input_of : NodeEvent → NodeState → Option Offer
-input_of (at_node.Take l) node = due_at node l
+input_of (at_node.Take l) node = input_at node l
 input_of _ node = None
 
 -- the bytes of an input, as a node holds them

@@ -93,13 +93,13 @@ pub fn put(inboxes: &mut [Inbox; 4], link: u32, packet: Packet)
     }
 }
 
-/// The message that an event may complete.
+/// The input that an event takes a byte for.
 #[inline(always)]
 pub fn input_of(node: &Node, event: NodeEvent) -> Option<Offer>
     ensures { result ≡ plain.input_of event node.now }
 {
     match event {
-        NodeEvent::Take(link) => node.due(link),
+        NodeEvent::Take(link) => node.processor().pending_in(link),
         _ => None,
     }
 }

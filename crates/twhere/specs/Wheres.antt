@@ -26,13 +26,12 @@ use Rattle.tproc.specs.Queues.{iptr_word}
 use Rattle.tproc.specs.LinkChannels.{link_end}
 use Rattle.tlink.specs.declared.counts.Arrival.{Arrival}
 use Rattle.tlink.specs.declared.counts.Counts.{Counts}
-use Rattle.tlink.specs.Kinds.{Kind, Processor, Source, Sink}
 use Rattle.tlink.specs.Node.{NodeState, counts_at, input_at, output_at}
 use Rattle.tnet.specs.declared.inbox.Inbox.{Inbox}
 use Rattle.tnet.specs.Net.{NetState, four_links, inbox_at}
 use Rattle.tnet.specs.Wires.{end_at}
 use Rattle.tfiles.specs.Logs.{line}
-use Rattle.tfiles.specs.Texts.{break_name, node_line, source_line, sink_line}
+use Rattle.tfiles.specs.Texts.{break_name, node_line}
 use Rattle.twhere.specs.declared.listing.Listed.{Listed}
 
 -- ---- words and instructions
@@ -262,15 +261,9 @@ listed_text net k n listed =
     ++ (queue_facts (codes "  low queue     ") n.machine listed.low
     ++ (waiting_facts n listed.waiting ++ links_facts net k n)))))
 
--- what stands behind the links: a processor whose processes are listed so, a source or a sink
-abbrev pub kind_where : Kind → NetState → ℕ → NodeState → Listed → List ℕ
-kind_where Processor net k n listed = listed_text net k n listed
-kind_where (Source done rest) net k n listed = source_line k done (done + length rest) ++ links_facts net k n
-kind_where (Sink kept) net k n listed = sink_line k (length kept) ++ links_facts net k n
-
 -- a node
 abbrev pub node_where : NetState → ℕ → NodeState → List ℕ
-node_where net k n = kind_where n.kind net k n (listed_of n.machine.control)
+node_where net k n = listed_text net k n (listed_of n.machine.control)
 
 -- the nodes from a number on
 abbrev pub where_from : NetState → ℕ → List NodeState → List ℕ

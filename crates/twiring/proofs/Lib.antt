@@ -1,4 +1,3 @@
 pub mod WiringAnswers
-pub mod WiringMessages
 pub mod WiringTests
 pub mod WiringValues

@@ -1,5 +1,4 @@
 -- What a wiring file means.
-pub mod Messages
 pub mod Wirings
 pub mod WiringParts
 pub mod WiringExamples
