@@ -82,6 +82,8 @@ pub fn wired(alloc: Global, nodes: Vec<NodePlan>) -> Result<Plan, AllocError> {
         timeslice: 1_024,
         nodes: Items::new(nodes),
         wires: Items::new(wires),
+        sources: Items::new(Vec::new(alloc)),
+        sinks: Items::new(Vec::new(alloc)),
     })
 }
 

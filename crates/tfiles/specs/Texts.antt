@@ -10,13 +10,16 @@ use Rattle.tword.specs.declared.breaks.Break.TheVariants.{BadAddress, Reserved, 
 use Rattle.tword.specs.declared.breaks.Break.TheVariants.{InTransit, SavedWord, LengthMismatch, LinkBusy, WrongEnd}
 use Rattle.tword.specs.declared.breaks.Break.TheVariants.{ChannelMisuse, ZeroLength, AlreadyLive, TooManyProcesses}
 use Rattle.tword.specs.Words.{most_neg}
-use Rattle.tword.specs.Stores.{Store}
+use Rattle.tword.specs.Stores.{Store, shown}
 use Rattle.tword.specs.declared.span.Span.{Span}
 use Rattle.tword.specs.Claims.{overlaps_claim}
 use Rattle.tword.specs.Touches.{byte_span}
 use Rattle.tplan.specs.declared.event.Note.{Note}
 use Rattle.tplan.specs.declared.event.Note.TheVariants.{Msg, Halt, Freeze}
 use Rattle.tplan.specs.declared.plan.End.{End}
+use Rattle.tproc.specs.Machine.{Machine}
+use Rattle.tlink.specs.Roles.{Role, Processor, Source, Sink}
+use Rattle.tlink.specs.Scripts.{cut}
 use Rattle.tnet.specs.Rendezvous.{Node, Configuration}
 use Rattle.tfiles.specs.Logs.{line}
 
@@ -101,9 +104,32 @@ node_line n broken halted = line (words (codes "node" ∷ decimal n ∷ node_tex
 abbrev pub dump_of : ℕ → Option Break → Bool → Store → List ℕ
 dump_of n broken halted store = node_line n broken halted ++ lines_of store
 
+-- the line of a source: its number, and how many of its messages are over, of how many
+abbrev pub source_line : (n done messages : ℕ) → List ℕ
+source_line n done messages =
+    line (words (codes "source" ∷ decimal n ∷ codes "done" ∷ decimal done ∷ codes "of" ∷ decimal messages ∷ []))
+
+-- the first line of a sink: its number, and how many messages it has kept
+abbrev pub sink_line : (n messages : ℕ) → List ℕ
+sink_line n messages = line (words (codes "sink" ∷ decimal n ∷ codes "messages" ∷ decimal messages ∷ []))
+
+-- the line of a message that a sink has kept
+abbrev pub kept_line : List ℕ → List ℕ
+kept_line message = line (words (codes "kept" ∷ encode_lower message ∷ []))
+
+-- the dump of a sink that has kept these messages
+abbrev pub sink_dump : ℕ → List (List ℕ) → List ℕ
+sink_dump n kept = sink_line n (length kept) ++ flat_map kept_line kept
+
+-- the dump of what stands behind the links: a processor, a source or a sink
+abbrev pub role_dump : Role → ℕ → Option Break → Machine → List ℕ
+role_dump Processor n broken m = dump_of n broken m.control.halted m.store
+role_dump (Source done rest) n broken m = source_line n done (done + length rest)
+role_dump (Sink kept) n broken m = sink_dump n (cut kept (shown m.store))
+
 -- the dump of a node
 abbrev pub node_dump : ℕ → Node → List ℕ
-node_dump n s = dump_of n s.broken s.machine.control.halted s.machine.store
+node_dump n s = role_dump s.role n s.broken s.machine
 
 -- the dumps of nodes from a number on
 abbrev pub dump_from : ℕ → List Node → List ℕ

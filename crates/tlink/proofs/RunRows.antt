@@ -17,6 +17,7 @@ use Rattle.tlink.specs.declared.event.NodeEvent.TheVariants.{Run}
 use Rattle.tlink.specs.declared.event.Runs.{Runs}
 use Rattle.tlink.specs.declared.event.StepFault.{StepFault}
 use Rattle.tlink.specs.declared.event.StepFault.TheVariants.{NotEnabled}
+use Rattle.tlink.specs.Roles.{Role, Processor}
 use Rattle.tlink.specs.Node.{NodeState, with_machine}
 use Rattle.tlink.specs.Events.{happens, unless_frozen, at_work, node_answered, node_left_by, after_run}
 use Rattle.tlink.specs.Answers.{run_told, run_left}
@@ -26,7 +27,8 @@ use Rattle.tlink.proofs.Whole.{stays_whole}
 
 -- a node that no break has frozen
 abbrev working : Machine → List Counts → List Bool → NodeState
-working m counts wired = record { machine = m; counts = counts; wired = wired; broken = None }
+working m counts wired =
+    record { role = Processor; machine = m; counts = counts; wired = wired; broken = None }
 
 -- the node after the last answer of its processor, if there is one
 abbrev pub last_left : Option (Result Ran Break) → NodeState → NodeState
@@ -73,9 +75,12 @@ runs-working (suc k) m counts wired = by (λ m'. runs-working k m' counts wired)
         (sym (rest_changes_nothing m m' ran.Halted e))
     by on (Err b) e = refl
 
-pub runs-row : (k : ℕ) (n : NodeState) → n.broken ≡ None → runs k n ≡ lifted n (steps.row k n.machine)
-runs-row k n e =
-    let same : n ≡ working n.machine n.counts n.wired = ap (λ (b : Option Break). record n { broken = b }) e in
+pub runs-row : (k : ℕ) (n : NodeState) → n.role ≡ Processor → n.broken ≡ None
+    → runs k n ≡ lifted n (steps.row k n.machine)
+runs-row k n p e =
+    let same : n ≡ working n.machine n.counts n.wired =
+    ap (λ (role : Role). record n { role = role }) p
+    ∙ ap (λ (b : Option Break). record n { role = Processor; broken = b }) e in
     let P : NodeState → Type 0 = λ n. runs k n ≡ lifted n (steps.row k n.machine) in
     subst P (sym same) (runs-working k n.machine n.counts n.wired)
 
@@ -93,6 +98,19 @@ runs-frozen (suc k) n e = by n.broken e (suc k == 0) refl
     by None e none h = cc
     by (Some b) e false h = refl
     by (Some b) e true h = let z : suc k ≡ 0 = eqb-true _ _ h in absurd (omega arith)
+
+-- of a node that does no run there are none
+pub runs-idle : (k : ℕ) (n : NodeState) → happens Run n ≡ Err NotEnabled
+    → runs k n ≡ (n, ends_with (if k == 0 then None else Some (Err NotEnabled)))
+unfolding runs
+runs-idle zero n e = refl
+runs-idle (suc k) n e = rw e (by (suc k == 0) refl)
+  where
+    by : (none : Bool) → (suc k == 0) ≡ none
+        → ◌≡◌ {A = NodeState × Runs} (n, ends_with (Some (Err NotEnabled)))
+        (n, ends_with (cond none None (Some (Err NotEnabled))))
+    by false h = refl
+    by true h = let z : suc k ≡ 0 = eqb-true _ _ h in absurd (omega arith)
 
 -- runs keep a node whole
 pub runs-whole : (k : ℕ) (n : NodeState) → IsWhole n → IsWhole (runs k n).0
@@ -118,10 +136,10 @@ not_broken (Some b) e = cc
 -- a row of the processor of a node that is not frozen is one of the node
 pub row-lifted : (most : ℕ) (n n0 n' : NodeState) (m : Machine) (row : RanMany)
     (last : Option (Result Emitted StepFault))
-    → n0 ≡ n → is_some n0.broken ≡ false → (m, row) ≡ steps.row most n0.machine
+    → n0 ≡ n → n0.role ≡ Processor → is_some n0.broken ≡ false → (m, row) ≡ steps.row most n0.machine
     → n' ≡ last_left row.last (with_machine m n0) → last ≡ option_map run_told row.last
     → (n', record { count = row.count; last = last }) ≡ runs most n
-row-lifted most n n0 n' m row last same whole e l t =
+row-lifted most n n0 n' m row last same role whole e l t =
     let ends : (n', record { count = row.count; last = last }) ≡ lifted n0 (m, row) = rw (l, t) refl in
-    ends ∙ ap (λ (x : Machine × RanMany). lifted n0 x) e ∙ sym (runs-row most n0 (not_broken n0.broken whole))
+    ends ∙ ap (λ (x : Machine × RanMany). lifted n0 x) e ∙ sym (runs-row most n0 role (not_broken n0.broken whole))
     ∙ ap (λ (n : NodeState). runs most n) same

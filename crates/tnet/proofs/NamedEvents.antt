@@ -1,8 +1,8 @@
 -- Events that are done name a node of the net, and no link from the fourth on.
 use Rattle.std.proofs.Common.{◌≡◌, ℕ, ◌≤◌, refl, sym, ap, ◌∙◌, subst, [], ◌∷◌, length, Bool, true, false, Ok, Err}
 use Rattle.std.proofs.Common.{Option, Some, None, ⊎_elim, All, arith}
-use Rattle.std.proofs.lemmas.Bool.{cases_lt, or_parts, ltb-false, true≢false}
-use Rattle.std.proofs.lemmas.List.{length-map, length-set}
+use Rattle.std.proofs.lemmas.Bool.{cases_lt, true≢false}
+use Rattle.std.proofs.lemmas.List.{length-set}
 use Rattle.std.proofs.lemmas.List.Elements.{All-nil, All-cons}
 use Rattle.std.proofs.lemmas.Option.{same_Some, slice_get_within}
 use Rattle.tword.specs.declared.breaks.Break.{Break}
@@ -15,18 +15,18 @@ use Rattle.tplan.specs.declared.event.Act.{Act}
 use Rattle.tplan.specs.declared.event.Act.TheVariants.{Run, Send, Data, Take, Ack}
 use Rattle.tplan.specs.declared.event.Event.{Event}
 use Rattle.tplan.specs.declared.plan.End.{End}
-use Rattle.std.specs.Prelude.{nat_lt}
 use Rattle.tplan.specs.declared.plan.Plan.{Plan}
 use Rattle.tplan.specs.declared.plan.BuildFault.{BuildFault}
 use Rattle.tplan.specs.declared.plan.BuildFault.TheVariants.{TooMany}
-use Rattle.tnet.specs.Building.{too_many, when, or_else, fault_of, machines_of, opening_net, unless_fault}
+use Rattle.tnet.specs.Building.{too_many, when, or_else, fault_of, opening_net, unless_fault}
 use Rattle.tnet.specs.Wires.{end_at, far_end}
 use Rattle.tnet.specs.Net.{NetState, node_at, with_node}
 use Rattle.tnet.specs.Packets.{NetAnswer, node_event, received, delivered, sent_off, net_answer, answer_of, net_happens}
 use Rattle.tnet.specs.Packets.{with_frozen, after_answer, after_event, then_after, after_events, is_done, is_enabled}
 use Rattle.tnet.specs.Sound.{IsSound}
 use Rattle.tnet.specs.Corollaries.{NamesLink, NamesPlace, EventsNamePlaces, NetsAreSmall}
-use Rattle.tnet.proofs.OpenedNets.{length-fresh_nodes}
+use Rattle.tnet.proofs.OpenedNets.{nodes_count}
+use Rattle.tnet.proofs.PlannedWires.{few_of}
 use Rattle.tnet.proofs.SoundEvents.{stays_sound}
 use Rattle.tnet.proofs.QuietEvents.{event_at, not_there, no_send, no_data, no_take, no_ack}
 
@@ -123,13 +123,10 @@ unless_too_many false rest h = refl
 unless_too_many true rest h = cc
 
 few_of_plan : (p : Plan) → fault_of p ≡ None → length (opening_net p).nodes ≤ 64
-unfolding fault_of machines_of
+unfolding fault_of
 few_of_plan p h =
     let few : too_many p ≡ false = unless_too_many (too_many p) _ h in
-    let nodes : nat_lt 64 (length p.nodes) ≡ false = (or_parts _ _ (or_parts _ _ few).0).0 in
-    let count : length (opening_net p).nodes ≡ length p.nodes = length-fresh_nodes p.wires 0 (machines_of p)
-    ∙ length-map p.nodes _ in
-    omega (arith, ltb-false 64 (length p.nodes) nodes, count)
+    omega (arith, (few_of p few).0, nodes_count p)
 
 pub nets_are_small : NetsAreSmall
 nets_are_small p net h = by (fault_of p) refl h

@@ -1,58 +1,52 @@
 -- The net whose nodes are those of a plan.
-use Rattle.std.proofs.Common.{◌≡◌, ◌≢◌, ℕ, ◌≤◌, refl, sym, ap, ◌∙◌, subst, List, [], ◌∷◌, length, map, replicate, false}
-use Rattle.std.proofs.Common.{◌||◌, Some, None, Result, Ok, Err, All, arith}
-use Rattle.std.specs.Prelude.{nat_lt}
-use Rattle.std.proofs.lemmas.Bool.{or_parts, ltb-false}
-use Rattle.std.proofs.lemmas.List.{length-map}
+use Rattle.std.proofs.Common.{◌≡◌, ◌≢◌, ℕ, ◌+◌, ◌≤◌, refl, sym, ap, ◌∙◌, subst, List, ◌++◌, length, map, replicate}
+use Rattle.std.proofs.Common.{false, Option}
+use Rattle.std.proofs.Common.{Some, None, Result, Ok, Err, All, arith}
+use Rattle.std.specs.Prelude.{position}
+use Rattle.std.specs.List.{list_any}
+use Rattle.std.proofs.lemmas.List.{length-append, length-map, append_assoc}
+use Rattle.std.proofs.lemmas.List.Elements.{All-append}
 use Rattle.tword.specs.declared.breaks.Break.{Break}
-use Rattle.tlink.specs.Node.{NodeState}
+use Rattle.tlink.specs.Node.{NodeState, fresh_source, fresh_sink}
 use Rattle.tplan.specs.declared.plan.Wire.{Wire}
 use Rattle.tplan.specs.declared.plan.NodePlan.{NodePlan}
 use Rattle.tplan.specs.declared.plan.Plan.{Plan}
 use Rattle.tplan.specs.declared.plan.BuildFault.{BuildFault}
-use Rattle.tplan.specs.declared.plan.BuildFault.TheVariants.{OutOfMemory, BadProcess}
+use Rattle.tplan.specs.declared.plan.BuildFault.TheVariants.{OutOfMemory, BadProcess, BadCapacity}
 use Rattle.tnet.specs.declared.inbox.Inbox.{Inbox}
 use Rattle.tnet.specs.Wires.{same_end}
 use Rattle.tnet.specs.Net.{NetState, empty_inbox}
-use Rattle.tnet.specs.Sound.{IsSound, IsSoundNode, IsEnd, AreWires}
-use Rattle.tnet.specs.Building.{IsFaultOf, AreOpened, IsWellFormed, is_bad_size, has_bad_end, bad_segment, bad_process}
-use Rattle.tnet.specs.Building.{process_fault, fault_of, opening_net, built, machines_of}
-use Rattle.tnet.proofs.OpenedWires.{are_wires}
-use Rattle.tnet.proofs.OpenedPlans.{IsFaultless, opened, no_position, no_fault, mapped-none}
-use Rattle.tnet.proofs.OpenedNets.{sound_opening, length-fresh_nodes}
+use Rattle.tnet.specs.Sound.{IsSound, IsSoundNode, IsEnd}
+use Rattle.tnet.specs.Building.{AreBytes, has_too_many, IsFaultOf, AreBuildable, AreOpened, IsWellFormed, is_bad_size}
+use Rattle.tnet.specs.Building.{is_bad_end}
+use Rattle.tnet.specs.Building.{bad_segment, bad_process, refused_process, late_fault, fault_of, opening_net, built}
+use Rattle.tnet.specs.Building.{machines_of, opened_machine, all_wires, named_ends, node_count, is_bad_capacity}
+use Rattle.tnet.specs.Building.{fresh_nodes, fresh_scripts}
+use Rattle.tnet.proofs.OpenedPlans.{IsFaultless, no_position, no_fault, mapped-none}
+use Rattle.tnet.proofs.PlannedWires.{few_of, few_messages}
+use Rattle.tnet.proofs.ScriptWires.{all_are_wires}
+use Rattle.tnet.proofs.OpenedScripts.{scripts_sound}
+use Rattle.tnet.proofs.OpenedNets.{sound_opening, length-fresh_nodes, nodes_count}
 
--- there are at most 64 nodes
-pub few_nodes : (p : Plan) → IsWellFormed p → length p.nodes ≤ 64
-few_nodes p form =
-    let some : ((nat_lt 64 (length p.nodes) || nat_lt 128 (length p.wires)) ≡ false) × (_ ≡ false) =
-    or_parts _ _ form.few in
-    let both : (nat_lt 64 (length p.nodes) ≡ false) × (nat_lt 128 (length p.wires) ≡ false) = or_parts _ _ some.0 in
-    ltb-false 64 (length p.nodes) both.0
+-- the nodes of a well formed plan can be built
+pub buildable : (p : Plan) → IsWellFormed p → AreBuildable p.timeslice p.nodes
+buildable p form =
+    record {
+      few = omega (arith, (few_of p form.few).0);
+      sizes = no_position is_bad_size p.nodes form.sizes;
+      timeslice = form.timeslice;
+      segments = no_fault 0 bad_segment p.nodes form.segments;
+    }
 
--- as many as the plan has
-nodes_count : (p : Plan) (nodes : List NodeState) → AreOpened p nodes → length nodes ≡ length p.nodes
-unfolding machines_of
-nodes_count p nodes are = ap (λ (ns : List NodeState). length ns) are.opened
-    ∙ length-fresh_nodes p.wires 0 (machines_of p) ∙ length-map p.nodes (opened p.timeslice)
+pub few_sources : (p : Plan) → IsWellFormed p → list_any has_too_many p.sources ≡ false
+few_sources p form = few_messages p form.few
 
-pub few_opened : (p : Plan) (nodes : List NodeState) → IsWellFormed p → AreOpened p nodes → length nodes ≤ 64
-few_opened p nodes form are = omega (arith, nodes_count p nodes are, few_nodes p form)
-
-wires_of : (p : Plan) → IsWellFormed p → AreWires (length p.nodes) p.wires
-wires_of p form =
-    are_wires (length p.nodes) p.wires (no_position (has_bad_end (length p.nodes)) p.wires form.ends)
-    (no_position (λ w. same_end w.a w.b) p.wires form.apart) form.once
-
--- each wire joins links of nodes
-pub good_wires : (p : Plan) (nodes : List NodeState) (n : ℕ) (wires : List Wire) → IsWellFormed p → AreOpened p nodes
-    → n ≡ length nodes → wires ≡ p.wires → All (λ w. IsEnd n w.a × IsEnd n w.b) wires
-good_wires p nodes n wires form are count same = rw (count ∙ nodes_count p nodes are, same) (wires_of p form).ends
-
-faultless_of : (p : Plan) → IsWellFormed p → process_fault p ≡ None → IsFaultless p
+faultless_of : (p : Plan) → IsWellFormed p → refused_process p.timeslice p.nodes ≡ None → IsFaultless p
 faultless_of p form added =
     record {
+      few = form.few;
       sizes = no_position is_bad_size p.nodes form.sizes;
-      ends = no_position (has_bad_end (length p.nodes)) p.wires form.ends;
+      ends = no_position (list_any (is_bad_end (length p.nodes))) (named_ends p) form.ends;
       apart = no_position (λ w. same_end w.a w.b) p.wires form.apart;
       once = form.once;
       segments = no_fault 0 bad_segment p.nodes form.segments;
@@ -61,41 +55,78 @@ faultless_of p form added =
           (mapped-none (λ (f : ℕ × (ℕ × Break)). BadProcess f.0 f.1.0 f.1.1) _ added);
     }
 
-same_boxes : (ns : List NodePlan) (box : List Inbox) → replicate (length ns) box ≡ map (λ _. box) ns
-same_boxes [] box = refl
-same_boxes (n ∷ ns) box = ap (λ (boxes : List (List Inbox)). box ∷ boxes) (same_boxes ns box)
+-- a bad capacity is the fault of a plan, where no process is refused
+pub capacity_fails : (p : Plan) (sink : ℕ) → refused_process p.timeslice p.nodes ≡ None
+    → Some sink ≡ position is_bad_capacity p.sinks → IsFaultOf (late_fault p) (BadCapacity sink)
+capacity_fails p sink added found other = rw (added, ← found) refl
 
--- the net of these nodes is that of the plan, and sound
-pub net_opened : (p : Plan) (net : NetState) (n : ℕ) (nodes : List NodeState) (boxes : List (List Inbox))
-    → IsWellFormed p → AreOpened p nodes → n ≡ length nodes
-    → boxes ≡ replicate n (replicate 4 empty_inbox) → net ≡ record { nodes = nodes; wires = p.wires; inboxes = boxes }
-    → (net ≡ opening_net p) × IsSound net × (process_fault p ≡ None)
-net_opened p net n nodes boxes form are count empty is =
-    let all_empty : boxes ≡ map (λ _. replicate 4 empty_inbox) p.nodes =
-    empty ∙ ap (λ (n : ℕ). replicate n (replicate 4 empty_inbox)) (count ∙ nodes_count p nodes are)
-    ∙ same_boxes p.nodes (replicate 4 empty_inbox) in
-    let opens : net ≡ opening_net p =
-    is
-    ∙ ap (λ (ns : List NodeState). record { nodes = ns; wires = p.wires; inboxes = boxes }) are.opened
-    ∙ ap (λ (bs : List (List Inbox)). record { nodes = (opening_net p).nodes; wires = p.wires; inboxes = bs })
-    all_empty in (
-      opens,
-      subst IsSound (sym opens)
-          (sound_opening p (faultless_of p form are.added) (subst (All IsSoundNode) are.opened are.sound)),
-      are.added,
-    )
+pub none_found : {X : Type 0} (o : Option X) → ((x : X) → o ≡ Some x → ⊥) → o ≡ None
+none_found None h = refl
+none_found (Some x) h = absurd (h x refl)
 
--- a well formed plan has no fault but a refused process
-fault_left : (p : Plan) → IsWellFormed p → fault_of p ≡ process_fault p
+-- the processors of a plan, and its scripts behind them
+module _ (p : Plan) (first second nodes : List NodeState) (form : IsWellFormed p)
+    (are : AreOpened p.timeslice (all_wires p) p.nodes first)
+    (sources : second ≡ first ++ map (λ s. fresh_source s.messages) p.sources)
+    (sinks : nodes ≡ second ++ map (λ s. fresh_sink s.capacity) p.sinks) where
+  opens : nodes ≡ (opening_net p).nodes
+  unfolding machines_of
+  opens =
+      sinks ∙ ap (λ (ns : List NodeState). ns ++ map (λ s. fresh_sink s.capacity) p.sinks) sources
+      ∙ append_assoc first (map (λ s. fresh_source s.messages) p.sources) (map (λ s. fresh_sink s.capacity) p.sinks)
+      ∙ ap (λ (ns : List NodeState). ns ++ fresh_scripts p) are.opened
+
+  count : length nodes ≡ node_count p
+  count = ap (λ (ns : List NodeState). length ns) opens ∙ nodes_count p
+
+  pub few_opened : length nodes ≤ 64
+  few_opened = omega (arith, count, (few_of p form.few).0)
+
+  good : IsFaultless p
+  good = faultless_of p form are.added
+
+  -- each wire joins links of nodes
+  pub good_wires : (n : ℕ) (wires : List Wire) → n ≡ length nodes → wires ≡ all_wires p
+      → All (λ w. IsEnd n w.a × IsEnd n w.b) wires
+  good_wires n wires number same = rw (number ∙ count, same) (all_are_wires p good).ends
+
+  all_sound : All (λ s. All AreBytes s.messages) p.sources → All IsSoundNode (opening_net p).nodes
+  unfolding machines_of
+  all_sound bytes =
+      All-append IsSoundNode (fresh_nodes (all_wires p) 0 (machines_of p)) (fresh_scripts p)
+      (subst (All IsSoundNode) are.opened are.sound) (scripts_sound p (few_messages p form.few) bytes)
+
+  -- the net of these nodes is that of the plan, and sound
+  pub net_opened : (net : NetState) (n : ℕ) (wires : List Wire) (boxes : List (List Inbox))
+      → None ≡ position is_bad_capacity p.sinks → All (λ s. All AreBytes s.messages) p.sources → n ≡ length nodes
+      → wires ≡ all_wires p → boxes ≡ replicate n (replicate 4 empty_inbox)
+      → net ≡ record { nodes = nodes; wires = wires; inboxes = boxes }
+      → (net ≡ opening_net p) × IsSound net × (late_fault p ≡ None)
+  net_opened net n wires boxes capacities bytes number same empty is =
+      let all_empty : boxes ≡ replicate (node_count p) (replicate 4 empty_inbox) =
+      empty ∙ ap (λ (n : ℕ). replicate n (replicate 4 empty_inbox)) (number ∙ count) in
+      let net_is : net ≡ opening_net p =
+      is
+      ∙ ap (λ (ns : List NodeState). record { nodes = ns; wires = wires; inboxes = boxes }) opens
+      ∙ ap (λ (ws : List Wire). record { nodes = (opening_net p).nodes; wires = ws; inboxes = boxes }) same
+      ∙ ap (λ (bs : List (List Inbox)). record { nodes = (opening_net p).nodes; wires = all_wires p; inboxes = bs })
+      all_empty in (
+        net_is,
+        subst IsSound (sym net_is) (sound_opening p good (all_sound bytes)),
+        rw (are.added, ← capacities) refl,
+      )
+
+-- a well formed plan has no fault but those that show while it is built
+fault_left : (p : Plan) → IsWellFormed p → fault_of p ≡ late_fault p
 unfolding fault_of
 fault_left p form = rw (form.few, form.sizes, form.timeslice, form.ends, form.apart, form.once, form.segments) refl
 
-pub net_built : (p : Plan) (net : NetState) → IsWellFormed p → net ≡ opening_net p → process_fault p ≡ None
+pub net_built : (p : Plan) (net : NetState) → IsWellFormed p → net ≡ opening_net p → late_fault p ≡ None
     → Ok net ≡ built p
 net_built p net form is none = rw (is, fault_left p form, none) refl
 
 pub net_refused : (p : Plan) (r : Result NetState BuildFault) (fault : BuildFault) → IsWellFormed p → r ≡ Err fault
-    → IsFaultOf (process_fault p) fault → r ≢ Err OutOfMemory → r ≡ built p
+    → IsFaultOf (late_fault p) fault → r ≢ Err OutOfMemory → r ≡ built p
 net_refused p r fault form is told other =
-    let some : process_fault p ≡ Some fault = told (λ e. other (is ∙ ap Err e)) in
+    let some : late_fault p ≡ Some fault = told (λ e. other (is ∙ ap Err e)) in
     rw (is, fault_left p form, some) refl

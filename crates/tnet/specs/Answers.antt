@@ -35,8 +35,8 @@ Did (Some net) old result new = (result ≡ true) × (new ≡ net)
 abbrev pub HasRoom : Option Offer → ℕ → Type 0
 HasRoom input room = IfSome input (λ (o : Offer). o.length ≤ room)
 
--- the inputs that surely stand after an act: all after one that takes a packet, and all others after one that takes a
--- byte
+-- the links where what the next byte completes surely stands after an act: all after one that takes a packet, and all
+-- others after one that takes a byte
 abbrev pub KeepsInput : Act → ℕ → Type 0
 KeepsInput (Data k) l = ⊤
 KeepsInput (Ack k) l = ⊤

@@ -14,7 +14,8 @@ use Rattle.tlink.specs.declared.event.Mark.{Mark}
 use Rattle.tlink.specs.declared.event.Mark.TheVariants.{Nothing, Halted, Completed}
 use Rattle.tlink.specs.declared.event.StepFault.{StepFault}
 use Rattle.tlink.specs.declared.event.StepFault.TheVariants.{NotEnabled, Frozen}
-use Rattle.tlink.specs.Node.{NodeState, input_at}
+pub use Rattle.tlink.specs.Roles.{due}
+use Rattle.tlink.specs.Node.{NodeState, due_at}
 use Rattle.tlink.specs.Events.{happens, node_answered, node_left_by}
 use Rattle.tplan.specs.declared.event.Act.{Act}
 use Rattle.tplan.specs.declared.event.Act.TheVariants.{Run, Send, Data, Take, Ack}
@@ -55,9 +56,9 @@ abbrev pub put_in : Packet → Inbox → Inbox
 put_in (packet.Data byte last) i = record i { carried = Some (record { byte = byte; last = last }) }
 put_in packet.Ack i = record i { acknowledged = true }
 
--- the input that an event takes a byte for
+-- the message that an event may complete
 abbrev pub input_of : NodeEvent → NodeState → Option Offer
-input_of (at_node.Take l) node = input_at node l
+input_of (at_node.Take l) node = due_at node l
 input_of _ node = None
 
 -- the bytes of an input, as a node holds them

@@ -1,17 +1,31 @@
 //! The faults of a plan that show before anything is built.
 
-ghost use Rattle.std.specs.Prelude.{◌≡◌, ◌||◌, [], length, position, MatchOption};
+ghost use Rattle.std.specs.Prelude.{◌≡◌, ◌<◌, ◌≤◌, ◌+◌, ◌||◌, false, nat_lt, take, [], length, position};
+ghost use Rattle.std.specs.Prelude.{slice_index_or, MatchOption};
 ghost use Rattle.std.specs.List.{list_any};
+ghost use Rattle.tlink.specs.Roles.{is_bad_message};
 ghost use Rattle.tnet.specs.Wires.{same_end, joins};
-ghost use Rattle.tnet.specs.Building.{is_too_large, too_many, is_bad_size, is_bad_timeslice, is_bad_end};
-ghost use Rattle.tnet.specs.Building.{has_bad_end, end_twice_from, is_bad_segment, bad_segment, first_fault_from};
-ghost use Rattle.tnet.specs.Building.{fault_of, IsWellFormed};
+ghost use Rattle.tnet.specs.Building.{is_too_large, has_too_many, too_many, is_bad_size};
+ghost use Rattle.tnet.specs.Building.{is_bad_timeslice, is_bad_end, named_ends, all_wires};
+ghost use Rattle.tnet.specs.Building.{end_twice_from, is_bad_segment, bad_segment, first_fault_from};
+ghost use Rattle.tnet.specs.Building.{is_bad_capacity, fault_of, IsWellFormed};
 
-use tplan::{BuildFault, End, Image, NodePlan, Plan, Segment, Wire};
+use crate::planned::{wire_at, wire_count};
+use tplan::{BuildFault, End, Image, NodePlan, Plan, Segment, SinkPlan, SourcePlan, Wire};
+use tword::Items;
 use tword::limits::{
     LARGEST_MEMORY, LONGEST_TIMESLICE, MEM_START, MOST_NEG, MOST_NODES, MOST_PROCESSES,
     MOST_SEGMENTS, MOST_WIRES, SMALLEST_MEMORY,
 };
+
+/// The most messages of a source.
+const MOST_MESSAGES: usize = 256;
+
+/// The most bytes of a message.
+const LONGEST_MESSAGE: usize = 4_096;
+
+/// The most bytes that a sink takes.
+const LARGEST_CAPACITY: u32 = 65_536;
 
 /// The lowest fault that shows before anything is built.
 #[tactic(auto, unfolding(crate::specs::Building::fault_of))]
@@ -19,8 +33,7 @@ pub fn first_fault(plan: &Plan) -> Option<BuildFault>
     ensures { MatchOption result (IsWellFormed plan.now) (λ f. fault_of plan.now ≡ Some f) }
 {
     let nodes = plan.nodes.as_slice();
-    let wires = plan.wires.as_slice();
-    if has_too_many(plan) {
+    if is_too_many(plan) {
         return Some(BuildFault::TooMany);
     }
     if let Some(node) = first_bad_size(nodes) {
@@ -29,14 +42,14 @@ pub fn first_fault(plan: &Plan) -> Option<BuildFault>
     if is_bad_timeslice(plan.timeslice) {
         return Some(BuildFault::BadTimeslice);
     }
-    if let Some(wire) = first_bad_end(wires, nodes.len()) {
-        return Some(BuildFault::BadEnd(wire));
+    if let Some(place) = first_bad_end(plan) {
+        return Some(BuildFault::BadEnd(place));
     }
-    if let Some(wire) = first_same_end(wires) {
+    if let Some(wire) = first_same_end(plan.wires.as_slice()) {
         return Some(BuildFault::SameEnd(wire));
     }
-    if let Some(wire) = first_end_twice(wires) {
-        return Some(BuildFault::EndTwice(wire));
+    if let Some(place) = first_end_twice(plan) {
+        return Some(BuildFault::EndTwice(place));
     }
     if let Some((node, segment)) = first_bad_segment(nodes) {
         return Some(BuildFault::BadSegment(node, segment));
@@ -52,12 +65,53 @@ fn is_too_large(image: &Image) -> bool
         || image.processes.as_slice().len() > MOST_PROCESSES
 }
 
+/// Whether a message does not have 1 to 4,096 bytes.
+fn is_bad_message(message: &Items<u8>) -> bool
+    ensures { result ≡ is_bad_message message.now }
+{
+    let size = message.as_slice().len();
+    size < 1 || size > LONGEST_MESSAGE
+}
+
+/// Whether some message has not.
+fn any_bad_message(messages: &[Items<u8>]) -> bool
+    ensures { result ≡ list_any is_bad_message messages.now }
+{
+    messages.iter().any(is_bad_message)
+}
+
+/// Whether a source has too many messages, or one that is none.
+fn has_too_many(source: &SourcePlan) -> bool
+    ensures { result ≡ has_too_many source.now }
+{
+    let messages = source.messages.as_slice();
+    messages.len() > MOST_MESSAGES || any_bad_message(messages)
+}
+
+/// Whether some source has.
+fn any_has_too_many(sources: &[SourcePlan]) -> bool
+    ensures { result ≡ list_any has_too_many sources.now }
+{
+    sources.iter().any(has_too_many)
+}
+
+/// Whether there are more nodes, sources and sinks than may be.
+fn are_many(nodes: usize, sources: usize, sinks: usize) -> bool
+    ensures { result ≡ nat_lt 64 (nodes + sources + sinks) }
+{
+    nodes > MOST_NODES || sources > MOST_NODES - nodes || sinks > MOST_NODES - nodes - sources
+}
+
 /// Whether something of a plan is over its limit.
-fn has_too_many(plan: &Plan) -> bool
+fn is_too_many(plan: &Plan) -> bool
     ensures { result ≡ too_many plan.now }
 {
     let nodes = plan.nodes.as_slice();
-    nodes.len() > MOST_NODES || plan.wires.as_slice().len() > MOST_WIRES || any_too_large(nodes)
+    let sources = plan.sources.as_slice();
+    are_many(nodes.len(), sources.len(), plan.sinks.as_slice().len())
+        || plan.wires.as_slice().len() > MOST_WIRES
+        || any_too_large(nodes)
+        || any_has_too_many(sources)
 }
 
 /// Whether some node's image has too many segments or processes.
@@ -95,11 +149,38 @@ fn is_bad_end(nodes: usize, end: End) -> bool
     end.node as usize >= nodes || end.link >= 4
 }
 
-/// The first wire with an end that is no link of a node.
-fn first_bad_end(wires: &[Wire], nodes: usize) -> Option<usize>
-    ensures { result ≡ position (has_bad_end nodes) wires.now }
+/// Whether one of a wire's two ends is.
+fn has_bad_end(nodes: usize, wire: Wire) -> bool
+    ensures { result ≡ (is_bad_end nodes wire.a || is_bad_end nodes wire.b) }
 {
-    wires.iter().position(|wire| is_bad_end(nodes, wire.a) || is_bad_end(nodes, wire.b))
+    is_bad_end(nodes, wire.a) || is_bad_end(nodes, wire.b)
+}
+
+/// Whether a wire, a source or a sink names such an end.
+fn names_bad_end(plan: &Plan, place: usize) -> bool
+    requires few { too_many plan.now ≡ false }
+    requires within { place < length (all_wires plan.now) }
+    ensures { result ≡ list_any (is_bad_end (length plan.now.nodes)) (slice_index_or (named_ends plan.now) place []) }
+{
+    let nodes = plan.nodes.as_slice().len();
+    let wire = wire_at(plan, place);
+    if place < plan.wires.as_slice().len() {
+        return has_bad_end(nodes, wire);
+    }
+    is_bad_end(nodes, wire.b)
+}
+
+/// The first wire, source or sink that does.
+fn first_bad_end(plan: &Plan) -> Option<usize>
+    requires { too_many plan.now ≡ false }
+    ensures { result ≡ position (list_any (is_bad_end (length plan.now.nodes))) (named_ends plan.now) }
+{
+    for place in 0..wire_count(plan) {
+        if names_bad_end(plan, place) {
+            return Some(place);
+        }
+    }
+    None
 }
 
 /// Whether two ends are one.
@@ -116,26 +197,34 @@ fn first_same_end(wires: &[Wire]) -> Option<usize>
     wires.iter().position(|wire| is_same_end(wire.a, wire.b))
 }
 
-/// Whether an end is one of these wires.
-fn is_wired(wires: &[Wire], end: End) -> bool
-    ensures { result ≡ list_any (joins end) wires.now }
+/// Whether two wires have an end in common.
+fn share_an_end(v: Wire, w: Wire) -> bool
+    ensures { result ≡ (joins w.a v || joins w.b v) }
 {
-    wires.iter().any(|wire| is_same_end(wire.a, end) || is_same_end(wire.b, end))
+    is_same_end(v.a, w.a) || is_same_end(v.b, w.a) || is_same_end(v.a, w.b) || is_same_end(v.b, w.b)
 }
 
-/// Whether a wire has an end of an earlier one.
-fn shares_an_end(earlier: &[Wire], wire: Wire) -> bool
-    ensures { result ≡ (list_any (joins wire.a) earlier.now || list_any (joins wire.b) earlier.now) }
+/// Whether a wire has an end of one of the first ones.
+fn is_end_twice(plan: &Plan, place: usize, wire: Wire) -> bool
+    requires few { too_many plan.now ≡ false }
+    requires within { place ≤ length (all_wires plan.now) }
+    ensures { result ≡ list_any (λ v. joins wire.a v || joins wire.b v) (take place (all_wires plan.now)) }
 {
-    is_wired(earlier, wire.a) || is_wired(earlier, wire.b)
+    for earlier in 0..place {
+        if share_an_end(wire_at(plan, earlier), wire) {
+            return true;
+        }
+    }
+    false
 }
 
 /// The first wire with an end of an earlier one.
-fn first_end_twice(wires: &[Wire]) -> Option<usize>
-    ensures { result ≡ end_twice_from 0 [] wires.now }
+fn first_end_twice(plan: &Plan) -> Option<usize>
+    requires { too_many plan.now ≡ false }
+    ensures { result ≡ end_twice_from 0 [] (all_wires plan.now) }
 {
-    for (place, wire) in wires.iter().enumerate() {
-        if shares_an_end(&wires[..place], *wire) {
+    for place in 0..wire_count(plan) {
+        if is_end_twice(plan, place, wire_at(plan, place)) {
             return Some(place);
         }
     }
@@ -176,4 +265,18 @@ fn first_bad_segment(nodes: &[NodePlan]) -> Option<(usize, usize)>
         }
     }
     None
+}
+
+/// Whether a capacity is none that a sink may have.
+fn is_bad_capacity(sink: &SinkPlan) -> bool
+    ensures { result ≡ is_bad_capacity sink.now }
+{
+    sink.capacity < 1 || sink.capacity > LARGEST_CAPACITY
+}
+
+/// The first sink with such a capacity.
+pub fn first_bad_capacity(sinks: &[SinkPlan]) -> Option<usize>
+    ensures { result ≡ position is_bad_capacity sinks.now }
+{
+    sinks.iter().position(is_bad_capacity)
 }

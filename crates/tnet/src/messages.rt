@@ -14,7 +14,7 @@ pub fn message(node: &Node, offer: Offer, mut bytes: Vec<u8>) -> Items<u8>
     ensures { result ≡ bytes_at node.now.machine.store offer.buffer offer.length }
 {
     bytes.clear();
-    let all = node.processor().bytes();
+    let all = node.bytes();
     let first = offer.buffer.get().saturating_sub(MOST_NEG) as usize;
     let end = all.len().min(first + offer.length as usize);
     for at in first..end {

@@ -93,13 +93,13 @@ pub fn put(inboxes: &mut [Inbox; 4], link: u32, packet: Packet)
     }
 }
 
-/// The input that an event takes a byte for.
+/// The message that an event may complete.
 #[inline(always)]
 pub fn input_of(node: &Node, event: NodeEvent) -> Option<Offer>
     ensures { result ≡ plain.input_of event node.now }
 {
     match event {
-        NodeEvent::Take(link) => node.processor().pending_in(link),
+        NodeEvent::Take(link) => node.due(link),
         _ => None,
     }
 }

@@ -8,5 +8,7 @@ pub mod wiring;
 
 pub use event::{Act, Event, Hold, Note, PacketKind};
 pub use options::Options;
-pub use plan::{BuildFault, End, Image, NodePlan, Plan, Process, Segment, Wire};
+pub use plan::{
+    BuildFault, End, Image, NodePlan, Plan, Process, Segment, SinkPlan, SourcePlan, Wire,
+};
 pub use wiring::{Wiring, WiringFault, WiringNode};

@@ -48,35 +48,59 @@ pub struct NodePlan {
     pub image: Image,
 }
 
+/// A source, which stands at the far side of a node's link and offers messages there, one after another.
+#[derive(Drop)]
+pub struct SourcePlan {
+    /// The end that it feeds.
+    pub end: End,
+    /// The bytes of each message: 1 to 4,096.
+    pub messages: Items<Items<u8>>,
+}
+
+/// A sink, which stands at the far side of a node's link and keeps the messages that come there.
+#[derive(Clone, Copy, Debug, PartialEq, Eq)]
+pub struct SinkPlan {
+    /// The end that it takes from.
+    pub end: End,
+    /// How many bytes it takes: 1 to 65,536.
+    pub capacity: u32,
+}
+
 /// A net before it is built.
 #[derive(Drop)]
 pub struct Plan {
     pub timeslice: u32,
     pub nodes: Items<NodePlan>,
     pub wires: Items<Wire>,
+    pub sources: Items<SourcePlan>,
+    pub sinks: Items<SinkPlan>,
 }
 
-/// Why a plan cannot be built: the lowest of these that holds, in this order, with its first place.
+/// Why a plan cannot be built: the lowest of these that holds, in this order, with its first place. The places of ends
+/// count over the wires, then the sources, then the sinks.
 #[derive(Clone, Copy, Debug, PartialEq, Eq)]
 pub enum BuildFault {
     /// The allocator refused.
     OutOfMemory,
-    /// Over 64 nodes or 128 wires, or an image with over 4,096 segments or 512 processes.
+    /// Over 64 nodes, sources and sinks together, over 128 wires, an image with over 4,096 segments or 512 processes, a
+    /// source with over 256 messages, or a message that has not 1 to 4,096 bytes.
     TooMany,
     /// The memory of this node has not 2,048 to 1,048,576 bytes, or no multiple of 4.
     BadSize(usize),
     /// The timeslice is not 1 to 65,536 instructions.
     BadTimeslice,
-    /// An end of this wire is no link of a node.
+    /// An end of this wire, source or sink is no link of a node.
     BadEnd(usize),
     /// The two ends of this wire are one.
     SameEnd(usize),
-    /// An end of this wire is one of an earlier wire.
+    /// An end of this wire, source or sink is one of an earlier one.
     EndTwice(usize),
     /// Of this node, this segment does not lie in the memory that programs may use. An empty one may lie anywhere.
     BadSegment(usize, usize),
     /// Of this node, this process is refused, with this break.
     BadProcess(usize, usize, Break),
+    /// The capacity of this sink is not 1 to 65,536 bytes.
+    BadCapacity(usize),
 }
 
 impl From<AllocError> for BuildFault {

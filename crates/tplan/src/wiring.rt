@@ -1,7 +1,7 @@
 //! What a wiring file says, and why a text is none.
 
 use crate::event::Hold;
-use crate::plan::Wire;
+use crate::plan::{SinkPlan, SourcePlan, Wire};
 use std::alloc::{AllocError, AllocFailed};
 use thiserror::Error;
 use tword::Items;
@@ -24,12 +24,15 @@ pub enum WiringFault {
     /// A value is not of its key's type.
     #[error("a value has the wrong type")]
     WrongType,
-    /// The version is not 1.
-    #[error("the version is not 1")]
+    /// The version is neither 1 nor 2.
+    #[error("the version is neither 1 nor 2")]
     BadVersion,
     /// An integer is no number of 32 bits.
     #[error("an integer is outside 0 to 4294967295")]
     BadNumber,
+    /// A message is not 1 to 4,096 bytes in pairs of hexadecimal digits.
+    #[error("a message is not 1 to 4096 bytes in hexadecimal")]
+    BadMessage,
 }
 
 /// A node of a wiring: the size of its memory and the name of its image.
@@ -45,6 +48,8 @@ pub struct Wiring {
     pub timeslice: u32,
     pub nodes: Items<WiringNode>,
     pub wires: Items<Wire>,
+    pub sources: Items<SourcePlan>,
+    pub sinks: Items<SinkPlan>,
     pub holds: Items<Hold>,
 }
 

@@ -12,7 +12,7 @@ use Rattle.tlink.specs.declared.event.Packet.{Packet}
 use Rattle.tlink.specs.declared.event.NodeEvent.{NodeEvent}
 use Rattle.tlink.specs.declared.event.NodeEvent.TheVariants as at_node
 use Rattle.tlink.specs.declared.event.StepFault.TheVariants.{NotEnabled}
-use Rattle.tlink.specs.Node.{NodeState, input_at}
+use Rattle.tlink.specs.Node.{NodeState, due_at}
 use Rattle.tlink.specs.Events.{happens, node_left_by}
 use Rattle.tplan.specs.declared.event.Act.{Act}
 use Rattle.tplan.specs.declared.event.Act.TheVariants.{Run, Send, Data, Take, Ack}
@@ -22,7 +22,7 @@ use Rattle.tnet.specs.declared.station.Done.{Done}
 use Rattle.tnet.specs.Stations.{box_at, with_carried, asked, input_of, done_of}
 use Rattle.tnet.specs.FarEnds.{far_in_row}
 use Rattle.tnet.specs.Answers.{KeepsInput, HasRoom}
-use Rattle.tnet.proofs.AnswerKinds.{run_emits_none, run_ends, inputs_stand}
+use Rattle.tnet.proofs.AnswerKinds.{run_emits_none, run_ends, due_stands}
 use Rattle.trounds.specs.Parts.{Part, link_of, sending_to, sendings, part_does}
 use Rattle.trounds.specs.RoundNodes.{sendings_of}
 use Rattle.trounds.proofs.PartRooms.{room_else}
@@ -95,7 +95,7 @@ no_input (Ack m) boxes e node l is k same = by (box_at boxes m).acknowledged is
 pub room_for : {A : Type 0} (f : A → ℕ) (a : Act) (boxes : List Inbox) (e : NodeEvent) (node : NodeState) (vs : List A)
     (k : ℕ) (d : A)
     → asked a boxes ≡ Some e → k ≡ link_of a → k < length vs
-    → ((l : ℕ) → a ≡ Take l → IfSome (input_at node l) (λ (o : Offer). o.length ≤ get_or (map f vs) l 0))
+    → ((l : ℕ) → a ≡ Take l → IfSome (due_at node l) (λ (o : Offer). o.length ≤ get_or (map f vs) l 0))
     → HasRoom (input_of e node) (f (get_or vs k d))
 room_for f Run boxes e node vs k d is link lt fits = let q : at_node.Run ≡ e = same_Some _ _ is in rw (← q) tt
 room_for f (Send m) boxes e node vs k d is link lt fits =
@@ -115,12 +115,12 @@ pub room_stands : {A : Type 0} (f : A → ℕ) (a : Act) (boxes : List Inbox) (e
     (vs : List A) (k l : ℕ) (v d : A)
     → asked a boxes ≡ Some e → node' ≡ node_left_by node (happens e node) → k ≡ link_of a
     → (input_of e node ≡ None → v ≡ get_or vs k d) → KeepsInput a l
-    → IfSome (input_at node l) (λ (o : Offer). o.length ≤ get_or (map f vs) l 0)
-    → IfSome (input_at node' l) (λ (o : Offer). o.length ≤ get_or (map f (set vs k v)) l 0)
+    → IfSome (due_at node l) (λ (o : Offer). o.length ≤ get_or (map f vs) l 0)
+    → IfSome (due_at node' l) (λ (o : Offer). o.length ≤ get_or (map f (set vs k v)) l 0)
 room_stands {A} f a boxes e node node' vs k l v d is left link kept keeps fits = rw (input, by (cases_eq l k)) fits
   where
-    input : input_at node' l ≡ input_at node l
-    input = ap (λ (x : NodeState). input_at x l) left ∙ inputs_stand a boxes e node l is keeps
+    input : due_at node' l ≡ due_at node l
+    input = ap (λ (x : NodeState). due_at x l) left ∙ due_stands a boxes e node l is keeps
 
     by : (l ≡ k) ⊎ (l ≢ k) → get_or (map f (set vs k v)) l 0 ≡ get_or (map f vs) l 0
     by (inr ne) = room_else f vs k l v ne

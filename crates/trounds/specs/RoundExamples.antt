@@ -58,6 +58,8 @@ loop =
         };
       } ∷ [];
       wires = record { a = end_at 0 0; b = end_at 0 1 } ∷ [];
+      sources = [];
+      sinks = [];
     })
 
 rounds_of_loop : told (rounds [] 64 20 loop) ≡ (ending.Quiet, 3, 18, Msg (end_at 0 0) (end_at 0 1) (0x2a ∷ []) ∷ [])

@@ -3,7 +3,7 @@
 use Rattle.std.specs.Prelude.{◌≡◌, ℕ, ◌+◌, ◌<◌, ◌≤◌, ◌++◌, length, List, [], map, vec_len, vec_capacity, slice_index_or}
 use Rattle.std.specs.Prelude.{IfSome, false}
 use Rattle.tproc.specs.declared.offer.Offer.{Offer}
-use Rattle.tlink.specs.Node.{input_at}
+use Rattle.tlink.specs.Node.{due_at}
 use Rattle.tplan.specs.declared.event.Act.{Act}
 use Rattle.tplan.specs.declared.event.Act.TheVariants.{Run, Take}
 use Rattle.tplan.specs.declared.event.Event.{Event}
@@ -55,9 +55,9 @@ pub record Spends (e n m : ℕ) (r r' : RoundNode) : Type 0 where
 abbrev pub spare_room : RoundNode → ℕ → ℕ
 spare_room r l = slice_index_or (map (λ v. vec_capacity v) r.spare) l 0
 
--- room for the message of a link whose input is pending
+-- room for the message that the next byte at a link may complete
 abbrev pub HasMessageRoom : RoundNode → ℕ → Type 0
-HasMessageRoom r l = IfSome (input_at r.node l) (λ (o : Offer). o.length ≤ spare_room r l)
+HasMessageRoom r l = IfSome (due_at r.node l) (λ (o : Offer). o.length ≤ spare_room r l)
 
 -- room for the messages of the links from one on
 abbrev pub HasBytes : ℕ → RoundNode → Type 0

@@ -41,6 +41,7 @@ wiring_words wiring.MissingKey = codes "wiring L3 MissingKey" ∷ []
 wiring_words wiring.WrongType = codes "wiring L4 WrongType" ∷ []
 wiring_words wiring.BadVersion = codes "wiring L5 BadVersion" ∷ []
 wiring_words wiring.BadNumber = codes "wiring L6 BadNumber" ∷ []
+wiring_words wiring.BadMessage = codes "wiring L7 BadMessage" ∷ []
 wiring_words wiring.OutOfMemory = memory_words
 
 -- a fault of a plan, with its places
@@ -53,6 +54,7 @@ net_words (build.SameEnd w) = codes "net N5 SameEnd" ∷ decimal w ∷ []
 net_words (build.EndTwice w) = codes "net N6 EndTwice" ∷ decimal w ∷ []
 net_words (build.BadSegment n s) = codes "net N7 BadSegment" ∷ decimal n ∷ decimal s ∷ []
 net_words (build.BadProcess n p b) = codes "net N8 BadProcess" ∷ decimal n ∷ decimal p ∷ break_name b ∷ []
+net_words (build.BadCapacity s) = codes "net N9 BadCapacity" ∷ decimal s ∷ []
 net_words build.OutOfMemory = memory_words
 
 -- a fault of rounds

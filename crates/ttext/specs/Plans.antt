@@ -21,6 +21,8 @@ plan_of w images =
       timeslice = w.timeslice;
       nodes = map node_of (zip w.nodes images);
       wires = w.wires;
+      sources = w.sources;
+      sinks = w.sinks;
     }
 
 -- the net of a wiring with one image for each node, or the lowest fault

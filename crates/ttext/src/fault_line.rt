@@ -95,6 +95,7 @@ fn wiring_text(fault: WiringFault) -> &'static [u8]
         WiringFault::WrongType => b"wiring L4 WrongType",
         WiringFault::BadVersion => b"wiring L5 BadVersion",
         WiringFault::BadNumber => b"wiring L6 BadNumber",
+        WiringFault::BadMessage => b"wiring L7 BadMessage",
         WiringFault::OutOfMemory => b"memory",
     }
 }
@@ -128,9 +129,9 @@ fn put_net_fault<W: CountedWrite>(out: &mut Output<'_, W>, fault: &BuildFault)
         BuildFault::TooMany => out.put(b"net N1 TooMany"),
         BuildFault::BadSize(node) => put_numbered(out, b"net N2 BadSize ", *node),
         BuildFault::BadTimeslice => out.put(b"net N3 BadTimeslice"),
-        BuildFault::BadEnd(wire) => put_numbered(out, b"net N4 BadEnd ", *wire),
+        BuildFault::BadEnd(place) => put_numbered(out, b"net N4 BadEnd ", *place),
         BuildFault::SameEnd(wire) => put_numbered(out, b"net N5 SameEnd ", *wire),
-        BuildFault::EndTwice(wire) => put_numbered(out, b"net N6 EndTwice ", *wire),
+        BuildFault::EndTwice(place) => put_numbered(out, b"net N6 EndTwice ", *place),
         BuildFault::BadSegment(node, segment) => {
             put_numbered(out, b"net N7 BadSegment ", *node);
             put_numbered(out, b" ", *segment);
@@ -141,6 +142,7 @@ fn put_net_fault<W: CountedWrite>(out: &mut Output<'_, W>, fault: &BuildFault)
             out.put(b" ");
             out.put(break_name(*broken));
         }
+        BuildFault::BadCapacity(sink) => put_numbered(out, b"net N9 BadCapacity ", *sink),
         BuildFault::OutOfMemory => out.put(b"memory"),
     }
 }

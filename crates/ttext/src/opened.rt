@@ -8,11 +8,11 @@ ghost use Rattle.ttext.specs.Outcomes.{as_image, as_opened, images_of, opened_of
 ghost use Rattle.ttext.specs.Outcomes.{IsPlanOf};
 
 use crate::fault::Fault;
-use std::alloc::Global;
+use std::alloc::{AllocError, Global};
 use tfiles::image::{ImageFault, read_image};
 use tnet::Net;
 use tplan::plan::Image;
-use tplan::{BuildFault, NodePlan, Plan, Wiring, WiringNode};
+use tplan::{BuildFault, NodePlan, Plan, SourcePlan, Wiring, WiringNode};
 use tword::Items;
 
 /// The net that a wiring and the files of its images stand for, one file a node, before its first event. The bytes of
@@ -53,11 +53,40 @@ fn plan(alloc: Global, wiring: &Wiring, files: Items<Items<u8>>) -> Result<Plan,
 {
     let nodes = node_plans(alloc, wiring.nodes.as_slice(), files)?;
     let wires = Vec::from_slice(alloc, wiring.wires.as_slice())?;
+    let sources = source_plans(alloc, wiring.sources.as_slice())?;
+    let sinks = Vec::from_slice(alloc, wiring.sinks.as_slice())?;
     Ok(Plan {
         timeslice: wiring.timeslice,
         nodes,
         wires: Items::new(wires),
+        sources,
+        sinks: Items::new(sinks),
     })
+}
+
+/// The same sources.
+fn source_plans(alloc: Global, sources: &[SourcePlan]) -> Result<Items<SourcePlan>, AllocError>
+    ensures { IfOk result (λ copies. copies ≡ sources.now) }
+{
+    let mut copies = Vec::with_capacity(alloc, sources.len())?;
+    for source in sources {
+        copies.push(SourcePlan {
+            end: source.end,
+            messages: messages(alloc, source.messages.as_slice())?,
+        })?;
+    }
+    Ok(Items::new(copies))
+}
+
+/// The same messages.
+fn messages(alloc: Global, messages: &[Items<u8>]) -> Result<Items<Items<u8>>, AllocError>
+    ensures { IfOk result (λ copies. copies ≡ messages.now) }
+{
+    let mut copies = Vec::with_capacity(alloc, messages.len())?;
+    for message in messages {
+        copies.push(Items::new(Vec::from_slice(alloc, message.as_slice())?))?;
+    }
+    Ok(Items::new(copies))
 }
 
 /// Each node with the image of its file.

@@ -26,12 +26,13 @@ use Rattle.tproc.specs.Queues.{iptr_word}
 use Rattle.tproc.specs.LinkChannels.{link_end}
 use Rattle.tlink.specs.declared.counts.Arrival.{Arrival}
 use Rattle.tlink.specs.declared.counts.Counts.{Counts}
+use Rattle.tlink.specs.Roles.{Role, Processor, Source, Sink}
 use Rattle.tlink.specs.Node.{NodeState, counts_at, input_at, output_at}
 use Rattle.tnet.specs.declared.inbox.Inbox.{Inbox}
 use Rattle.tnet.specs.Net.{NetState, four_links, inbox_at}
 use Rattle.tnet.specs.Wires.{end_at}
 use Rattle.tfiles.specs.Logs.{line}
-use Rattle.tfiles.specs.Texts.{break_name, node_line}
+use Rattle.tfiles.specs.Texts.{break_name, node_line, source_line, sink_line}
 use Rattle.twhere.specs.declared.listing.Listed.{Listed}
 
 -- ---- words and instructions
@@ -261,9 +262,15 @@ listed_text net k n listed =
     ++ (queue_facts (codes "  low queue     ") n.machine listed.low
     ++ (waiting_facts n listed.waiting ++ links_facts net k n)))))
 
+-- what stands behind the links: a processor whose processes are listed so, a source or a sink
+abbrev pub role_where : Role → NetState → ℕ → NodeState → Listed → List ℕ
+role_where Processor net k n listed = listed_text net k n listed
+role_where (Source done rest) net k n listed = source_line k done (done + length rest) ++ links_facts net k n
+role_where (Sink kept) net k n listed = sink_line k (length kept) ++ links_facts net k n
+
 -- a node
 abbrev pub node_where : NetState → ℕ → NodeState → List ℕ
-node_where net k n = listed_text net k n (listed_of n.machine.control)
+node_where net k n = role_where n.role net k n (listed_of n.machine.control)
 
 -- the nodes from a number on
 abbrev pub where_from : NetState → ℕ → List NodeState → List ℕ

@@ -1,3 +1,4 @@
 pub mod WiringAnswers
+pub mod WiringMessages
 pub mod WiringTests
 pub mod WiringValues

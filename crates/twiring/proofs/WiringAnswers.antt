@@ -9,9 +9,9 @@ use Rattle.toml.specs.View.{view, items_view, members_view}
 use Rattle.toml.specs.declared.value.Value.{Value}
 use Rattle.tplan.specs.declared.wiring.WiringFault.{WiringFault}
 use Rattle.tplan.specs.declared.wiring.WiringFault.TheVariants.{OutOfMemory, Syntax, UnknownKey, MissingKey, WrongType}
-use Rattle.tplan.specs.declared.wiring.WiringFault.TheVariants.{BadVersion, BadNumber}
+use Rattle.tplan.specs.declared.wiring.WiringFault.TheVariants.{BadVersion, BadNumber, BadMessage}
 use Rattle.twiring.specs.Wirings.{Names, is_one_of, has_unknown, IsWiringAnswer}
-use Rattle.twiring.specs.WiringParts.{Reading, lower, both, made, known, table_in, one_more, more_in, end_in}
+use Rattle.twiring.specs.WiringParts.{Reading, lower, both, made, known, one_more, more_in, end_in}
 
 -- want of memory is the lowest fault
 lower-memory : (f : WiringFault) → lower OutOfMemory f ≡ OutOfMemory
@@ -22,6 +22,7 @@ lower-memory MissingKey = refl
 lower-memory WrongType = refl
 lower-memory BadVersion = refl
 lower-memory BadNumber = refl
+lower-memory BadMessage = refl
 
 memory-lower : (f : WiringFault) → lower f OutOfMemory ≡ OutOfMemory
 memory-lower OutOfMemory = refl
@@ -31,6 +32,7 @@ memory-lower MissingKey = refl
 memory-lower WrongType = refl
 memory-lower BadVersion = refl
 memory-lower BadNumber = refl
+memory-lower BadMessage = refl
 
 both-memory : {A B : Type 0} (a : Reading A) → both {B = B} a (Err OutOfMemory) ≡ Err OutOfMemory
 both-memory (Ok a) = refl
@@ -55,7 +57,7 @@ pub answer-made : {A B : Type 0} (f : A → B) (a x : Reading A) → IsWiringAns
 answer-made f a x (inl h) = inl (ap (made f) h)
 answer-made f a x (inr h) = inr (ap (made f) h)
 
--- one more table
+-- one more item
 pub answer-one_more : {A : Type 0} (told found : Reading (List A)) (part next : Reading A) (answer : Reading (List A))
     → IsWiringAnswer told found → IsWiringAnswer part next
     → IsWiringAnswer (one_more found next) answer → IsWiringAnswer (one_more told part) answer
@@ -67,12 +69,11 @@ answer-one_more told found part next answer h k (inr e) =
     by (inl m) = inl (e ∙ m)
     by (inr m) = inr (e ∙ m)
 
--- the last table of some
-pub more_in-last : {A : Type 0} (part : Members → Reading A) (found : Reading (List A)) (vs : List Value) (v : Value)
-    → more_in part found (items_view (vs ++ v ∷ []))
-    ≡ one_more (more_in part found (items_view vs)) (table_in part (view v))
+-- the last item of some
+pub more_in-last : {A : Type 0} (part : Data → Reading A) (found : Reading (List A)) (vs : List Value) (v : Value)
+    → more_in part found (items_view (vs ++ v ∷ [])) ≡ one_more (more_in part found (items_view vs)) (part (view v))
 more_in-last part found [] v = refl
-more_in-last part found (x ∷ vs) v = more_in-last part (one_more found (table_in part (view x))) vs v
+more_in-last part found (x ∷ vs) v = more_in-last part (one_more found (part (view x))) vs v
 
 -- nothing is left to say
 abbrev pub done : Reading (Unit {0})

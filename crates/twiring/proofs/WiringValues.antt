@@ -6,51 +6,96 @@ use mathlib.Core.Bool.{or_assoc, or-false}
 use Rattle.toml.specs.Data.{Data, Members, get_member}
 use Rattle.tplan.specs.declared.plan.End.{End}
 use Rattle.tplan.specs.declared.plan.Wire.{Wire}
+use Rattle.tplan.specs.declared.plan.SourcePlan.{SourcePlan}
+use Rattle.tplan.specs.declared.plan.SinkPlan.{SinkPlan}
 use Rattle.tplan.specs.declared.event.PacketKind.{PacketKind}
 use Rattle.tplan.specs.declared.event.Hold.{Hold}
 use Rattle.tplan.specs.declared.wiring.Wiring.{Wiring}
 use Rattle.tplan.specs.declared.wiring.WiringNode.{WiringNode}
-use Rattle.twiring.specs.Wirings.{has_unknown, root_keys, node_keys, wire_keys, hold_keys, lacks_one, tables_at}
-use Rattle.twiring.specs.Wirings.{is_integer, is_text, is_end, is_kind, is_tables, is_wrong, is_bad, is_version, fails}
-use Rattle.twiring.specs.Wirings.{number_of, number_at, text_of, end_of, kind_of, default_timeslice, wiring_value}
-use Rattle.twiring.specs.Wirings.{wiring_of}
+use Rattle.twiring.specs.Wirings.{Names, has_unknown, root_keys, node_keys, wire_keys, source_keys, sink_keys}
+use Rattle.twiring.specs.Wirings.{hold_keys, lacks_one, has_wrong_type, tables_at, items_of, is_integer, is_text}
+use Rattle.twiring.specs.Wirings.{is_texts, is_end, is_kind, is_tables, is_wrong, is_bad, is_version, is_bad_message}
+use Rattle.twiring.specs.Wirings.{has_bad_message, fails, number_of, number_at, text_of, end_of, kind_of, message_at}
+use Rattle.twiring.specs.Wirings.{default_timeslice, wiring_value, wiring_of}
 use Rattle.twiring.specs.WiringParts.{Reading, both, made, known, required, number_in, text_in, end_in, kind_in}
-use Rattle.twiring.specs.WiringParts.{version_in, node_in, wire_in, hold_in, held_in, array_at, head_in, arrays_in}
-use Rattle.twiring.specs.WiringParts.{wiring_in}
-use Rattle.twiring.proofs.WiringTests.{judged, same_judged, both-judged, made-judged, known-judged, required-judged}
-use Rattle.twiring.proofs.WiringTests.{timeslice-judged, never, is_good_number, number_in-judged, text_in-judged}
-use Rattle.twiring.proofs.WiringTests.{end_in-judged, kind_in-judged, version_in-judged, array-judged}
+use Rattle.twiring.specs.WiringParts.{message_in, version_in, node_in, wire_in, source_in, sink_in, hold_in}
+use Rattle.twiring.specs.WiringParts.{array_in, array_at, head_in, ends_in, Arrays, arrays_in, wiring_in}
+use Rattle.twiring.proofs.WiringTests.{Tests, passed, either, tested, judged, same_judged, both-judged, made-judged}
+use Rattle.twiring.proofs.WiringTests.{known-judged, required-judged, timeslice-judged, never, is_good_number}
+use Rattle.twiring.proofs.WiringTests.{number_in-judged, text_in-judged, end_in-judged, kind_in-judged}
+use Rattle.twiring.proofs.WiringTests.{messages_in-judged, version_in-judged, array-judged}
 
--- a number, a text, an end and a kind that have to be there
+-- a number, a text, an end, a kind, messages and a version that have to be there
 number-judged : (key : List ℕ) (t : Members)
-    → required number_in key t ≡ judged false (is_none (get_member key t)) (is_wrong is_integer key t) false
-    (is_bad key t) (number_at key t)
+    → required number_in key t
+    ≡ judged (tested false (is_none (get_member key t)) (is_wrong is_integer key t) (is_bad key t) false)
+    (number_at key t)
 number-judged key t =
-    required-judged number_in (fails is_integer) never (fails is_good_number) (λ o. number_of o 0) (number_in-judged 0)
-    (get_member key t)
+    required-judged number_in (fails is_integer) never (fails is_good_number) never (λ o. number_of o 0)
+    (number_in-judged 0) (get_member key t)
 
 text-judged : (key : List ℕ) (t : Members)
-    → required text_in key t ≡ judged false (is_none (get_member key t)) (is_wrong is_text key t) false false
+    → required text_in key t
+    ≡ judged (tested false (is_none (get_member key t)) (is_wrong is_text key t) false false)
     (text_of (get_member key t))
-text-judged key t = required-judged text_in (fails is_text) never never text_of text_in-judged (get_member key t)
+text-judged key t = required-judged text_in (fails is_text) never never never text_of text_in-judged (get_member key t)
 
 end-judged : (key : List ℕ) (t : Members)
-    → required end_in key t ≡ judged false (is_none (get_member key t)) (is_wrong is_end key t) false (is_bad key t)
+    → required end_in key t
+    ≡ judged (tested false (is_none (get_member key t)) (is_wrong is_end key t) (is_bad key t) false)
     (end_of (get_member key t))
 end-judged key t =
-    required-judged end_in (fails is_end) never (fails is_good_number) end_of end_in-judged (get_member key t)
+    required-judged end_in (fails is_end) never (fails is_good_number) never end_of end_in-judged (get_member key t)
 
 kind-judged : (key : List ℕ) (t : Members)
-    → required kind_in key t ≡ judged false (is_none (get_member key t)) (is_wrong is_kind key t) false false
+    → required kind_in key t
+    ≡ judged (tested false (is_none (get_member key t)) (is_wrong is_kind key t) false false)
     (kind_of (get_member key t))
-kind-judged key t = required-judged kind_in (fails is_kind) never never kind_of kind_in-judged (get_member key t)
+kind-judged key t = required-judged kind_in (fails is_kind) never never never kind_of kind_in-judged (get_member key t)
+
+messages-judged : (key : List ℕ) (t : Members)
+    → required (array_in message_in) key t
+    ≡ judged
+    (tested false (is_none (get_member key t)) (is_wrong is_texts key t) false
+    (list_any is_bad_message (items_of (get_member key t))))
+    (map message_at (items_of (get_member key t)))
+messages-judged key t =
+    required-judged (array_in message_in) (fails is_texts) never never (λ o. list_any is_bad_message (items_of o))
+    (λ o. map message_at (items_of o)) messages_in-judged (get_member key t)
 
 version-judged : (key : List ℕ) (t : Members)
-    → required version_in key t ≡ judged false (is_none (get_member key t)) (is_wrong is_integer key t)
-    (is_wrong is_version key t) false tt
+    → required version_in key t
+    ≡ judged (record passed {
+      missing = is_none (get_member key t);
+      wrong = is_wrong is_integer key t;
+      version = is_wrong is_version key t;
+    }) tt
 version-judged key t =
-    required-judged version_in (fails is_integer) (fails is_version) never (λ o. tt) version_in-judged
+    required-judged version_in (fails is_integer) (fails is_version) never never (λ o. tt) version_in-judged
     (get_member key t)
+
+-- a table by its parts, where the parts lack a key where the table does
+abbrev table_tests : Names → (Members → Bool) → (Members → Bool) → (Members → Bool) → Members → Tests
+table_tests names wrong number message t =
+    tested (has_unknown names t) (lacks_one names t) (wrong t) (number t) (message t)
+
+table-judged : {A B : Type 0} (names : Names) (t : Members) (make : A → B) (parts : Reading A) (s : Tests)
+    (wrong number message : Members → Bool) (x : A)
+    → parts ≡ judged s x → s.unknown ≡ false → s.missing ≡ lacks_one names t → s.wrong ≡ wrong t → s.version ≡ false
+    → s.number ≡ number t → s.message ≡ message t
+    → known names t (made make parts) ≡ judged (table_tests names wrong number message t) (make x)
+table-judged names t make parts s wrong number message x h u m w v n g =
+    ap (λ p. known names t (made make p)) h ∙ ap (known names t) (made-judged make s x)
+    ∙ known-judged names t s (make x)
+    ∙ same_judged _ _ _ (ap (λ u. has_unknown names t || u) u ∙ or-false (has_unknown names t)) m w v n g
+
+-- two keys
+two-missing : (a b : Bool) → (a || b) ≡ (a || (b || false))
+two-missing a b = ap (λ b. a || b) (sym (or-false b))
+
+-- no message
+abbrev no_message : Members → Bool
+no_message t = false
 
 -- nodes
 abbrev node_wrong : Members → Bool
@@ -66,23 +111,11 @@ abbrev node_value : Members → WiringNode
 node_value t = node_from (number_at (codes "memory") t, text_of (get_member (codes "image") t))
 
 node_in-judged : (t : Members)
-    → node_in t ≡ judged (has_unknown node_keys t) (lacks_one node_keys t) (node_wrong t) false (node_bad t)
-    (node_value t)
+    → node_in t ≡ judged (table_tests node_keys node_wrong node_bad no_message t) (node_value t)
 node_in-judged t =
-    let m : Bool = is_none (get_member (codes "memory") t) in
-    let i : Bool = is_none (get_member (codes "image") t) in
-    let b : Bool = node_bad t in
-    ap (λ (p : Reading (ℕ × List ℕ)). known node_keys t (made node_from p))
-    (ap₂ both (number-judged (codes "memory") t) (text-judged (codes "image") t)
-    ∙ both-judged false m (is_wrong is_integer (codes "memory") t) false b false i (is_wrong is_text (codes "image") t)
-    false false (number_at (codes "memory") t) (text_of (get_member (codes "image") t)))
-    ∙ ap (known node_keys t)
-    (made-judged node_from false (m || i) (node_wrong t) false (b || false)
-    (number_at (codes "memory") t, text_of (get_member (codes "image") t)))
-    ∙ known-judged node_keys t false (m || i) (node_wrong t) false (b || false) (node_value t)
-    ∙ same_judged (has_unknown node_keys t || false) (has_unknown node_keys t) (m || i) (m || (i || false))
-    (node_wrong t) (node_wrong t) false false (b || false) b (node_value t) (node_value t)
-    (or-false (has_unknown node_keys t)) (ap (λ i. m || i) (sym (or-false i))) refl refl (or-false b) refl
+    table-judged node_keys t node_from _ _ node_wrong node_bad no_message _
+    (ap₂ both (number-judged (codes "memory") t) (text-judged (codes "image") t) ∙ both-judged _ _ _ _)
+    refl (two-missing _ _) refl refl (or-false (node_bad t)) refl
 
 -- wires
 abbrev wire_wrong : Members → Bool
@@ -98,23 +131,52 @@ abbrev wire_value : Members → Wire
 wire_value t = wire_from (end_of (get_member (codes "a") t), end_of (get_member (codes "b") t))
 
 wire_in-judged : (t : Members)
-    → wire_in t ≡ judged (has_unknown wire_keys t) (lacks_one wire_keys t) (wire_wrong t) false (wire_bad t)
-    (wire_value t)
+    → wire_in t ≡ judged (table_tests wire_keys wire_wrong wire_bad no_message t) (wire_value t)
 wire_in-judged t =
-    let a : Bool = is_none (get_member (codes "a") t) in
-    let b : Bool = is_none (get_member (codes "b") t) in
-    ap (λ (p : Reading (End × End)). known wire_keys t (made wire_from p))
-    (ap₂ both (end-judged (codes "a") t) (end-judged (codes "b") t)
-    ∙ both-judged false a (is_wrong is_end (codes "a") t) false (is_bad (codes "a") t) false b
-    (is_wrong is_end (codes "b") t) false (is_bad (codes "b") t) (end_of (get_member (codes "a") t))
-    (end_of (get_member (codes "b") t)))
-    ∙ ap (known wire_keys t)
-    (made-judged wire_from false (a || b) (wire_wrong t) false (wire_bad t)
-    (end_of (get_member (codes "a") t), end_of (get_member (codes "b") t)))
-    ∙ known-judged wire_keys t false (a || b) (wire_wrong t) false (wire_bad t) (wire_value t)
-    ∙ same_judged (has_unknown wire_keys t || false) (has_unknown wire_keys t) (a || b) (a || (b || false))
-    (wire_wrong t) (wire_wrong t) false false (wire_bad t) (wire_bad t) (wire_value t) (wire_value t)
-    (or-false (has_unknown wire_keys t)) (ap (λ b. a || b) (sym (or-false b))) refl refl refl refl
+    table-judged wire_keys t wire_from _ _ wire_wrong wire_bad no_message _
+    (ap₂ both (end-judged (codes "a") t) (end-judged (codes "b") t) ∙ both-judged _ _ _ _)
+    refl (two-missing _ _) refl refl refl refl
+
+-- sources
+abbrev source_wrong : Members → Bool
+source_wrong t = is_wrong is_end (codes "end") t || is_wrong is_texts (codes "messages") t
+
+abbrev source_bad : Members → Bool
+source_bad t = is_bad (codes "end") t
+
+abbrev pub source_from : End × List (List ℕ) → SourcePlan
+source_from p = record { «end» = p.0; messages = p.1 }
+
+abbrev source_value : Members → SourcePlan
+source_value t =
+    source_from (end_of (get_member (codes "end") t), map message_at (items_of (get_member (codes "messages") t)))
+
+source_in-judged : (t : Members)
+    → source_in t ≡ judged (table_tests source_keys source_wrong source_bad has_bad_message t) (source_value t)
+source_in-judged t =
+    table-judged source_keys t source_from _ _ source_wrong source_bad has_bad_message _
+    (ap₂ both (end-judged (codes "end") t) (messages-judged (codes "messages") t) ∙ both-judged _ _ _ _)
+    refl (two-missing _ _) refl refl (or-false (source_bad t)) refl
+
+-- sinks
+abbrev sink_wrong : Members → Bool
+sink_wrong t = is_wrong is_end (codes "end") t || is_wrong is_integer (codes "capacity") t
+
+abbrev sink_bad : Members → Bool
+sink_bad t = is_bad (codes "end") t || is_bad (codes "capacity") t
+
+abbrev sink_from : End × ℕ → SinkPlan
+sink_from p = record { «end» = p.0; capacity = p.1 }
+
+abbrev sink_value : Members → SinkPlan
+sink_value t = sink_from (end_of (get_member (codes "end") t), number_at (codes "capacity") t)
+
+sink_in-judged : (t : Members)
+    → sink_in t ≡ judged (table_tests sink_keys sink_wrong sink_bad no_message t) (sink_value t)
+sink_in-judged t =
+    table-judged sink_keys t sink_from _ _ sink_wrong sink_bad no_message _
+    (ap₂ both (end-judged (codes "end") t) (number-judged (codes "capacity") t) ∙ both-judged _ _ _ _)
+    refl (two-missing _ _) refl refl refl refl
 
 -- holds
 abbrev hold_wrong : Members → Bool
@@ -127,14 +189,11 @@ hold_bad t = is_bad (codes "end") t || is_bad (codes "from") t || is_bad (codes 
 abbrev pub hold_from : (End × PacketKind) × (ℕ × ℕ) → Hold
 hold_from p = record { «end» = p.0.0; kind = p.0.1; from = p.1.0; until = p.1.1 }
 
-abbrev hold_parts : Members → (End × PacketKind) × (ℕ × ℕ)
-hold_parts t = (
+abbrev hold_value : Members → Hold
+hold_value t = hold_from (
   (end_of (get_member (codes "end") t), kind_of (get_member (codes "kind") t)),
   (number_at (codes "from") t, number_at (codes "until") t),
 )
-
-abbrev hold_value : Members → Hold
-hold_value t = hold_from (hold_parts t)
 
 pairs-missing : (a b c d : Bool) → ((a || b) || (c || d)) ≡ (a || (b || (c || (d || false))))
 pairs-missing a b c d = or_assoc a b (c || d) ∙ ap (λ d. a || (b || (c || d))) (sym (or-false d))
@@ -145,186 +204,205 @@ pairs-wrong a b c d = sym (or_assoc (a || b) c d)
 pairs-bad : (a b c : Bool) → ((a || false) || (b || c)) ≡ (a || b || c)
 pairs-bad a b c = ap (λ a. a || (b || c)) (or-false a) ∙ sym (or_assoc a b c)
 
-held_in-judged : (t : Members)
-    → held_in t ≡ judged false (lacks_one hold_keys t) (hold_wrong t) false (hold_bad t) (hold_parts t)
-held_in-judged t =
-    let e : Option Data = get_member (codes "end") t in
-    let k : Option Data = get_member (codes "kind") t in
-    let f : Option Data = get_member (codes "from") t in
-    let u : Option Data = get_member (codes "until") t in
-    ap₂ both
-    (ap₂ both (end-judged (codes "end") t) (kind-judged (codes "kind") t)
-    ∙ both-judged false (is_none e) (fails is_end e) false (fails is_good_number e) false (is_none k) (fails is_kind k)
-    false false (end_of e) (kind_of k))
-    (ap₂ both (number-judged (codes "from") t) (number-judged (codes "until") t)
-    ∙ both-judged false (is_none f) (fails is_integer f) false (fails is_good_number f) false (is_none u)
-    (fails is_integer u) false (fails is_good_number u) (number_of f 0) (number_of u 0))
-    ∙ both-judged false (is_none e || is_none k) (fails is_end e || fails is_kind k) false
-    (fails is_good_number e || false) false (is_none f || is_none u) (fails is_integer f || fails is_integer u)
-    false (fails is_good_number f || fails is_good_number u) (end_of e, kind_of k) (number_of f 0, number_of u 0)
-    ∙ same_judged false false _ (lacks_one hold_keys t) _ (hold_wrong t) false false _ (hold_bad t) (hold_parts t)
-    (hold_parts t)
-    refl (pairs-missing (is_none e) (is_none k) (is_none f) (is_none u))
-    (pairs-wrong (fails is_end e) (fails is_kind k) (fails is_integer f) (fails is_integer u)) refl
-    (pairs-bad (fails is_good_number e) (fails is_good_number f) (fails is_good_number u)) refl
-
 hold_in-judged : (t : Members)
-    → hold_in t ≡ judged (has_unknown hold_keys t) (lacks_one hold_keys t) (hold_wrong t) false (hold_bad t)
-    (hold_value t)
+    → hold_in t ≡ judged (table_tests hold_keys hold_wrong hold_bad no_message t) (hold_value t)
 hold_in-judged t =
-    ap (λ (p : Reading ((End × PacketKind) × (ℕ × ℕ))). known hold_keys t (made hold_from p)) (held_in-judged t)
-    ∙ ap (known hold_keys t)
-    (made-judged hold_from false (lacks_one hold_keys t) (hold_wrong t) false (hold_bad t) (hold_parts t))
-    ∙ known-judged hold_keys t false (lacks_one hold_keys t) (hold_wrong t) false (hold_bad t) (hold_value t)
-    ∙ ap (λ u. judged u (lacks_one hold_keys t) (hold_wrong t) false (hold_bad t) (hold_value t))
-    (or-false (has_unknown hold_keys t))
+    let missing : List ℕ → Bool = λ key. is_none (get_member key t) in
+    table-judged hold_keys t hold_from _ _ hold_wrong hold_bad no_message _
+    (ap₂ both (ap₂ both (end-judged (codes "end") t) (kind-judged (codes "kind") t) ∙ both-judged _ _ _ _)
+    (ap₂ both (number-judged (codes "from") t) (number-judged (codes "until") t) ∙ both-judged _ _ _ _)
+    ∙ both-judged _ _ _ _)
+    refl
+    (pairs-missing (missing (codes "end")) (missing (codes "kind")) (missing (codes "from")) (missing (codes "until")))
+    (pairs-wrong (is_wrong is_end (codes "end") t) (is_wrong is_kind (codes "kind") t)
+    (is_wrong is_integer (codes "from") t) (is_wrong is_integer (codes "until") t))
+    refl (pairs-bad (is_bad (codes "end") t) (is_bad (codes "from") t) (is_bad (codes "until") t)) refl
 
 -- version and timeslice
 abbrev slice_of : Members → Option Data
 slice_of t = get_member (codes "timeslice") t
 
-head_in-judged : (t : Members) → head_in t
-    ≡ judged false (lacks_one (codes "version" ∷ []) t)
-    (is_wrong is_integer (codes "version") t || is_wrong is_integer (codes "timeslice") t)
-    (is_wrong is_version (codes "version") t || false) (is_bad (codes "timeslice") t)
-    (number_of (slice_of t) default_timeslice)
+abbrev head_tests : Members → Tests
+head_tests t =
+    record passed {
+      missing = lacks_one (codes "version" ∷ []) t;
+      wrong = is_wrong is_integer (codes "version") t || is_wrong is_integer (codes "timeslice") t;
+      version = is_wrong is_version (codes "version") t;
+      number = is_bad (codes "timeslice") t;
+    }
+
+head_in-judged : (t : Members) → head_in t ≡ judged (head_tests t) (number_of (slice_of t) default_timeslice)
 head_in-judged t =
-    let v : Option Data = get_member (codes "version") t in
-    let s : Option Data = slice_of t in
     ap (made (λ (p : Unit {0} × ℕ). p.1))
-    (ap₂ both (version-judged (codes "version") t) (timeslice-judged default_timeslice s)
-    ∙ both-judged false (is_none v) (fails is_integer v) (fails is_version v) false false false (fails is_integer s)
-    false (fails is_good_number s) tt (number_of s default_timeslice))
-    ∙ made-judged (λ (p : Unit {0} × ℕ). p.1) false (is_none v || false) (fails is_integer v || fails is_integer s)
-    (fails is_version v || false) (fails is_good_number s) (tt, number_of s default_timeslice)
+    (ap₂ both (version-judged (codes "version") t) (timeslice-judged default_timeslice (slice_of t))
+    ∙ both-judged _ _ _ _)
+    ∙ made-judged (λ (p : Unit {0} × ℕ). p.1) _ _
+    ∙ same_judged _ (head_tests t) _ refl refl refl (or-false (is_wrong is_version (codes "version") t)) refl refl
 
 -- the tests of an array
-abbrev any_at : (Members → Bool) → List ℕ → Members → Bool
+abbrev pub any_at : (Members → Bool) → List ℕ → Members → Bool
 any_at test key t = list_any test (tables_at key t)
 
-nodes-judged : (t : Members) → array_at node_in (codes "node") t
-    ≡ judged (any_at (has_unknown node_keys) (codes "node") t) (any_at (lacks_one node_keys) (codes "node") t)
-    (is_wrong is_tables (codes "node") t || any_at node_wrong (codes "node") t) false
-    (any_at node_bad (codes "node") t) (map node_value (tables_at (codes "node") t))
-nodes-judged t =
-    array-judged node_in (has_unknown node_keys) (lacks_one node_keys) node_wrong node_bad node_value node_in-judged
-    (get_member (codes "node") t)
+abbrev array_tests : Names → (Members → Bool) → (Members → Bool) → (Members → Bool) → List ℕ → Members → Tests
+array_tests names wrong number message key t =
+    tested (any_at (has_unknown names) key t) (any_at (lacks_one names) key t)
+    (is_wrong is_tables key t || any_at wrong key t) (any_at number key t) (any_at message key t)
 
-wires-judged : (t : Members) → array_at wire_in (codes "wire") t
-    ≡ judged (any_at (has_unknown wire_keys) (codes "wire") t) (any_at (lacks_one wire_keys) (codes "wire") t)
-    (is_wrong is_tables (codes "wire") t || any_at wire_wrong (codes "wire") t) false
-    (any_at wire_bad (codes "wire") t) (map wire_value (tables_at (codes "wire") t))
-wires-judged t =
-    array-judged wire_in (has_unknown wire_keys) (lacks_one wire_keys) wire_wrong wire_bad wire_value wire_in-judged
-    (get_member (codes "wire") t)
+arrays-judged : {A : Type 0} (part : Members → Reading A) (names : Names) (wrong number message : Members → Bool)
+    (value : Members → A)
+    → ((t : Members) → part t ≡ judged (table_tests names wrong number message t) (value t))
+    → (key : List ℕ) (t : Members)
+    → array_at part key t ≡ judged (array_tests names wrong number message key t) (map value (tables_at key t))
+arrays-judged part names wrong number message value parts key t =
+    array-judged part (has_unknown names) (lacks_one names) wrong number message value parts (get_member key t)
 
-holds-judged : (t : Members) → array_at hold_in (codes "hold") t
-    ≡ judged (any_at (has_unknown hold_keys) (codes "hold") t) (any_at (lacks_one hold_keys) (codes "hold") t)
-    (is_wrong is_tables (codes "hold") t || any_at hold_wrong (codes "hold") t) false
-    (any_at hold_bad (codes "hold") t) (map hold_value (tables_at (codes "hold") t))
-holds-judged t =
-    array-judged hold_in (has_unknown hold_keys) (lacks_one hold_keys) hold_wrong hold_bad hold_value hold_in-judged
-    (get_member (codes "hold") t)
+-- the tests of the nodes, wires, sources, sinks and holds
+abbrev nodes_tests : Members → Tests
+nodes_tests t = array_tests node_keys node_wrong node_bad no_message (codes "node") t
 
--- the order of the tests
-one_by_one : (a b c d : Bool) → (a || (b || (c || d))) ≡ (a || b || c || d)
-one_by_one true b c d = refl
-one_by_one false true c d = refl
-one_by_one false false c d = refl
+abbrev wires_tests : Members → Tests
+wires_tests t = array_tests wire_keys wire_wrong wire_bad no_message (codes "wire") t
 
-wrong_by_kind : (v s n w h x y z : Bool)
-    → ((v || s) || ((n || x) || ((w || y) || (h || z)))) ≡ ((v || s || n || w || h) || x || y || z)
-wrong_by_kind true s n w h x y z = refl
-wrong_by_kind false true n w h x y z = refl
-wrong_by_kind false false true w h x y z = refl
-wrong_by_kind false false false true h true y z = refl
-wrong_by_kind false false false true h false y z = refl
-wrong_by_kind false false false false true true y z = refl
-wrong_by_kind false false false false true false true z = refl
-wrong_by_kind false false false false true false false z = refl
-wrong_by_kind false false false false false true y z = refl
-wrong_by_kind false false false false false false true z = refl
-wrong_by_kind false false false false false false false z = refl
+abbrev sources_tests : Members → Tests
+sources_tests t = array_tests source_keys source_wrong source_bad has_bad_message (codes "source") t
 
-version_last : (b : Bool) → ((b || false) || false) ≡ b
-version_last true = refl
-version_last false = refl
+abbrev sinks_tests : Members → Tests
+sinks_tests t = array_tests sink_keys sink_wrong sink_bad no_message (codes "sink") t
 
-abbrev pub Arrays : Type 0
-Arrays = List WiringNode × (List Wire × List Hold)
-
-abbrev pub wiring_from : ℕ × Arrays → Wiring
-wiring_from p = record { timeslice = p.0; nodes = p.1.0; wires = p.1.1.0; holds = p.1.1.1 }
-
--- a test at the tables of each array
-abbrev in_arrays : (Members → Bool) → (Members → Bool) → (Members → Bool) → Members → Bool
-in_arrays node wire hold t =
-    any_at node (codes "node") t || (any_at wire (codes "wire") t || any_at hold (codes "hold") t)
-
-abbrev arrays_wrong : Members → Bool
-arrays_wrong t =
-    (is_wrong is_tables (codes "node") t || any_at node_wrong (codes "node") t)
-    || ((is_wrong is_tables (codes "wire") t || any_at wire_wrong (codes "wire") t)
-    || (is_wrong is_tables (codes "hold") t || any_at hold_wrong (codes "hold") t))
+abbrev holds_tests : Members → Tests
+holds_tests t = array_tests hold_keys hold_wrong hold_bad no_message (codes "hold") t
 
 abbrev arrays_value : Members → Arrays
 arrays_value t = (
-  map node_value (tables_at (codes "node") t),
-  (map wire_value (tables_at (codes "wire") t), map hold_value (tables_at (codes "hold") t)),
+  (map node_value (tables_at (codes "node") t), map wire_value (tables_at (codes "wire") t)),
+  (
+    (map source_value (tables_at (codes "source") t), map sink_value (tables_at (codes "sink") t)),
+    map hold_value (tables_at (codes "hold") t),
+  ),
 )
 
+ends_in-judged : (t : Members)
+    → ends_in t ≡ judged (either (sources_tests t) (sinks_tests t)) (arrays_value t).1.0
+ends_in-judged t =
+    ap₂ both
+    (arrays-judged source_in source_keys source_wrong source_bad has_bad_message source_value source_in-judged
+    (codes "source") t)
+    (arrays-judged sink_in sink_keys sink_wrong sink_bad no_message sink_value sink_in-judged (codes "sink") t)
+    ∙ both-judged _ _ _ _
+
 arrays_in-judged : (t : Members) → arrays_in t
-    ≡ judged (in_arrays (has_unknown node_keys) (has_unknown wire_keys) (has_unknown hold_keys) t)
-    (in_arrays (lacks_one node_keys) (lacks_one wire_keys) (lacks_one hold_keys) t) (arrays_wrong t) false
-    (in_arrays node_bad wire_bad hold_bad t) (arrays_value t)
+    ≡ judged
+    (either (either (nodes_tests t) (wires_tests t))
+    (either (either (sources_tests t) (sinks_tests t)) (holds_tests t))) (arrays_value t)
 arrays_in-judged t =
-    let nu : Bool = any_at (has_unknown node_keys) (codes "node") t in
-    let nm : Bool = any_at (lacks_one node_keys) (codes "node") t in
-    let nw : Bool = is_wrong is_tables (codes "node") t || any_at node_wrong (codes "node") t in
-    let nb : Bool = any_at node_bad (codes "node") t in
-    let wu : Bool = any_at (has_unknown wire_keys) (codes "wire") t in
-    let wm : Bool = any_at (lacks_one wire_keys) (codes "wire") t in
-    let ww : Bool = is_wrong is_tables (codes "wire") t || any_at wire_wrong (codes "wire") t in
-    let wb : Bool = any_at wire_bad (codes "wire") t in
-    let hu : Bool = any_at (has_unknown hold_keys) (codes "hold") t in
-    let hm : Bool = any_at (lacks_one hold_keys) (codes "hold") t in
-    let hw : Bool = is_wrong is_tables (codes "hold") t || any_at hold_wrong (codes "hold") t in
-    let hb : Bool = any_at hold_bad (codes "hold") t in
-    ap₂ both (nodes-judged t) (ap₂ both (wires-judged t) (holds-judged t)
-    ∙ both-judged wu wm ww false wb hu hm hw false hb (arrays_value t).1.0 (arrays_value t).1.1)
-    ∙ both-judged nu nm nw false nb (wu || hu) (wm || hm) (ww || hw) false (wb || hb) (arrays_value t).0
-    (arrays_value t).1
+    ap₂ both
+    (ap₂ both
+    (arrays-judged node_in node_keys node_wrong node_bad no_message node_value node_in-judged (codes "node") t)
+    (arrays-judged wire_in wire_keys wire_wrong wire_bad no_message wire_value wire_in-judged (codes "wire") t)
+    ∙ both-judged _ _ _ _)
+    (ap₂ both (ends_in-judged t)
+    (arrays-judged hold_in hold_keys hold_wrong hold_bad no_message hold_value hold_in-judged (codes "hold") t)
+    ∙ both-judged _ _ _ _)
+    ∙ both-judged _ _ _ _
+
+-- the order of the tests
+one_by_one : (r n w s k h : Bool) → (r || ((n || w) || ((s || k) || h))) ≡ (r || n || w || s || k || h)
+one_by_one true n w s k h = refl
+one_by_one false true w s k h = refl
+one_by_one false false true s k h = refl
+one_by_one false false false true k h = refl
+one_by_one false false false false true h = refl
+one_by_one false false false false false h = refl
+
+-- kinds first
+kinds_first : (a x b y : Bool) → ((a || x) || (b || y)) ≡ ((a || b) || (x || y))
+kinds_first true x b y = refl
+kinds_first false true true y = refl
+kinds_first false true false y = refl
+kinds_first false false b y = refl
+
+wrong_by_kind : (r a x b y c z d p e q : Bool)
+    → (r || (((a || x) || (b || y)) || (((c || z) || (d || p)) || (e || q))))
+    ≡ ((r || a || b || c || d || e) || x || y || z || p || q)
+wrong_by_kind r a x b y c z d p e q =
+    ap (λ k. r || k)
+    (ap₂ (λ k l. k || l) (kinds_first a x b y)
+    (ap (λ k. k || (e || q)) (kinds_first c z d p) ∙ kinds_first (c || d) (z || p) e q)
+    ∙ kinds_first (a || b) (x || y) ((c || d) || e) ((z || p) || q))
+    ∙ sym (or_assoc r ((a || b) || ((c || d) || e)) ((x || y) || ((z || p) || q)))
+    ∙ ap (λ k. k || ((x || y) || ((z || p) || q))) (one_by_one r a b c d e)
+    ∙ one_by_one (r || a || b || c || d || e) x y z p q
+
+-- only sources have messages
+none_of : (ts : List Members) → list_any no_message ts ≡ false
+none_of [] = refl
+none_of (t ∷ ts) = none_of ts
+
+sources_alone : (n w s k h : Bool) → n ≡ false → w ≡ false → k ≡ false → h ≡ false
+    → ((n || w) || ((s || k) || h)) ≡ s
+sources_alone n w s k h a b c d =
+    ap₂ (λ l m. l || m) (ap₂ (λ n w. n || w) a b) (ap₂ (λ l h. l || h) (ap (λ k. s || k) c ∙ or-false s) d ∙ or-false s)
+
+abbrev pub wiring_from : ℕ × Arrays → Wiring
+wiring_from p =
+    record {
+      timeslice = p.0;
+      nodes = p.1.0.0;
+      wires = p.1.0.1;
+      sources = p.1.1.0.0;
+      sinks = p.1.1.0.1;
+      holds = p.1.1.1;
+    }
+
+-- a test of the whole, and of the tables of each array
+abbrev anywhere : Bool → (Members → Bool) → (Members → Bool) → (Members → Bool) → (Members → Bool) → (Members → Bool)
+    → Members → Bool
+anywhere root node wire source sink hold t =
+    root || any_at node (codes "node") t || any_at wire (codes "wire") t || any_at source (codes "source") t
+    || any_at sink (codes "sink") t
+    || any_at hold (codes "hold") t
+
+-- the tests of a wiring, as the definition has them
+abbrev whole_tests : Members → Tests
+whole_tests t =
+    record {
+      unknown = anywhere (has_unknown (root_keys t) t) (has_unknown node_keys) (has_unknown wire_keys)
+          (has_unknown source_keys) (has_unknown sink_keys) (has_unknown hold_keys) t;
+      missing = anywhere (lacks_one (codes "version" ∷ []) t) (lacks_one node_keys) (lacks_one wire_keys)
+          (lacks_one source_keys) (lacks_one sink_keys) (lacks_one hold_keys) t;
+      wrong = has_wrong_type t;
+      version = is_wrong is_version (codes "version") t;
+      number = anywhere (is_bad (codes "timeslice") t) node_bad wire_bad source_bad sink_bad hold_bad t;
+      message = any_at has_bad_message (codes "source") t;
+    }
+
+wiring_in-judged : (t : Members) → wiring_in t ≡ judged (whole_tests t) (wiring_value t)
+wiring_in-judged t =
+    let n : Tests = nodes_tests t in
+    let w : Tests = wires_tests t in
+    let s : Tests = sources_tests t in
+    let k : Tests = sinks_tests t in
+    let h : Tests = holds_tests t in
+    let no_tables : List ℕ → Bool = λ key. is_wrong is_tables key t in
+    ap (λ p. known (root_keys t) t (made wiring_from p))
+    (ap₂ both (head_in-judged t) (arrays_in-judged t) ∙ both-judged _ _ _ _)
+    ∙ ap (known (root_keys t) t) (made-judged wiring_from _ _)
+    ∙ known-judged (root_keys t) t _ _
+    ∙ same_judged _ (whole_tests t) _
+    (one_by_one (has_unknown (root_keys t) t) n.unknown w.unknown s.unknown k.unknown h.unknown)
+    (one_by_one (lacks_one (codes "version" ∷ []) t) n.missing w.missing s.missing k.missing h.missing)
+    (wrong_by_kind (head_tests t).wrong (no_tables (codes "node")) (any_at node_wrong (codes "node") t)
+    (no_tables (codes "wire")) (any_at wire_wrong (codes "wire") t)
+    (no_tables (codes "source")) (any_at source_wrong (codes "source") t)
+    (no_tables (codes "sink")) (any_at sink_wrong (codes "sink") t)
+    (no_tables (codes "hold")) (any_at hold_wrong (codes "hold") t))
+    (or-false (is_wrong is_version (codes "version") t))
+    (one_by_one (is_bad (codes "timeslice") t) n.number w.number s.number k.number h.number)
+    (sources_alone n.message w.message s.message k.message h.message (none_of (tables_at (codes "node") t))
+    (none_of (tables_at (codes "wire") t)) (none_of (tables_at (codes "sink") t))
+    (none_of (tables_at (codes "hold") t)))
 
 -- each wiring by its parts
 pub wiring_in-whole : (t : Members) → wiring_in t ≡ wiring_of t
-unfolding wiring_of
-wiring_in-whole t =
-    let v : Option Data = get_member (codes "version") t in
-    let s : Option Data = slice_of t in
-    let au : Bool = in_arrays (has_unknown node_keys) (has_unknown wire_keys) (has_unknown hold_keys) t in
-    let rm : Bool = lacks_one (codes "version" ∷ []) t in
-    let am : Bool = in_arrays (lacks_one node_keys) (lacks_one wire_keys) (lacks_one hold_keys) t in
-    let rt : Bool = fails is_integer v || fails is_integer s in
-    let rv : Bool = fails is_version v || false in
-    let rb : Bool = is_bad (codes "timeslice") t in
-    let ab : Bool = in_arrays node_bad wire_bad hold_bad t in
-    let value : ℕ × Arrays = (number_of s default_timeslice, arrays_value t) in
-    ap (λ (p : Reading (ℕ × Arrays)). known root_keys t (made wiring_from p))
-    (ap₂ both (head_in-judged t) (arrays_in-judged t)
-    ∙ both-judged false rm rt rv rb au am (arrays_wrong t) false ab value.0 value.1)
-    ∙ ap (known root_keys t)
-    (made-judged wiring_from au (rm || am) (rt || arrays_wrong t) (rv || false) (rb || ab) value)
-    ∙ known-judged root_keys t au (rm || am) (rt || arrays_wrong t) (rv || false) (rb || ab) (wiring_from value)
-    ∙ same_judged (has_unknown root_keys t || au) _ (rm || am) _ (rt || arrays_wrong t) _ (rv || false)
-    (fails is_version v) (rb || ab) _ (wiring_from value) (wiring_value t)
-    (one_by_one (has_unknown root_keys t) (any_at (has_unknown node_keys) (codes "node") t)
-    (any_at (has_unknown wire_keys) (codes "wire") t) (any_at (has_unknown hold_keys) (codes "hold") t))
-    (one_by_one rm (any_at (lacks_one node_keys) (codes "node") t) (any_at (lacks_one wire_keys) (codes "wire") t)
-    (any_at (lacks_one hold_keys) (codes "hold") t))
-    (wrong_by_kind (fails is_integer v) (fails is_integer s) (is_wrong is_tables (codes "node") t)
-    (is_wrong is_tables (codes "wire") t) (is_wrong is_tables (codes "hold") t)
-    (any_at node_wrong (codes "node") t) (any_at wire_wrong (codes "wire") t) (any_at hold_wrong (codes "hold") t))
-    (version_last (fails is_version v))
-    (one_by_one rb (any_at node_bad (codes "node") t) (any_at wire_bad (codes "wire") t)
-    (any_at hold_bad (codes "hold") t))
-    refl
+unfolding judged wiring_of
+wiring_in-whole t = wiring_in-judged t

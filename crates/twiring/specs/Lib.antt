@@ -1,4 +1,5 @@
 -- What a wiring file means.
+pub mod Messages
 pub mod Wirings
 pub mod WiringParts
 pub mod WiringExamples

@@ -1,10 +1,11 @@
 -- Wirings that the definitions compute.
-use Rattle.std.specs.Prelude.{ℕ, ◌≡◌, pos, List, [], ◌∷◌, ◌++◌, Ok, Err, refl, codes}
-use Rattle.toml.specs.Data.{string, integer, array, table, no_items, item, Members, no_members, member}
+use Rattle.std.specs.Prelude.{ℕ, ◌≡◌, pos, List, [], ◌∷◌, ◌++◌, Ok, Err, Some, None, refl, codes, replicate}
+use Rattle.toml.specs.Data.{string, integer, array, table, no_items, item, Data, Members, no_members, member}
 use Rattle.toml.proofs.OnLiterals.{toml_on_literals}
 use Rattle.tplan.specs.declared.event.PacketKind.TheVariants as kind
 use Rattle.tplan.specs.declared.wiring.WiringFault.TheVariants.{Syntax, UnknownKey, MissingKey, WrongType, BadVersion}
-use Rattle.tplan.specs.declared.wiring.WiringFault.TheVariants.{BadNumber}
+use Rattle.tplan.specs.declared.wiring.WiringFault.TheVariants.{BadNumber, BadMessage}
+use Rattle.twiring.specs.Messages.{message_of}
 use Rattle.twiring.specs.Wirings.{wiring_of, wiring_of_text}
 
 -- lines of a text
@@ -24,13 +25,38 @@ whole-read : wiring_of_text whole
       timeslice = 512;
       nodes = record { memory = 2048; image = codes "a.img" } ∷ [];
       wires = record { a = record { node = 0; link = 1 }; b = record { node = 1; link = 2 } } ∷ [];
+      sources = [];
+      sinks = [];
       holds = record { «end» = record { node = 1; link = 2 }; kind = kind.Data; from = 1; until = 5 } ∷ [];
     })
 unfolding toml_on_literals wiring_of
 whole-read = refl
 
+-- a wiring with sources and sinks
+abbrev second : List ℕ
+second =
+    lines (codes "version = 2" ∷ codes "[[node]]" ∷ codes "memory = 2048" ∷ codes "image = 'a.img'"
+    ∷ codes "[[source]]" ∷ codes "end = [0, 2]" ∷ codes "messages = ['01020304', '0aFf']"
+    ∷ codes "[[sink]]" ∷ codes "end = [0, 1]" ∷ codes "capacity = 64" ∷ [])
+
+second-read : wiring_of_text second
+    ≡ Ok (record {
+      timeslice = 1024;
+      nodes = record { memory = 2048; image = codes "a.img" } ∷ [];
+      wires = [];
+      sources = record {
+        «end» = record { node = 0; link = 2 };
+        messages = (1 ∷ 2 ∷ 3 ∷ 4 ∷ []) ∷ (10 ∷ 255 ∷ []) ∷ [];
+      } ∷ [];
+      sinks = record { «end» = record { node = 0; link = 1 }; capacity = 64 } ∷ [];
+      holds = [];
+    })
+unfolding toml_on_literals wiring_of
+second-read = refl
+
 -- what may be absent
-least-read : wiring_of_text (codes "version = 1") ≡ Ok (record { timeslice = 1024; nodes = []; wires = []; holds = [] })
+least-read : wiring_of_text (codes "version = 1")
+    ≡ Ok (record { timeslice = 1024; nodes = []; wires = []; sources = []; sinks = []; holds = [] })
 unfolding toml_on_literals wiring_of
 least-read = refl
 
@@ -42,6 +68,10 @@ no_toml = refl
 -- a table of an array with a single entry
 abbrev one_of : List ℕ → Members → Members → Members
 one_of key t rest = member key (array (item (table t) no_items)) rest
+
+-- one member more
+abbrev version_is : ℕ → Members → Members
+version_is v rest = member (codes "version") (integer (pos v)) rest
 
 unknown_first : wiring_of
     (one_of (codes "hold") (member (codes "to") (integer (pos 1)) no_members)
@@ -61,7 +91,7 @@ unfolding wiring_of
 wrong_type_next = refl
 
 bad_version_next : wiring_of
-    (member (codes "timeslice") (integer (pos 4294967296)) (member (codes "version") (integer (pos 2)) no_members))
+    (member (codes "timeslice") (integer (pos 4294967296)) (member (codes "version") (integer (pos 3)) no_members))
     ≡ Err BadVersion
 unfolding wiring_of
 bad_version_next = refl
@@ -74,6 +104,119 @@ bad_number_last = refl
 
 greatest_number : wiring_of
     (member (codes "timeslice") (integer (pos 4294967295)) (member (codes "version") (integer (pos 1)) no_members))
-    ≡ Ok (record { timeslice = 4294967295; nodes = []; wires = []; holds = [] })
+    ≡ Ok (record { timeslice = 4294967295; nodes = []; wires = []; sources = []; sinks = []; holds = [] })
 unfolding wiring_of
 greatest_number = refl
+
+-- the messages, for a source at the end of a link
+abbrev source_of : Data → Members
+source_of messages =
+    member (codes "end") (array (item (integer (pos 0)) (item (integer (pos 2)) no_items)))
+    (member (codes "messages") messages no_members)
+
+-- a wiring of a version with a source of one message
+abbrev offers : ℕ → List ℕ → Members
+offers v message =
+    one_of (codes "source") (source_of (array (item (string message) no_items))) (version_is v no_members)
+
+-- digits of either case, and of both
+lower_case : message_of (codes "0123456789abcdef") ≡ Some (1 ∷ 35 ∷ 69 ∷ 103 ∷ 137 ∷ 171 ∷ 205 ∷ 239 ∷ [])
+lower_case = refl
+
+upper_case : message_of (codes "ABCDEF") ≡ Some (171 ∷ 205 ∷ 239 ∷ [])
+upper_case = refl
+
+mixed_case : message_of (codes "aBCd") ≡ Some (171 ∷ 205 ∷ [])
+mixed_case = refl
+
+-- texts that are no message
+empty : message_of [] ≡ None
+empty = refl
+
+half_a_pair : message_of (codes "012") ≡ None
+half_a_pair = refl
+
+no_digit : message_of (codes "0g") ≡ None
+no_digit = refl
+
+blank : message_of (codes "01 02") ≡ None
+blank = refl
+
+longest : message_of (replicate 8192 48) ≡ Some (replicate 4096 0)
+longest = refl
+
+too_long : message_of (replicate 8194 48) ≡ None
+too_long = refl
+
+-- version 1 has no source and no sink, whatever they are
+no_source_at_first : wiring_of (offers 1 (codes "05")) ≡ Err UnknownKey
+unfolding wiring_of
+no_source_at_first = refl
+
+no_sink_at_first : wiring_of (member (codes "sink") (integer (pos 0)) (version_is 1 no_members)) ≡ Err UnknownKey
+unfolding wiring_of
+no_sink_at_first = refl
+
+-- under no version and under other ones keys are those of version 2
+without_version : wiring_of (member (codes "sink") (integer (pos 0)) no_members) ≡ Err MissingKey
+unfolding wiring_of
+without_version = refl
+
+version_of_wrong_type : wiring_of
+    (member (codes "sink") (integer (pos 0)) (member (codes "version") (string []) no_members)) ≡ Err WrongType
+unfolding wiring_of
+version_of_wrong_type = refl
+
+third_version : wiring_of (offers 3 (codes "05")) ≡ Err BadVersion
+unfolding wiring_of
+third_version = refl
+
+-- faults of sources and sinks
+source_without_messages : wiring_of
+    (one_of (codes "source") (member (codes "end") (string []) no_members) (version_is 2 no_members)) ≡ Err MissingKey
+unfolding wiring_of
+source_without_messages = refl
+
+sink_with_messages : wiring_of (one_of (codes "sink") (source_of (string [])) (version_is 2 no_members))
+    ≡ Err UnknownKey
+unfolding wiring_of
+sink_with_messages = refl
+
+messages_no_list : wiring_of (one_of (codes "source") (source_of (string (codes "05"))) (version_is 2 no_members))
+    ≡ Err WrongType
+unfolding wiring_of
+messages_no_list = refl
+
+message_no_text : wiring_of
+    (one_of (codes "source") (source_of (array (item (string []) (item (integer (pos 5)) no_items))))
+    (version_is 2 no_members)) ≡ Err WrongType
+unfolding wiring_of
+message_no_text = refl
+
+-- a source with a bad message, and a sink of some capacity
+abbrev with_capacity : ℕ → Members
+with_capacity capacity =
+    one_of (codes "sink")
+    (member (codes "capacity") (integer (pos capacity))
+    (member (codes "end") (array (item (integer (pos 0)) (item (integer (pos 1)) no_items))) no_members))
+    (offers 2 (codes "0g"))
+
+bad_capacity_next : wiring_of (with_capacity 4294967296) ≡ Err BadNumber
+unfolding wiring_of
+bad_capacity_next = refl
+
+bad_message_last : wiring_of (with_capacity 64) ≡ Err BadMessage
+unfolding wiring_of
+bad_message_last = refl
+
+no_messages : wiring_of (one_of (codes "source") (source_of (array no_items)) (version_is 2 no_members))
+    ≡ Ok (record {
+      timeslice = 1024;
+      nodes = [];
+      wires = [];
+      sources = record { «end» = record { node = 0; link = 2 }; messages = [] } ∷ [];
+      sinks = [];
+      holds = [];
+    })
+unfolding wiring_of
+no_messages = refl

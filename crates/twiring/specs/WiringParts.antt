@@ -1,19 +1,23 @@
 -- A wiring by its parts: what a key or a table stands for, or the lowest fault in it.
 -- Source: own choice.
-use Rattle.std.specs.Prelude.{ℕ, ℤ, pos, negsuc, ◌^◌, ◌==◌, nat_lt, List, [], ◌∷◌, ◌++◌, Option, Some, None, Result, Ok}
-use Rattle.std.specs.Prelude.{Err, codes, bytes_eq, if◌then◌else◌}
+use Rattle.std.specs.Prelude.{ℕ, ℤ, pos, negsuc, ◌^◌, ◌==◌, ◌||◌, nat_lt, List, [], ◌∷◌, ◌++◌, Option, Some, None}
+use Rattle.std.specs.Prelude.{Result, Ok, Err, codes, bytes_eq, if◌then◌else◌}
 use Rattle.toml.specs.Data.{Data, string, integer, array, table, Items, no_items, item, Members, get_member}
 use Rattle.tplan.specs.declared.plan.End.{End}
 use Rattle.tplan.specs.declared.plan.Wire.{Wire}
+use Rattle.tplan.specs.declared.plan.SourcePlan.{SourcePlan}
+use Rattle.tplan.specs.declared.plan.SinkPlan.{SinkPlan}
 use Rattle.tplan.specs.declared.event.PacketKind.{PacketKind}
 use Rattle.tplan.specs.declared.event.PacketKind.TheVariants as kind
 use Rattle.tplan.specs.declared.event.Hold.{Hold}
 use Rattle.tplan.specs.declared.wiring.WiringFault.{WiringFault}
 use Rattle.tplan.specs.declared.wiring.WiringFault.TheVariants.{OutOfMemory, Syntax, UnknownKey, MissingKey, WrongType}
-use Rattle.tplan.specs.declared.wiring.WiringFault.TheVariants.{BadVersion, BadNumber}
+use Rattle.tplan.specs.declared.wiring.WiringFault.TheVariants.{BadVersion, BadNumber, BadMessage}
 use Rattle.tplan.specs.declared.wiring.Wiring.{Wiring}
 use Rattle.tplan.specs.declared.wiring.WiringNode.{WiringNode}
-use Rattle.twiring.specs.Wirings.{Names, has_unknown, root_keys, node_keys, wire_keys, hold_keys, default_timeslice}
+use Rattle.twiring.specs.Messages.{message_of}
+use Rattle.twiring.specs.Wirings.{Names, has_unknown, root_keys, node_keys, wire_keys, source_keys, sink_keys}
+use Rattle.twiring.specs.Wirings.{hold_keys, default_timeslice}
 
 -- what a part stands for, or its lowest fault
 abbrev pub Reading : Type 0 → Type 0
@@ -28,6 +32,7 @@ rank MissingKey = 3
 rank WrongType = 4
 rank BadVersion = 5
 rank BadNumber = 6
+rank BadMessage = 7
 
 -- the lower of two faults
 abbrev pub lower : WiringFault → WiringFault → WiringFault
@@ -87,14 +92,46 @@ abbrev pub kind_in : Data → Reading PacketKind
 kind_in (string s) = kind_of_text s
 kind_in _ = Err WrongType
 
--- the version, which is 1
+-- a message
+abbrev pub message : Option (List ℕ) → Reading (List ℕ)
+message (Some bytes) = Ok bytes
+message None = Err BadMessage
+
+abbrev pub message_in : Data → Reading (List ℕ)
+message_in (string s) = message (message_of s)
+message_in _ = Err WrongType
+
+-- the version, which is 1 or 2
 abbrev pub version : ℤ → Reading (Unit {0})
-version (pos n) = if n == 1 then Ok tt else Err BadVersion
+version (pos n) = if n == 1 || n == 2 then Ok tt else Err BadVersion
 version (negsuc n) = Err BadVersion
 
 abbrev pub version_in : Data → Reading (Unit {0})
 version_in (integer z) = version z
 version_in _ = Err WrongType
+
+-- a table of an array
+abbrev pub table_in : {A : Type 0} → (Members → Reading A) → Data → Reading A
+table_in part (table t) = part t
+table_in part _ = Err WrongType
+
+-- one more part behind those before it
+abbrev pub one_more : {A : Type 0} → Reading (List A) → Reading A → Reading (List A)
+one_more found next = made (λ p. p.0 ++ p.1 ∷ []) (both found next)
+
+-- the items of an array behind those before it
+abbrev pub more_in : {A : Type 0} → (Data → Reading A) → Reading (List A) → Items → Reading (List A)
+more_in part found no_items = found
+more_in part found (item d rest) = more_in part (one_more found (part d)) rest
+
+-- an array
+abbrev pub array_in : {A : Type 0} → (Data → Reading A) → Data → Reading (List A)
+array_in part (array items) = more_in part (Ok []) items
+array_in part _ = Err WrongType
+
+-- the tables at a key, none where it is absent
+abbrev pub array_at : {A : Type 0} → (Members → Reading A) → List ℕ → Members → Reading (List A)
+array_at part key t = value_or (Ok []) (array_in (table_in part)) (get_member key t)
 
 -- a node
 abbrev pub node_in : Members → Reading WiringNode
@@ -108,6 +145,18 @@ wire_in t =
     known wire_keys t (made (λ p. record { a = p.0; b = p.1 })
     (both (required end_in (codes "a") t) (required end_in (codes "b") t)))
 
+-- a source
+abbrev pub source_in : Members → Reading SourcePlan
+source_in t =
+    known source_keys t (made (λ p. record { «end» = p.0; messages = p.1 })
+    (both (required end_in (codes "end") t) (required (array_in message_in) (codes "messages") t)))
+
+-- a sink
+abbrev pub sink_in : Members → Reading SinkPlan
+sink_in t =
+    known sink_keys t (made (λ p. record { «end» = p.0; capacity = p.1 })
+    (both (required end_in (codes "end") t) (required number_in (codes "capacity") t)))
+
 -- where packets are held, and for which rounds
 abbrev pub held_in : Members → Reading ((End × PacketKind) × (ℕ × ℕ))
 held_in t =
@@ -120,29 +169,6 @@ hold_in t =
     known hold_keys t
     (made (λ p. record { «end» = p.0.0; kind = p.0.1; from = p.1.0; until = p.1.1 }) (held_in t))
 
--- a table of an array
-abbrev pub table_in : {A : Type 0} → (Members → Reading A) → Data → Reading A
-table_in part (table t) = part t
-table_in part _ = Err WrongType
-
--- one more part behind those before it
-abbrev pub one_more : {A : Type 0} → Reading (List A) → Reading A → Reading (List A)
-one_more found next = made (λ p. p.0 ++ p.1 ∷ []) (both found next)
-
--- the tables of an array behind those before it
-abbrev pub more_in : {A : Type 0} → (Members → Reading A) → Reading (List A) → Items → Reading (List A)
-more_in part found no_items = found
-more_in part found (item d rest) = more_in part (one_more found (table_in part d)) rest
-
--- an array of tables
-abbrev pub array_in : {A : Type 0} → (Members → Reading A) → Data → Reading (List A)
-array_in part (array items) = more_in part (Ok []) items
-array_in part _ = Err WrongType
-
--- the tables at a key, none where it is absent
-abbrev pub array_at : {A : Type 0} → (Members → Reading A) → List ℕ → Members → Reading (List A)
-array_at part key t = value_or (Ok []) (array_in part) (get_member key t)
-
 -- the version and the timeslice
 abbrev pub head_in : Members → Reading ℕ
 head_in t =
@@ -150,15 +176,29 @@ head_in t =
     (both (required version_in (codes "version") t)
     (value_or (Ok default_timeslice) number_in (get_member (codes "timeslice") t)))
 
--- nodes, wires and holds
-abbrev pub arrays_in : Members → Reading (List WiringNode × (List Wire × List Hold))
+-- what stands at the ends of links
+abbrev pub ends_in : Members → Reading (List SourcePlan × List SinkPlan)
+ends_in t = both (array_at source_in (codes "source") t) (array_at sink_in (codes "sink") t)
+
+-- nodes, wires, sources, sinks and holds
+abbrev pub Arrays : Type 0
+Arrays = (List WiringNode × List Wire) × ((List SourcePlan × List SinkPlan) × List Hold)
+
+abbrev pub arrays_in : Members → Reading Arrays
 arrays_in t =
-    both (array_at node_in (codes "node") t)
-    (both (array_at wire_in (codes "wire") t) (array_at hold_in (codes "hold") t))
+    both (both (array_at node_in (codes "node") t) (array_at wire_in (codes "wire") t))
+    (both (ends_in t) (array_at hold_in (codes "hold") t))
 
 -- a wiring
 abbrev pub wiring_in : Members → Reading Wiring
 wiring_in t =
-    known root_keys t
-    (made (λ p. record { timeslice = p.0; nodes = p.1.0; wires = p.1.1.0; holds = p.1.1.1 })
+    known (root_keys t) t
+    (made (λ p. record {
+      timeslice = p.0;
+      nodes = p.1.0.0;
+      wires = p.1.0.1;
+      sources = p.1.1.0.0;
+      sinks = p.1.1.0.1;
+      holds = p.1.1.1;
+    })
     (both (head_in t) (arrays_in t)))

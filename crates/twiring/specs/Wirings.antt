@@ -1,8 +1,9 @@
 -- Which TOML tables stand for which wiring.
 -- Source: own choice, a format of this program; TOML 1.0 for its syntax.
 use Rattle.std.specs.Prelude.{ℕ, ◌≡◌, ◌⊎◌, ℤ, pos, negsuc, ◌^◌, Bool, true, false, not, ◌||◌, ◌==◌, nat_lt, List, []}
-use Rattle.std.specs.Prelude.{◌∷◌, map, Option, Some, None, Result, Ok, Err, is_none, codes, bytes_eq, if◌then◌else◌}
-use Rattle.std.specs.List.{list_any}
+use Rattle.std.specs.Prelude.{◌∷◌, map, Option, Some, None, Result, Ok, Err, is_none, codes, bytes_eq, unwrap_or}
+use Rattle.std.specs.Prelude.{if◌then◌else◌}
+use Rattle.std.specs.List.{list_any, list_all}
 use Rattle.toml.specs.Data.{Data, string, integer, array, table, Items, no_items, item, Members, no_members, member}
 use Rattle.toml.specs.Data.{get_member}
 use Rattle.toml.specs.Parse.{parse_document}
@@ -11,8 +12,9 @@ use Rattle.tplan.specs.declared.event.PacketKind.{PacketKind}
 use Rattle.tplan.specs.declared.event.PacketKind.TheVariants as kind
 use Rattle.tplan.specs.declared.wiring.WiringFault.{WiringFault}
 use Rattle.tplan.specs.declared.wiring.WiringFault.TheVariants.{OutOfMemory, Syntax, UnknownKey, MissingKey, WrongType}
-use Rattle.tplan.specs.declared.wiring.WiringFault.TheVariants.{BadVersion, BadNumber}
+use Rattle.tplan.specs.declared.wiring.WiringFault.TheVariants.{BadVersion, BadNumber, BadMessage}
 use Rattle.tplan.specs.declared.wiring.Wiring.{Wiring}
+use Rattle.twiring.specs.Messages.{message_of}
 
 -- the names of some keys
 abbrev pub Names : Type 0
@@ -22,9 +24,21 @@ Names = List (List ℕ)
 abbrev pub is_one_of : List ℕ → Names → Bool
 is_one_of key names = list_any (λ n. bytes_eq n key) names
 
+-- the version is 1
+abbrev pub is_first : Option Data → Bool
+is_first (Some (integer (pos n))) = n == 1
+is_first _ = false
+
+-- the keys of the whole, where the version is 1 and where not
+abbrev pub root_keys_of : Bool → Names
+root_keys_of true = codes "version" ∷ codes "timeslice" ∷ codes "node" ∷ codes "wire" ∷ codes "hold" ∷ []
+root_keys_of false =
+    codes "version" ∷ codes "timeslice" ∷ codes "node" ∷ codes "wire" ∷ codes "source" ∷ codes "sink" ∷ codes "hold"
+    ∷ []
+
 -- the keys of the whole
-abbrev pub root_keys : Names
-root_keys = codes "version" ∷ codes "timeslice" ∷ codes "node" ∷ codes "wire" ∷ codes "hold" ∷ []
+abbrev pub root_keys : Members → Names
+root_keys t = root_keys_of (is_first (get_member (codes "version") t))
 
 -- the keys of a node
 abbrev pub node_keys : Names
@@ -33,6 +47,14 @@ node_keys = codes "memory" ∷ codes "image" ∷ []
 -- the keys of a wire
 abbrev pub wire_keys : Names
 wire_keys = codes "a" ∷ codes "b" ∷ []
+
+-- the keys of a source
+abbrev pub source_keys : Names
+source_keys = codes "end" ∷ codes "messages" ∷ []
+
+-- the keys of a sink
+abbrev pub sink_keys : Names
+sink_keys = codes "end" ∷ codes "capacity" ∷ []
 
 -- the keys of a hold
 abbrev pub hold_keys : Names
@@ -62,11 +84,14 @@ has_unknown names (member key d rest) = not (is_one_of key names) || has_unknown
 abbrev pub lacks_one : Names → Members → Bool
 lacks_one names t = list_any (λ name. is_none (get_member name t)) names
 
--- a test of the whole, and of each node, wire and hold
-abbrev pub somewhere : (Members → Bool) → (Members → Bool) → (Members → Bool) → (Members → Bool) → Members → Bool
-somewhere root node wire hold t =
-    root t || list_any node (tables_at (codes "node") t) || list_any wire (tables_at (codes "wire") t) || list_any hold
-    (tables_at (codes "hold") t)
+-- a test of the whole, and of each node, wire, source, sink and hold
+abbrev pub somewhere : (Members → Bool) → (Members → Bool) → (Members → Bool) → (Members → Bool) → (Members → Bool)
+    → (Members → Bool) → Members → Bool
+somewhere root node wire source sink hold t =
+    root t || list_any node (tables_at (codes "node") t) || list_any wire (tables_at (codes "wire") t)
+    || list_any source (tables_at (codes "source") t)
+    || list_any sink (tables_at (codes "sink") t)
+    || list_any hold (tables_at (codes "hold") t)
 
 -- a value is an integer
 abbrev pub is_integer : Data → Bool
@@ -87,6 +112,21 @@ is_end _ = false
 abbrev pub is_kind : Data → Bool
 is_kind (string s) = bytes_eq s (codes "data") || bytes_eq s (codes "ack")
 is_kind _ = false
+
+-- the items of a list
+abbrev pub items_in : Items → List Data
+items_in no_items = []
+items_in (item d rest) = d ∷ items_in rest
+
+-- the items of a value
+abbrev pub items_of : Option Data → List Data
+items_of (Some (array items)) = items_in items
+items_of _ = []
+
+-- a value is a list of texts
+abbrev pub is_texts : Data → Bool
+is_texts (array items) = list_all is_text (items_in items)
+is_texts _ = false
 
 -- each item is a table
 abbrev pub are_tables : Items → Bool
@@ -113,9 +153,13 @@ abbrev pub has_wrong_type : Members → Bool
 has_wrong_type t =
     somewhere
     (λ t. is_wrong is_integer (codes "version") t || is_wrong is_integer (codes "timeslice") t || is_wrong is_tables
-    (codes "node") t || is_wrong is_tables (codes "wire") t || is_wrong is_tables (codes "hold") t)
+    (codes "node") t || is_wrong is_tables (codes "wire") t || is_wrong is_tables (codes "source") t
+    || is_wrong is_tables (codes "sink") t
+    || is_wrong is_tables (codes "hold") t)
     (λ t. is_wrong is_integer (codes "memory") t || is_wrong is_text (codes "image") t)
     (λ t. is_wrong is_end (codes "a") t || is_wrong is_end (codes "b") t)
+    (λ t. is_wrong is_end (codes "end") t || is_wrong is_texts (codes "messages") t)
+    (λ t. is_wrong is_end (codes "end") t || is_wrong is_integer (codes "capacity") t)
     (λ t. is_wrong is_end (codes "end") t || is_wrong is_kind (codes "kind") t || is_wrong is_integer (codes "from") t
     || is_wrong is_integer (codes "until") t)
     t
@@ -142,12 +186,23 @@ has_bad_number t =
     (λ t. is_bad (codes "timeslice") t)
     (λ t. is_bad (codes "memory") t)
     (λ t. is_bad (codes "a") t || is_bad (codes "b") t)
+    (λ t. is_bad (codes "end") t)
+    (λ t. is_bad (codes "end") t || is_bad (codes "capacity") t)
     (λ t. is_bad (codes "end") t || is_bad (codes "from") t || is_bad (codes "until") t)
     t
 
--- a value is the version of this format
+-- a text is no message
+abbrev pub is_bad_message : Data → Bool
+is_bad_message (string s) = is_none (message_of s)
+is_bad_message _ = false
+
+-- a source has a text that is no message
+abbrev pub has_bad_message : Members → Bool
+has_bad_message t = list_any is_bad_message (items_of (get_member (codes "messages") t))
+
+-- a value is a version of this format
 abbrev pub is_version : Data → Bool
-is_version (integer (pos n)) = n == 1
+is_version (integer (pos n)) = n == 1 || n == 2
 is_version _ = false
 
 -- a number, where the checks have passed
@@ -169,6 +224,11 @@ end_of _ = record { node = 0; link = 0 }
 abbrev pub kind_of : Option Data → PacketKind
 kind_of d = if bytes_eq (text_of d) (codes "ack") then kind.Ack else kind.Data
 
+-- a message, where the checks have passed
+abbrev pub message_at : Data → List ℕ
+message_at (string s) = unwrap_or (message_of s) []
+message_at _ = []
+
 -- the number at a key
 abbrev pub number_at : List ℕ → Members → ℕ
 number_at key t = number_of (get_member key t) 0
@@ -187,6 +247,14 @@ wiring_value t =
           (tables_at (codes "node") t);
       wires = map (λ w. record { a = end_of (get_member (codes "a") w); b = end_of (get_member (codes "b") w) })
           (tables_at (codes "wire") t);
+      sources = map
+          (λ s. record {
+            «end» = end_of (get_member (codes "end") s);
+            messages = map message_at (items_of (get_member (codes "messages") s));
+          }) (tables_at (codes "source") t);
+      sinks = map
+          (λ s. record { «end» = end_of (get_member (codes "end") s); capacity = number_at (codes "capacity") s })
+          (tables_at (codes "sink") t);
       holds = map
           (λ h. record {
             «end» = end_of (get_member (codes "end") h);
@@ -199,13 +267,14 @@ wiring_value t =
 -- the wiring that a table stands for, or the lowest fault
 unfoldable pub wiring_of : Members → Result Wiring WiringFault
 wiring_of t =
-    if somewhere (has_unknown root_keys) (has_unknown node_keys) (has_unknown wire_keys) (has_unknown hold_keys) t
-    then Err UnknownKey
+    if somewhere (has_unknown (root_keys t)) (has_unknown node_keys) (has_unknown wire_keys) (has_unknown source_keys)
+    (has_unknown sink_keys) (has_unknown hold_keys) t then Err UnknownKey
     else if somewhere (lacks_one (codes "version" ∷ [])) (lacks_one node_keys) (lacks_one wire_keys)
-    (lacks_one hold_keys) t then Err MissingKey
+    (lacks_one source_keys) (lacks_one sink_keys) (lacks_one hold_keys) t then Err MissingKey
     else if has_wrong_type t then Err WrongType
     else if is_wrong is_version (codes "version") t then Err BadVersion
     else if has_bad_number t then Err BadNumber
+    else if list_any has_bad_message (tables_at (codes "source") t) then Err BadMessage
     else Ok (wiring_value t)
 
 -- the wiring of a text that is TOML

@@ -1,4 +1,4 @@
-//! Wiring files: nodes, wires and holds as TOML.
+//! Wiring files: nodes, wires, sources, sinks and holds as TOML.
 #![tactic(auto)]
 
 pub mod wiring;

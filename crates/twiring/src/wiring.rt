@@ -1,14 +1,17 @@
-//! Wirings: the nodes of a net, how they are joined and what is held, as TOML.
+//! Wirings: the nodes of a net, how they are joined, what feeds and drains their links and what is held, as TOML.
 
 ghost use Rattle.std.specs.Prelude.{◌≡◌, Ok, Some, None, [], codes, map, option_map, MatchResult};
 ghost use Rattle.toml.specs.Data.{get_member};
 ghost use Rattle.toml.specs.View.{view, items_view, table_view};
-ghost use Rattle.twiring.specs.Wirings.{is_one_of, default_timeslice, wiring_of_text, IsWiringAnswer};
+ghost use Rattle.twiring.specs.Messages.{of_a_message};
+ghost use Rattle.twiring.specs.Wirings.{is_one_of, is_first, root_keys, default_timeslice, wiring_of_text};
+ghost use Rattle.twiring.specs.Wirings.{IsWiringAnswer};
 ghost use Rattle.twiring.specs.WiringParts as spec;
 
+use hex::FromHexError;
 use std::alloc::Global;
 use toml::{Table, Value};
-use tplan::{End, Hold, PacketKind, Wire, Wiring, WiringFault, WiringNode};
+use tplan::{End, Hold, PacketKind, SinkPlan, SourcePlan, Wire, Wiring, WiringFault, WiringNode};
 use tword::Items;
 
 /// The timeslice of a wiring that names none (own choice).
@@ -17,15 +20,19 @@ pub const DEFAULT_TIMESLICE: u32 = 1_024;
 /// What a part of a wiring stands for, or its lowest fault.
 type Reading<T> = Result<T, WiringFault>;
 
-/// The wiring that a text stands for (own choice of format), as TOML: `version`, which is 1, `timeslice`, which may
-/// be absent,
-/// and the arrays `node` (`memory` in bytes, `image`), `wire` (its ends `a` and `b`, each a node and a link) and
-/// `hold` (`end`, `kind`, and the rounds `from` and `until`). Whether a net can be made of it is not judged here.
+/// The most bytes of a message.
+const LONGEST_MESSAGE: usize = 4_096;
+
+/// The wiring that a text stands for (own choice of format), as TOML: `version`, which is 1 or 2, `timeslice`, which
+/// may be absent, and the arrays `node` (`memory` in bytes, `image`), `wire` (its ends `a` and `b`, each a node and a
+/// link) and `hold` (`end`, `kind`, and the rounds `from` and `until`); under version 2 also `source` (`end`, which it
+/// feeds, and `messages`, each 1 to 4,096 bytes in pairs of hexadecimal digits of either case) and `sink` (`end`, and
+/// `capacity` in bytes). Whether a net can be made of it is not judged here.
 ///
 /// # Errors
 /// The first of these that holds: `Syntax`, `UnknownKey`, `MissingKey`, `WrongType`, `BadVersion`, `BadNumber` for
-/// an integer
-/// outside 0 to 4,294,967,295. `OutOfMemory` where the allocator refuses.
+/// an integer outside 0 to 4,294,967,295, `BadMessage`. Where the version is not 1, keys are judged as under version 2.
+/// `OutOfMemory` where the allocator refuses.
 pub fn read_wiring(alloc: Global, text: &str) -> Result<Wiring, WiringFault>
     ensures { IsWiringAnswer (wiring_of_text text.now) result }
 {
@@ -40,20 +47,57 @@ pub fn read_wiring(alloc: Global, text: &str) -> Result<Wiring, WiringFault>
 fn wiring(alloc: Global, root: &Table) -> Reading<Wiring>
     ensures { IsWiringAnswer (spec.wiring_in (table_view root.now)) result }
 {
-    known_keys(root, &["version", "timeslice", "node", "wire", "hold"])?;
+    known_root_keys(root)?;
     let nodes = array_at(alloc, root, "node");
     let wires = array_at(alloc, root, "wire");
+    let sources = array_at(alloc, root, "source");
+    let sinks = array_at(alloc, root, "sink");
     let holds = array_at(alloc, root, "hold");
-    let (timeslice, (nodes, (wires, holds))) = both(head(root), both(nodes, both(wires, holds)))?;
+    let net = both(nodes, wires);
+    let ends = both(sources, sinks);
+    let arrays = both(net, both(ends, holds));
+    let (timeslice, ((nodes, wires), ((sources, sinks), holds))) = both(head(root), arrays)?;
     Ok(Wiring {
         timeslice,
         nodes,
         wires,
+        sources,
+        sinks,
         holds,
     })
 }
 
-/// The timeslice of a whole whose version is 1.
+/// Each key of the whole is one of its version.
+fn known_root_keys(root: &Table) -> Reading<()>
+    ensures { result ≡ spec.known (root_keys (table_view root.now)) (table_view root.now) (Ok tt) }
+{
+    if is_first(root) {
+        known_keys(root, &["version", "timeslice", "node", "wire", "hold"])
+    } else {
+        let names = &[
+            "version",
+            "timeslice",
+            "node",
+            "wire",
+            "source",
+            "sink",
+            "hold",
+        ];
+        known_keys(root, names)
+    }
+}
+
+/// The version is 1.
+fn is_first(root: &Table) -> bool
+    ensures { result ≡ is_first (get_member (codes "version") (table_view root.now)) }
+{
+    match value_at(root, "version") {
+        Some(version) => version.as_integer() == Some(1),
+        None => false,
+    }
+}
+
+/// The timeslice of a whole whose version is 1 or 2.
 fn head(root: &Table) -> Reading<u32>
     ensures { result ≡ spec.head_in (table_view root.now) }
 {
@@ -94,6 +138,26 @@ impl Section for Wire {
     }
 }
 
+impl Section for SourcePlan {
+    ghost told = { spec.source_in };
+
+    fn read(alloc: Global, table: &Table) -> Reading<SourcePlan> {
+        known_keys(table, &["end", "messages"])?;
+        let (end, messages) = both(end_at(table, "end"), messages_at(alloc, table, "messages"))?;
+        Ok(SourcePlan { end, messages })
+    }
+}
+
+impl Section for SinkPlan {
+    ghost told = { spec.sink_in };
+
+    fn read(_alloc: Global, table: &Table) -> Reading<SinkPlan> {
+        known_keys(table, &["end", "capacity"])?;
+        let (end, capacity) = both(end_at(table, "end"), number_at(table, "capacity"))?;
+        Ok(SinkPlan { end, capacity })
+    }
+}
+
 impl Section for Hold {
     ghost told = { spec.hold_in };
 
@@ -126,7 +190,7 @@ fn array_at<T: Section>(alloc: Global, table: &Table, key: &str) -> Reading<Item
 
 /// Each value as a table.
 fn tables<T: Section>(alloc: Global, array: &[Value]) -> Reading<Items<T>>
-    ensures { IsWiringAnswer (spec.more_in T.told (Ok []) (items_view array.now)) result }
+    ensures { IsWiringAnswer (spec.more_in (spec.table_in T.told) (Ok []) (items_view array.now)) result }
 {
     let mut found = Ok(Items::new(Vec::new(alloc)));
     for value in array {
@@ -190,12 +254,12 @@ fn is_one_of(key: &str, names: &[&str]) -> bool
     names.iter().any(|name| *name == key)
 }
 
-/// The version, which has to be there and to be 1.
+/// The version, which has to be there and to be 1 or 2.
 fn version_at(root: &Table) -> Reading<()>
     ensures { result ≡ spec.required spec.version_in (codes "version") (table_view root.now) }
 {
     match required(root, "version")?.as_integer() {
-        Some(1) => Ok(()),
+        Some(1 | 2) => Ok(()),
         Some(_) => Err(WiringFault::BadVersion),
         None => Err(WiringFault::WrongType),
     }
@@ -238,6 +302,17 @@ fn text_at(alloc: Global, table: &Table, key: &str) -> Reading<Items<u8>>
     ensures { IsWiringAnswer (spec.required spec.text_in key.now (table_view table.now)) result }
 {
     text(alloc, required(table, key)?)
+}
+
+/// The messages at a key.
+fn messages_at(alloc: Global, table: &Table, key: &str) -> Reading<Items<Items<u8>>>
+    ensures { IsWiringAnswer
+        (spec.required (spec.array_in spec.message_in) key.now (table_view table.now)) result }
+{
+    let Some(array) = required(table, key)?.as_array() else {
+        return Err(WiringFault::WrongType);
+    };
+    messages(alloc, array.as_slice())
 }
 
 /// A number of 32 bits.
@@ -286,6 +361,43 @@ fn text(alloc: Global, value: &Value) -> Reading<Items<u8>>
         Some(text) => Ok(Items::new(Vec::from_slice(alloc, text.as_bytes())?)),
         None => Err(WiringFault::WrongType),
     }
+}
+
+/// Each value as a message.
+fn messages(alloc: Global, array: &[Value]) -> Reading<Items<Items<u8>>>
+    ensures { IsWiringAnswer (spec.more_in spec.message_in (Ok []) (items_view array.now)) result }
+{
+    let mut found = Ok(Items::new(Vec::new(alloc)));
+    for value in array {
+        found = one_more(found, message(alloc, value));
+    }
+    found
+}
+
+/// A message, as its bytes, from pairs of hexadecimal digits.
+fn message(alloc: Global, value: &Value) -> Reading<Items<u8>>
+    ensures { IsWiringAnswer (spec.message_in (view value.now)) result }
+{
+    let Some(text) = value.as_str() else {
+        return Err(WiringFault::WrongType);
+    };
+    match hex::decode(alloc, text) {
+        Ok(bytes) => sized(bytes),
+        Err(error) => match error {
+            FromHexError::OutOfMemory => Err(WiringFault::OutOfMemory),
+            _ => Err(WiringFault::BadMessage),
+        },
+    }
+}
+
+/// The bytes of a message, of which there have to be 1 to 4,096.
+fn sized(bytes: Vec<u8>) -> Reading<Items<u8>>
+    ensures { result ≡ spec.message (of_a_message (Some bytes.items)) }
+{
+    if bytes.is_empty() || bytes.len() > LONGEST_MESSAGE {
+        return Err(WiringFault::BadMessage);
+    }
+    Ok(Items::new(bytes))
 }
 
 /// The value at a key that has to be there.

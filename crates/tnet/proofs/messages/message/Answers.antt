@@ -17,5 +17,5 @@ returns c =
     c.new.ensures
     ∙ (c.loop-at.invariant.items
     ∙ message_bytes c.bytes-all.result.now _ c.args.offer.buffer c.args.offer.length c.saturating_sub-first.result
-    c.loop-at.at (c.bytes-all.ensures.bytes ∙ ap (λ m. m.store) c.processor.ensures) (omega arith) c.loop-at.auto.at
+    c.loop-at.at c.bytes-all.ensures (omega arith) c.loop-at.auto.at
     (omega arith) (omega arith))

@@ -4,7 +4,6 @@ use Rattle.std.proofs.lemmas.Iterator.Consumers.{YieldsList-turn, YieldsList-end
 use Rattle.std.proofs.lemmas.List.{length_push}
 use Rattle.std.proofs.lemmas.Result.{err_from_is_err_and}
 use Rattle.tplan.specs.declared.plan.NodePlan.{NodePlan}
-use Rattle.tnet.proofs.StartingNets.{few_nodes}
 use Rattle.tnet.proofs.StartingNodes.{as_many, good_node, node_fails, one_more_node, all_built}
 use Rattle.tnet.proofs.opening.build_nodes.Goals as goal
 
@@ -17,9 +16,7 @@ build_node-requires-clause-few c =
     let t = YieldsList-turn all c.loop-plan.yielded c.loop-plan.plan-iterator c.loop-plan.yielded_by c.next.result
     c.next.new.self c.in-Some.plan c.in-Some.is c.next.ensures.steps in
     let count = as_many _ _ _ (length c.loop-plan.yielded) _ (omega (arith, t.0)) c.loop-plan.invariant in
-    let few =
-    few_nodes (record { timeslice = c.args.timeslice; nodes = c.args.plans; wires = c.args.wires.now }) c.requires in
-    omega (arith, t.0, count, c.len-in-loop-plan.ensures, few)
+    omega (arith, t.0, count, c.len-in-loop-plan.ensures, c.requires.few)
 
 pub build_node-requires-clause-size : goal.build_node-requires-clause-size
 build_node-requires-clause-size c =
@@ -29,8 +26,7 @@ build_node-requires-clause-size c =
     (omega (arith, gives.1, ap (λ (ps : List NodePlan). length ps) same)) in
     let t = YieldsList-turn all c.loop-plan.yielded c.loop-plan.plan-iterator c.loop-plan.yielded_by c.next.result
     c.next.new.self c.in-Some.plan c.in-Some.is c.next.ensures.steps in
-    (good_node (record { timeslice = c.args.timeslice; nodes = c.args.plans; wires = c.args.wires.now })
-    c.args.plans (length c.loop-plan.yielded) _ c.requires refl t.0 t.1).0
+    (good_node c.args.timeslice c.args.plans (length c.loop-plan.yielded) _ c.requires t.0 t.1).0
 
 pub build_node-requires-clause-segments : goal.build_node-requires-clause-segments
 build_node-requires-clause-segments c =
@@ -40,8 +36,7 @@ build_node-requires-clause-segments c =
     (omega (arith, gives.1, ap (λ (ps : List NodePlan). length ps) same)) in
     let t = YieldsList-turn all c.loop-plan.yielded c.loop-plan.plan-iterator c.loop-plan.yielded_by c.next.result
     c.next.new.self c.in-Some.plan c.in-Some.is c.next.ensures.steps in
-    (good_node (record { timeslice = c.args.timeslice; nodes = c.args.plans; wires = c.args.wires.now })
-    c.args.plans (length c.loop-plan.yielded) _ c.requires refl t.0 t.1).1
+    (good_node c.args.timeslice c.args.plans (length c.loop-plan.yielded) _ c.requires t.0 t.1).1
 
 pub returns-in_err-built : goal.returns-in_err-built
 returns-in_err-built c =
@@ -83,6 +78,5 @@ returns c =
     (omega (arith, gives.1, ap (λ (ps : List NodePlan). length ps) same)) in
     let t = YieldsList-end all c.loop-plan.yielded c.loop-plan.plan-iterator c.loop-plan.yielded_by c.next.result
     c.next.new.self c.in-None.is c.next.ensures.steps in
-    all_built (record { timeslice = c.args.timeslice; nodes = c.args.plans; wires = c.args.wires.now })
-    c.args.plans (length c.loop-plan.yielded) c.loop-plan.nodes.items refl
+    all_built c.args.timeslice c.args.wires.now c.args.plans (length c.loop-plan.yielded) c.loop-plan.nodes.items
     (omega (arith, t)) c.loop-plan.invariant

@@ -28,6 +28,10 @@ pub returns-in-EndTwice : goal.returns-in-EndTwice
 returns-in-EndTwice g c =
     tells_as c.put_numbered-in-EndTwice.ensures (ap (λ (f : BuildFault). words (net_words f)) (sym c.in-EndTwice.is))
 
+pub returns-in-BadCapacity : goal.returns-in-BadCapacity
+returns-in-BadCapacity g c =
+    tells_as c.put_numbered-in-BadCapacity.ensures (ap (λ (f : BuildFault). words (net_words f)) (sym c.in-BadCapacity.is))
+
 pub returns-in-BadSegment : goal.returns-in-BadSegment
 returns-in-BadSegment g c =
     tells_as (tells_then c.put_numbered-in-BadSegment.ensures c.put_numbered-in-BadSegment-2.ensures)

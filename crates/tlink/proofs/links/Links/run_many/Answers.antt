@@ -1,5 +1,6 @@
 use Rattle.std.proofs.Common.{Some, refl, sym, ap, ◌∙◌}
 use Rattle.tlink.specs.declared.event.Runs.{Runs}
+use Rattle.tlink.specs.Roles.{Processor}
 use Rattle.tlink.proofs.RunRows.{row-lifted, runs-frozen}
 use Rattle.tlink.proofs.links.Links.run_many.Goals as goal
 
@@ -13,11 +14,12 @@ pub returns-in-Some : goal.returns-in-Some
 returns-in-Some c =
     row-lifted c.args.most c.args.self.now
     (record {
+      role = Processor;
       machine = c.self.inside.processor;
       counts = c.self.inside.counts;
       wired = c.self.inside.wired;
       broken = c.self.inside.broken;
-    }) _ c.run_many-count.new.self c.run_many-count.result _ c.self.view_is
+    }) _ c.run_many-count.new.self c.run_many-count.result _ c.self.view_is refl
     (sym c.is_some-is_frozen.ensures ∙ c.if-is_frozen.false) c.run_many-count.ensures
     (rw c.in-Some.is c.answered.ensures.left) (rw c.in-Some.is (ap (λ a. Some a) c.answered.ensures.told))
 
@@ -25,10 +27,11 @@ pub returns-in-None : goal.returns-in-None
 returns-in-None c =
     row-lifted c.args.most c.args.self.now
     (record {
+      role = Processor;
       machine = c.self.inside.processor;
       counts = c.self.inside.counts;
       wired = c.self.inside.wired;
       broken = c.self.inside.broken;
-    }) _ c.run_many-count.new.self c.run_many-count.result _ c.self.view_is
+    }) _ c.run_many-count.new.self c.run_many-count.result _ c.self.view_is refl
     (sym c.is_some-is_frozen.ensures ∙ c.if-is_frozen.false) c.run_many-count.ensures (rw c.in-None.is refl)
     (rw c.in-None.is refl)

@@ -1,0 +1,102 @@
+-- Scripted ends as a program holds them.
+-- Source: own choice, words for contracts.
+use Rattle.std.specs.Prelude.{◌≡◌, ℕ, ◌+◌, ◌-◌, ◌<◌, ◌≤◌, List, [], ◌∷◌, drop, take, length, sum, Option}
+use Rattle.std.specs.Prelude.{Some, None}
+use Rattle.tword.specs.Words.{most_neg}
+use Rattle.tword.specs.Stores.{shown}
+use Rattle.tproc.specs.Machine.{Machine}
+use Rattle.tlink.specs.declared.counts.Counts.{Counts}
+use Rattle.tlink.specs.Roles.{Role, Processor, Source, Sink, script_machine, offering, asking}
+use Rattle.tlink.specs.Node.{NodeState, no_counts, counts_at, one_link}
+
+-- the counts of link 0; the other links have counted nothing
+abbrev pub only_counts : Counts → List Counts
+only_counts c = c ∷ no_counts ∷ no_counts ∷ no_counts ∷ []
+
+-- a source of messages of these lengths, so many of them over, the next one from this place of the bytes on
+abbrev pub source_state : (bytes lengths : List ℕ) → (done start : ℕ) → Counts → NodeState
+source_state bytes lengths done start c =
+    record {
+      role = Source done (drop done lengths);
+      machine = script_machine (offering (most_neg + start) (drop done lengths)) bytes;
+      counts = only_counts c;
+      wired = one_link;
+      broken = None;
+    }
+
+-- a sink that has kept messages of these lengths, so many bytes of the memory
+abbrev pub sink_state : (bytes lengths : List ℕ) → (kept : ℕ) → Counts → NodeState
+sink_state bytes lengths kept c =
+    record {
+      role = Sink lengths;
+      machine = script_machine (asking (most_neg + kept) (length bytes - kept)) bytes;
+      counts = only_counts c;
+      wired = one_link;
+      broken = None;
+    }
+
+-- how many messages of a source are over, the lengths of the others, and how many it has
+abbrev pub done_messages : Role → ℕ
+done_messages (Source done rest) = done
+done_messages _ = 0
+
+abbrev pub left_messages : Role → List ℕ
+left_messages (Source done rest) = rest
+left_messages _ = []
+
+abbrev pub all_messages : Role → ℕ
+all_messages (Source done rest) = done + length rest
+all_messages _ = 0
+
+-- bytes cut into messages of these lengths
+abbrev pub cut : (lengths bytes : List ℕ) → List (List ℕ)
+cut [] bytes = []
+cut (n ∷ ns) bytes = take n bytes ∷ cut ns (drop n bytes)
+
+-- the lengths of the messages that a sink has kept
+abbrev pub kept_lengths : Role → List ℕ
+kept_lengths (Sink kept) = kept
+kept_lengths _ = []
+
+-- the messages that a sink has kept, which are the first bytes of its memory
+abbrev pub messages_of : Role → List ℕ → List (List ℕ)
+messages_of (Sink kept) bytes = cut kept bytes
+messages_of _ bytes = []
+
+abbrev pub kept_messages : NodeState → List (List ℕ)
+kept_messages n = messages_of n.role (shown n.machine.store)
+
+-- the bytes that a sink has of the message that is not complete
+abbrev pub part_of : Role → ℕ → List ℕ → List ℕ
+part_of (Sink kept) got bytes = take got (drop (sum kept) bytes)
+part_of _ got bytes = []
+
+abbrev pub kept_part : NodeState → List ℕ
+kept_part n = part_of n.role (counts_at n 0).got (shown n.machine.store)
+
+-- the processor of a node, and a node that is a source or a sink
+abbrev pub processor_of : Role → Machine → Option Machine
+processor_of Processor m = Some m
+processor_of _ m = None
+
+abbrev pub source_of : NodeState → Role → Option NodeState
+source_of n (Source done rest) = Some n
+source_of n _ = None
+
+abbrev pub sink_of : NodeState → Role → Option NodeState
+sink_of n (Sink kept) = Some n
+sink_of n _ = None
+
+-- the messages that are not over lie in the bytes, from this place on
+abbrev pub IsSourceWithin : (bytes lengths : List ℕ) → (done start : ℕ) → Type 0
+IsSourceWithin bytes lengths done start =
+    (done ≤ length lengths) × (start + sum (drop done lengths) ≤ length bytes)
+
+-- the first so many lengths are those of the messages that were kept, which are the first bytes; there is room for as
+-- many lengths as for bytes
+pub record IsSinkWithin (bytes lengths : List ℕ) (messages kept : ℕ) : Type 0 where
+  pub all : sum (take messages lengths) ≡ kept
+  pub each : messages ≤ kept
+  pub within : kept ≤ length bytes
+  pub room : length lengths ≡ length bytes
+  pub few : length bytes ≤ 65536
