@@ -108,12 +108,6 @@ kept_dump (Sink kept) n broken x s e held h =
     ∙ ap (λ (r : Role). sink_dump n (messages_of r (shown x.machine.store))) e
     ∙ ap (sink_dump n) (sym (kept_seen kept x.machine held))
 
-pub no_dump : (role : Role) (n : ℕ) (broken : Option Break) (x : NodeState) → None ≡ processor_of role x.machine
-    → None ≡ source_of x role → None ≡ sink_of x role → [] ≡ role_dump role n broken (hidden x.machine)
-no_dump Processor n broken x p s k = cc
-no_dump (Source done rest) n broken x p s k = cc
-no_dump (Sink kept) n broken x p s k = cc
-
 -- the dumps of nodes, from one of them on
 pub dumps_next : (k : ℕ) (nodes : List NodeState) (x : NodeState) → k < length nodes → x ≡ get_or nodes k x
     → dumps k (drop k nodes) ≡ dump_at k x ++ dumps (k + 1) (drop (k + 1) nodes)

@@ -29,11 +29,6 @@ processor_told Processor k x listed p h = refl
 processor_told (Source done rest) k x listed p h = cc
 processor_told (Sink kept) k x listed p h = cc
 
-pub machine_is : (role : Role) (m p : Machine) → Some p ≡ processor_of role m → p ≡ m
-machine_is Processor m p h = same_Some p m h
-machine_is (Source done rest) m p h = cc
-machine_is (Sink kept) m p h = cc
-
 pub source_told : (role : Role) (k : ℕ) (x s : NodeState) (listed : Listed) → x.role ≡ role
     → Some s ≡ source_of x role
     → source_line k (done_messages s.role) (all_messages s.role) ≡ role_where role k x listed
@@ -52,12 +47,6 @@ sink_told (Sink kept) k x s listed e h =
     (ap (λ (y : NodeState). length (messages_of y.role (shown y.machine.store))) (same_Some s x h)
     ∙ ap (λ (r : Role). length (messages_of r (shown x.machine.store))) e
     ∙ length-cut kept (shown x.machine.store))
-
-pub nothing_told : (role : Role) (k : ℕ) (x : NodeState) (listed : Listed) → None ≡ processor_of role x.machine
-    → None ≡ source_of x role → None ≡ sink_of x role → [] ≡ role_where role k x listed
-nothing_told Processor k x listed p s i = cc
-nothing_told (Source done rest) k x listed p s i = cc
-nothing_told (Sink kept) k x listed p s i = cc
 
 -- a script has the control of one
 script_of : (role : Role) (m : Machine) → IsHeld role m → None ≡ processor_of role m

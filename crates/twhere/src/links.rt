@@ -102,12 +102,7 @@ fn put_name<W: CountedWrite>(out: &mut Output<'_, W>, link: u8)
 }
 
 /// A pending output: how many bytes were sent, and how many of them acknowledged.
-fn put_output<W: CountedWrite>(
-    out: &mut Output<'_, W>,
-    link: u8,
-    is_pending: bool,
-    counts: Counts,
-)
+fn put_output<W: CountedWrite>(out: &mut Output<'_, W>, link: u8, is_pending: bool, counts: Counts)
     ensures { Tells W.contents W.failures out.old out.new (spec.output_fact link is_pending counts) }
 {
     if is_pending {
@@ -121,12 +116,7 @@ fn put_output<W: CountedWrite>(
 }
 
 /// A pending input: how many bytes it has got.
-fn put_input<W: CountedWrite>(
-    out: &mut Output<'_, W>,
-    link: u8,
-    is_pending: bool,
-    counts: Counts,
-)
+fn put_input<W: CountedWrite>(out: &mut Output<'_, W>, link: u8, is_pending: bool, counts: Counts)
     ensures { Tells W.contents W.failures out.old out.new (spec.input_fact link is_pending counts) }
 {
     if is_pending {

@@ -45,12 +45,7 @@ fn put_node<W: CountedWrite>(
 }
 
 /// What stands behind the links: a processor, a source or a sink.
-fn put_role<W: CountedWrite>(
-    out: &mut Output<'_, W>,
-    number: u32,
-    node: &Node,
-    listed: &Listed,
-)
+fn put_role<W: CountedWrite>(out: &mut Output<'_, W>, number: u32, node: &Node, listed: &Listed)
     ensures { Tells W.contents W.failures out.old out.new
         (spec.role_where node.now.role number node.now listed.now) }
 {
