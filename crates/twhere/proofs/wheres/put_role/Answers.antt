@@ -1,5 +1,4 @@
 use Rattle.std.proofs.Common.{ℕ, refl, ap, ◌∙◌, length}
-use Rattle.tlink.specs.Scripts.{kept_messages}
 use Rattle.tfiles.specs.Texts.{sink_line}
 use Rattle.tfiles.proofs.Told.{tells_as}
 use Rattle.twhere.proofs.WhereRoles.{sink_told, source_told}
