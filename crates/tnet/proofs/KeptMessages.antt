@@ -1,11 +1,10 @@
 -- When a message goes over to a sink, that has kept it whole, behind the messages before it.
-use Rattle.std.proofs.Common.{◌≡◌, ℕ, ◌+◌, ◌-◌, ◌<◌, ◌≤◌, refl, sym, ap, ◌∙◌, List, [], ◌∷◌, ◌++◌, length, map, take, drop}
-use Rattle.std.proofs.Common.{get_or, Option, Some, None, arith, length-take, length-drop, get_or-take, get_or-drop}
-use Rattle.std.proofs.Common.{drop-drop}
+use Rattle.std.proofs.Common.{◌≡◌, ℕ, ◌+◌, ◌-◌, ◌<◌, refl, sym, ap, ◌∙◌, List, [], ◌∷◌, ◌++◌, length, take, drop}
+use Rattle.std.proofs.Common.{get_or, None, arith, length-take, length-drop, get_or-take, get_or-drop, drop-drop}
 use Rattle.std.specs.Prelude.{sum, unwrap_or}
-use Rattle.std.proofs.lemmas.List.{ext_get_or, get_or-map, length-map, take-map, drop-map}
+use Rattle.std.proofs.Math.ListN.{get_or-map}
+use Rattle.std.proofs.lemmas.List.{ext_get_or, length-map, take-map, drop-map}
 use Rattle.std.proofs.lemmas.List.Sums.{sum_by-cons}
-use Rattle.std.proofs.lemmas.Option.{same_Some}
 use Rattle.tword.specs.Words.{most_neg}
 use Rattle.tword.specs.Stores.{Store, place, with_cells, cells, shown, bytes_at}
 use Rattle.tword.specs.Claims.{is_input}
@@ -19,10 +18,10 @@ use Rattle.tlink.specs.Roles.{Role, Processor, Source, Sink, role_filled, filled
 use Rattle.tlink.specs.Scripts.{cut, messages_of}
 use Rattle.tlink.proofs.Held.{sink_asks}
 use Rattle.tplan.specs.declared.plan.End.{End}
-use Rattle.tnet.specs.Rendezvous.{Node, Configuration, node_of, put_node, given, Fits, IsCopy}
+use Rattle.tnet.specs.Rendezvous.{Node, Configuration, node_of, given, Fits, IsCopy}
 use Rattle.tnet.specs.Corollaries.{SinksKeepWhole}
-use Rattle.tnet.proofs.Puts.{put-same}
-use Rattle.tnet.proofs.Reached.{copied_node, copy_given, reached_veiled}
+use Rattle.tnet.proofs.CopiesWhole.{receiver_after}
+use Rattle.tnet.proofs.Reached.{copy_given, reached_veiled}
 use Rattle.tnet.proofs.VeiledRoles.{AreVeils, given-message, kept_before}
 
 -- messages are cut from as many bytes as they have together
@@ -84,11 +83,12 @@ module _ (a b : Machine) (k l : ℕ) (out inp : Offer) (g : IsGiven a b k l out 
 
       same_size : length (shown t) ≡ length (shown b.store)
       same_size =
-          length-map (λ cell. unwrap_or cell 0) t
-          ∙ length-hiding_from (λ x. is_input (claims_of (filled (Sink kept) l out.length holding).control) (byte_span x))
+          length-map t (λ cell. unwrap_or cell 0)
+          ∙ length-hiding_from
+          (λ x. is_input (claims_of (filled (Sink kept) l out.length holding).control) (byte_span x))
           most_neg holding.store
           ∙ filled_size a b k l out inp g
-          ∙ sym (length-map (λ cell. unwrap_or cell 0) b.store)
+          ∙ sym (length-map b.store (λ cell. unwrap_or cell 0))
 
       before : (i : ℕ) → i < sum kept → get_or (shown t) i 0 ≡ get_or (shown b.store) i 0
       before i h =
@@ -112,24 +112,11 @@ module _ (a b : Machine) (k l : ℕ) (out inp : Offer) (g : IsGiven a b k l out 
   sink_keeps (Source done rest) kept e v fits = cc
   sink_keeps (Sink kept') kept e v fits = kept_behind kept' v fits
 
--- the receiver after a message has gone over
-receiver_is : (w w' : Configuration) (f e : End) (s' : Node) → (c : IsCopy w f e w') → node_of w' e.node ≡ Some s'
-    → (s'.role ≡ (given c.out c.sender e.link c.inp c.receiver).role)
-    × (s'.machine ≡ (given c.out c.sender e.link c.inp c.receiver).machine)
-receiver_is w w' f e s' c there =
-    let x : (x : Node) × (node_of (put_node e.node (given c.out c.sender e.link c.inp c.receiver) w) e.node ≡ Some x)
-    × (s'.role ≡ x.role) × (s'.machine ≡ x.machine)
-    = copied_node f (put_node e.node (given c.out c.sender e.link c.inp c.receiver) w) e.node s'
-    (rw c.after at there) in
-    let same : x.0 ≡ given c.out c.sender e.link c.inp c.receiver =
-    same_Some _ _ (sym x.1 ∙ put-same w e.node (given c.out c.sender e.link c.inp c.receiver) c.receiver c.asks.node) in
-    (x.2 ∙ ap (λ (z : Node). z.role) same, x.3 ∙ ap (λ (z : Node). z.machine) same)
-
 -- the law of a message that goes over to a sink
 pub sinks_keep_whole : SinksKeepWhole
 sinks_keep_whole p w w' f e kept s' reached c is_sink there =
     let after : (s'.role ≡ (given c.out c.sender e.link c.inp c.receiver).role)
-    × (s'.machine ≡ (given c.out c.sender e.link c.inp c.receiver).machine) = receiver_is w w' f e s' c there in
+    × (s'.machine ≡ (given c.out c.sender e.link c.inp c.receiver).machine) = receiver_after w w' f e s' c there in
     ap (λ (r : Role). messages_of r (shown s'.machine.store)) after.0
     ∙ ap (λ (m : Machine). messages_of (role_filled c.out.length c.receiver.role) (shown m.store)) after.1
     ∙ sink_keeps c.sender.machine c.receiver.machine f.link e.link c.out c.inp
