@@ -74,8 +74,8 @@ impl Node {
         })
     }
 
-    /// A sink for so many bytes, at most 65,536, before its first event: it keeps the messages that come at link 0. It takes all memory
-    /// that it needs here.
+    /// A sink for so many bytes, at most 65,536, before its first event: it keeps the messages that come at link 0. It
+    /// takes all memory that it needs here.
     ///
     /// # Errors
     /// Where the allocator refuses.

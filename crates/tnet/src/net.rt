@@ -2,7 +2,7 @@
 
 ghost use Rattle.std.specs.Prelude.{◌≡◌, ◌≢◌, ◌≤◌, ℕ, length, IsTrue, IfOk, ◌↔◌};
 ghost use Rattle.tlink.specs.Node.{NodeState};
-ghost use Rattle.tnet.specs.Net.{NetState, inbox_at};
+ghost use Rattle.tnet.specs.Net.{NetState, inbox_at, sources_in, sinks_in};
 ghost use Rattle.tnet.specs.Packets.{net_happens, answered, net_left_by, after_event, applied_from, is_enabled};
 ghost use Rattle.tnet.specs.Packets.{IsQuiet};
 ghost use Rattle.tnet.specs.Sound.{IsSound};
@@ -20,6 +20,7 @@ use crate::faults::first_fault;
 use crate::inbox::Inbox;
 use crate::opening::open;
 use crate::parts::Parts;
+use crate::scripts::{Sinks, Sources};
 use crate::wires::{NetParts, Wires};
 use std::alloc::{AllocError, Global};
 use std::marker::Model;
@@ -143,6 +144,20 @@ impl Net {
         ensures sound { IsSound self.now }
     {
         self.parts.nodes()
+    }
+
+    /// The sources, by their numbers. It takes no memory.
+    pub fn sources(&self) -> Sources<'_>
+        ensures { result ≡ sources_in self.now.nodes }
+    {
+        Sources::new(self.parts.nodes())
+    }
+
+    /// The sinks, by their numbers. It takes no memory.
+    pub fn sinks(&self) -> Sinks<'_>
+        ensures { result ≡ sinks_in self.now.nodes }
+    {
+        Sinks::new(self.parts.nodes())
     }
 
     /// What lies at an end; at one that is no link of a node, nothing.
