@@ -1,15 +1,16 @@
-use Rattle.std.proofs.Common.{◌≡◌}
-use Rattle.tword.specs.Stores.{as_cells}
-use Rattle.tproc.specs.Machine.{claims_of}
-use Rattle.tfiles.proofs.NetDumps.{dump_known}
+use Rattle.std.proofs.Common.{refl}
+use Rattle.tfiles.proofs.NetDumps.{kept_dump, source_dump}
 use Rattle.tfiles.proofs.Told.{tells_as}
 use Rattle.tfiles.proofs.writing.dump.put_node.Goals as goal
 
-pub returns : goal.returns
-returns g c =
-    let halted : c.is_halted.result ≡ c.args.node.now.machine.control.halted = (cc) in
-    let pending : c.pending_inputs.result ≡ (claims_of c.args.node.now.machine.control).inputs = (cc) in
-    let store : as_cells c.bytes.result.now ≡ c.args.node.now.machine.store = (cc) in
-    tells_as c.put_node_dump.ensures
-    (dump_known c.args.number c.args.node.now c.broken.result c.is_halted.result c.pending_inputs.result
-    (as_cells c.bytes.result.now) c.broken.ensures halted pending store)
+pub returns-in-Some-source : goal.returns-in-Some-source
+returns-in-Some-source g c =
+    tells_as c.put_source.ensures
+    (source_dump c.args.node.now.role c.args.number c.args.node.now.broken c.args.node.now c.in-Some-source.source.now refl
+    c.in-Some-source.ensures)
+
+pub returns-in-Some-sink : goal.returns-in-Some-sink
+returns-in-Some-sink g c =
+    tells_as c.put_sink.ensures
+    (kept_dump c.args.node.now.role c.args.number c.args.node.now.broken c.args.node.now c.in-Some-sink.sink.now refl
+    c.requires.held c.in-Some-sink.ensures)
