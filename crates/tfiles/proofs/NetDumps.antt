@@ -1,6 +1,6 @@
 -- The dumps of the nodes of a net, one after another.
 use Rattle.std.proofs.Common.{◌≡◌, ℕ, zero, suc, refl, sym, ap, ap₂, ◌∙◌, ◌+◌, ◌<◌, ◌≤◌, List, [], ◌∷◌, ◌++◌, length}
-use Rattle.std.proofs.Common.{drop, get_or, arith, add-one, append_assoc, append-nil, Bool, Option, Some, None}
+use Rattle.std.proofs.Common.{drop, get_or, arith, add-one, append_assoc, append-nil, Bool, Option, Some}
 use Rattle.std.specs.Prelude.{map, zip}
 use Rattle.std.proofs.Math.Seq.{drop-cons}
 use Rattle.std.proofs.lemmas.Option.{same_Some}
