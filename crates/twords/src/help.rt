@@ -56,8 +56,21 @@ In: a wiring file such as
   from = 1             # the first round in which they wait
   until = 5            # and the first in which they do not
 
+A wiring of version 2 may have sources and sinks too. They are numbered behind the nodes, the
+sources first, and each has the one link 0:
+
+  version = 2
+  [[source]]           # sends messages to an end, one after another
+  end = [0, 2]
+  messages = [\"01020304\", \"05\"]  # in hexadecimal, 1 to 4096 bytes each
+  [[sink]]             # keeps the messages that an end sends
+  end = [1, 1]
+  capacity = 64        # for how many bytes it has room: 1 to 65536
+
 Out: a line for each message that went over, as `msg 0.1 1.2 4 01020304` (from, to, length, bytes),
-and for each node that halted or froze; the memory of each node, without lines of zeros; last
+and for each node that halted or froze; the memory of each node, without lines of zeros; for each
+source how many of its messages are over, as `source 2 done 1 of 2`; for each sink how many it has
+kept, as `sink 3 messages 1`, and a line for each of them, as `kept 01020304`; last
 `end quiet R`, where nothing is left to do after R rounds, or `end rounds R`.
 
 Example:
@@ -125,8 +138,9 @@ Out: for each node a line as `temu run` prints it before its memory, `node 0 ok`
     link 2        packet acknowledge       an acknowledge that lies there
     link 3        enabled by #80000701     the process that is told when a byte comes
 
-Only what there is has a line. `over` tells how many bytes of the message went over. Last `end
-replay E` after E events. Nothing is told of what the buffer of a pending link input holds.
+Only what there is has a line. `over` tells how many bytes of the message went over. A source or a
+sink has its first line of `temu run`, and below it those of its link 0. Last `end replay E` after E
+events. Nothing is told of what the buffer of a pending link input holds.
 
 Example:
   temu where pair.toml pair.log --events 40";

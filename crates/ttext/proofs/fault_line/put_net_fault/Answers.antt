@@ -30,7 +30,8 @@ returns-in-EndTwice g c =
 
 pub returns-in-BadCapacity : goal.returns-in-BadCapacity
 returns-in-BadCapacity g c =
-    tells_as c.put_numbered-in-BadCapacity.ensures (ap (λ (f : BuildFault). words (net_words f)) (sym c.in-BadCapacity.is))
+    tells_as c.put_numbered-in-BadCapacity.ensures
+    (ap (λ (f : BuildFault). words (net_words f)) (sym c.in-BadCapacity.is))
 
 pub returns-in-BadSegment : goal.returns-in-BadSegment
 returns-in-BadSegment g c =
