@@ -15,6 +15,8 @@ pub mod LeftText
 pub mod Failures
 pub mod Told
 pub mod DumpLines
+pub mod KeptMessages
+pub mod NodeRoles
 pub mod NetDumps
 pub mod DisLines
 pub mod SignedText

@@ -1,23 +1,29 @@
 -- The dumps of the nodes of a net, one after another.
 use Rattle.std.proofs.Common.{◌≡◌, ℕ, zero, suc, refl, sym, ap, ap₂, ◌∙◌, ◌+◌, ◌<◌, ◌≤◌, List, [], ◌∷◌, ◌++◌, length}
-use Rattle.std.proofs.Common.{drop, get_or, arith, add-one, append_assoc, append-nil, Bool, Option}
+use Rattle.std.proofs.Common.{drop, get_or, arith, add-one, append_assoc, append-nil, Bool, Option, Some, None}
 use Rattle.std.specs.Prelude.{map, zip}
 use Rattle.std.proofs.Math.Seq.{drop-cons}
+use Rattle.std.proofs.lemmas.Option.{same_Some}
 use Rattle.tword.specs.declared.breaks.Break.{Break}
 use Rattle.tword.specs.declared.span.Span.{Span}
-use Rattle.tword.specs.Stores.{Store, hiding}
-use Rattle.tproc.specs.Machine.{claims_of}
+use Rattle.tword.specs.Stores.{Store, hiding, shown}
+use Rattle.tproc.specs.Machine.{Machine, claims_of}
 use Rattle.tproc.specs.Hidden.{hidden}
+use Rattle.tlink.specs.Roles.{Role, Processor, Source, Sink}
 use Rattle.tlink.specs.Node.{NodeState}
+use Rattle.tlink.specs.Whole.{IsHeld}
+use Rattle.tlink.specs.Scripts.{done_messages, all_messages, messages_of, kept_messages}
+use Rattle.tlink.specs.Scripts.{processor_of, source_of, sink_of}
 use Rattle.tnet.specs.declared.inbox.Inbox.{Inbox}
 use Rattle.tnet.specs.Net.{NetState}
 use Rattle.tnet.specs.Sound.{IsSound}
 use Rattle.tnet.specs.View.{view, view_node}
-use Rattle.tfiles.specs.Texts.{dump_of, dump_from, dump_text, is_pending}
+use Rattle.tfiles.specs.Texts.{dump_of, role_dump, source_line, sink_dump, dump_from, dump_text, is_pending}
+use Rattle.tfiles.proofs.KeptMessages.{kept_seen}
 
 -- the dump of a node
 abbrev pub dump_at : ℕ → NodeState → List ℕ
-dump_at n x = dump_of n x.broken x.machine.control.halted (hidden x.machine).store
+dump_at n x = role_dump x.role n x.broken (hidden x.machine)
 
 -- the dumps of nodes from a number on
 abbrev pub dumps : ℕ → List NodeState → List ℕ
@@ -65,15 +71,42 @@ all_dumps k net old new sound over so_far =
     ∙ so_far in
     sym (append-nil new) ∙ here ∙ ap (λ t. old ++ t) (dumps_all net sound)
 
--- the dump of a node, from what is known of it
-pub dump_known : (n : ℕ) (x : NodeState) (broken : Option Break) (halted : Bool) (pending : List (Option Span))
-    (store : Store) → broken ≡ x.broken → halted ≡ x.machine.control.halted
-    → pending ≡ (claims_of x.machine.control).inputs → store ≡ x.machine.store
-    → dump_of n broken halted (hiding (is_pending pending) store) ≡ dump_at n x
-dump_known n x broken halted pending store b h p s =
-    ap₂ (λ (b : Option Break) (h : Bool). dump_of n b h (hiding (is_pending pending) store)) b h
-    ∙ ap₂ (λ (p : List (Option Span)) (s : Store). dump_of n x.broken x.machine.control.halted
-    (hiding (is_pending p) s)) p s
+-- the dump of a processor, from what is known of it
+pub dump_known : (n : ℕ) (m : Machine) (broken : Option Break) (halted : Bool) (pending : List (Option Span))
+    (store : Store) → halted ≡ m.control.halted → pending ≡ (claims_of m.control).inputs → store ≡ m.store
+    → dump_of n broken halted (hiding (is_pending pending) store)
+    ≡ dump_of n broken m.control.halted (hidden m).store
+dump_known n m broken halted pending store h p s =
+    ap (λ (h : Bool). dump_of n broken h (hiding (is_pending pending) store)) h
+    ∙ ap₂ (λ (p : List (Option Span)) (s : Store). dump_of n broken m.control.halted (hiding (is_pending p) s)) p s
+
+-- what stands behind the links is a processor, a source or a sink, with its dump
+pub processor_dump : (role : Role) (n : ℕ) (broken : Option Break) (m p : Machine)
+    → Some p ≡ processor_of role m
+    → dump_of n broken p.control.halted (hidden p).store ≡ role_dump role n broken (hidden m)
+processor_dump Processor n broken m p h =
+    ap (λ (m : Machine). dump_of n broken m.control.halted (hidden m).store) (same_Some p m h)
+processor_dump (Source done rest) n broken m p h = cc
+processor_dump (Sink kept) n broken m p h = cc
+
+pub source_dump : (role : Role) (n : ℕ) (broken : Option Break) (x s : NodeState) → x.role ≡ role
+    → Some s ≡ source_of x role
+    → source_line n (done_messages s.role) (all_messages s.role) ≡ role_dump role n broken (hidden x.machine)
+source_dump Processor n broken x s e h = cc
+source_dump (Source done rest) n broken x s e h =
+    ap (λ (r : Role). source_line n (done_messages r) (all_messages r))
+    (ap (λ (y : NodeState). y.role) (same_Some s x h) ∙ e)
+source_dump (Sink kept) n broken x s e h = cc
+
+pub kept_dump : (role : Role) (n : ℕ) (broken : Option Break) (x s : NodeState) → x.role ≡ role
+    → IsHeld role x.machine → Some s ≡ sink_of x role
+    → sink_dump n (kept_messages s) ≡ role_dump role n broken (hidden x.machine)
+kept_dump Processor n broken x s e held h = cc
+kept_dump (Source done rest) n broken x s e held h = cc
+kept_dump (Sink kept) n broken x s e held h =
+    ap (λ (y : NodeState). sink_dump n (messages_of y.role (shown y.machine.store))) (same_Some s x h)
+    ∙ ap (λ (r : Role). sink_dump n (messages_of r (shown x.machine.store))) e
+    ∙ ap (sink_dump n) (sym (kept_seen kept x.machine held))
 
 -- the dumps of nodes, from one of them on
 pub dumps_next : (k : ℕ) (nodes : List NodeState) (x : NodeState) → k < length nodes → x ≡ get_or nodes k x

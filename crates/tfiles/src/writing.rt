@@ -6,6 +6,7 @@ pub mod end;
 pub mod log;
 pub mod node_dump;
 pub mod output;
+pub mod scripts;
 pub mod text;
 pub mod trace;
 mod waiting;

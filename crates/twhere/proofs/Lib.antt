@@ -1,3 +1,4 @@
 pub mod WhereNodes
+pub mod WhereRoles
 pub mod UnseenBytes
 pub mod UnseenNets

@@ -19,14 +19,17 @@ use Rattle.tproc.specs.declared.waiter.Waiter.{Waiter}
 use Rattle.tproc.specs.Machine.{Machine, claims_of, descheduled, workspace_of}
 use Rattle.tproc.specs.Placement.{IsClaimed}
 use Rattle.tproc.specs.Hidden.{hidden}
+use Rattle.tlink.specs.Roles.{Role, Processor, Source, Sink}
 use Rattle.tlink.specs.Node.{NodeState}
+use Rattle.tlink.specs.Whole.{IsHeld}
 use Rattle.tnet.specs.Net.{NetState}
 use Rattle.tnet.specs.Sound.{IsSoundNode}
 use Rattle.tfiles.specs.Logs.{line}
 use Rattle.tfiles.specs.Texts.{node_line}
 use Rattle.twhere.specs.Wheres.{by_descriptor, descriptors, fetched_text, flag_facts, inserted, interrupted_facts}
-use Rattle.twhere.specs.Wheres.{links_facts, node_where, place_text, priority_text, process_facts}
-use Rattle.twhere.specs.Wheres.{queue_facts, reason_text, register_facts, running_facts, waiting_facts}
+use Rattle.twhere.specs.Wheres.{links_facts, listed_of, node_where, place_text, priority_text, process_facts}
+use Rattle.twhere.specs.Wheres.{processor_where, queue_facts, reason_text, register_facts, role_where, running_facts}
+use Rattle.twhere.specs.Wheres.{waiting_facts}
 use Rattle.twhere.specs.Wheres.{where_from, where_text, word_text}
 use Rattle.twhere.specs.Unseen.{HiddenIsUnseen, TextIsOfTheView, hidden_net, hidden_node}
 use Rattle.twhere.proofs.UnseenBytes.{fetched_same, iptr_same}
@@ -148,23 +151,35 @@ waiting_same s claimed apart (w ∷ ws) h =
     (place_same s.machine claimed apart w.process (h zero w (omega arith))) (reason_same s w.reason))
     (waiting_same s claimed apart ws (All-tail (λ w. IsSaved s.machine w.process) w ws h))
 
+-- a processor
+processor_same : (k : ℕ) (s : NodeState) → IsClaimed s.machine → AreApart (claims_of s.machine.control)
+    → processor_where k (hidden_node s) (listed_of s.machine.control)
+    ≡ processor_where k s (listed_of s.machine.control)
+processor_same k s claimed apart =
+    let all = queued_all s.machine claimed apart in
+    let join : List ℕ → List ℕ → List ℕ = λ a b. a ++ b in
+    ap (λ (t : List ℕ). node_line k s.broken s.machine.control.halted ++ t)
+    (ap₂ join (running_same s.machine claimed apart s.machine.control.current)
+    (ap₂ join (interrupted_same s.machine claimed apart s.machine.control.interrupted)
+    (ap₂ join
+    (queue_same s.machine claimed apart (codes "  high queue    ") (descriptors 0 s.machine.control.high) all.0)
+    (ap₂ join
+    (queue_same s.machine claimed apart (codes "  low queue     ") (descriptors 1 s.machine.control.low) all.1)
+    (waiting_same s claimed apart (by_descriptor s.machine.control.waiting) all.2)))))
+
+-- of a source and a sink no byte is told
+role_same : (role : Role) (k : ℕ) (s : NodeState) → IsHeld role s.machine
+    → role_where role k (hidden_node s) (listed_of s.machine.control)
+    ≡ role_where role k s (listed_of s.machine.control)
+role_same Processor k s h = processor_same k s h.0 h.1
+role_same (Source done rest) k s h = refl
+role_same (Sink kept) k s h = refl
+
 -- a node
 node_same : (net : NetState) (k : ℕ) (s : NodeState) → IsSoundNode s
     → node_where (hidden_net net) k (hidden_node s) ≡ node_where net k s
 node_same net k s sound =
-    let all = queued_all s.machine sound.claimed sound.apart in
-    let join : List ℕ → List ℕ → List ℕ = λ a b. a ++ b in
-    ap (λ (t : List ℕ). node_line k s.broken s.machine.control.halted ++ t)
-    (ap₂ join (running_same s.machine sound.claimed sound.apart s.machine.control.current)
-    (ap₂ join (interrupted_same s.machine sound.claimed sound.apart s.machine.control.interrupted)
-    (ap₂ join
-    (queue_same s.machine sound.claimed sound.apart (codes "  high queue    ") (descriptors 0 s.machine.control.high)
-    all.0)
-    (ap₂ join
-    (queue_same s.machine sound.claimed sound.apart (codes "  low queue     ") (descriptors 1 s.machine.control.low)
-    all.1)
-    (ap (λ (t : List ℕ). t ++ links_facts net k s)
-    (waiting_same s sound.claimed sound.apart (by_descriptor s.machine.control.waiting) all.2))))))
+    ap (λ (t : List ℕ). t ++ links_facts net k s) (role_same s.role k s sound.whole.held)
 
 -- the nodes from a number on
 where_same : (net : NetState) (k : ℕ) (nodes : List NodeState) → All IsSoundNode nodes

@@ -3,7 +3,7 @@
 -- Source: own choice, a format of this program; the names of registers, flags and queues are the Compiler Writer's
 -- Guide's (1988).
 use Rattle.std.specs.Prelude.{ℕ, zero, suc, ◌+◌, Bool, true, false, nat_le, List, [], ◌∷◌, ◌++◌, map, flat_map}
-use Rattle.std.specs.Prelude.{Option, Some, None, unwrap_or, Result, Ok, Err, codes, decimal, fold, insert}
+use Rattle.std.specs.Prelude.{Option, Some, None, is_some, length, unwrap_or, Result, Ok, Err, codes, decimal, fold, insert}
 use Rattle.std.specs.Prelude.{if◌then◌else◌}
 use Rattle.std.specs.List.{position_or_len}
 use Rattle.std.specs.Int.{w32, from_le_bytes, to_be_bytes}
@@ -200,14 +200,14 @@ abbrev pub link_fact : ℕ → List ℕ → List ℕ
 link_fact l text = link_name l ++ line text
 
 -- a pending output: how many bytes were sent, and how many of them acknowledged
-abbrev pub output_fact : ℕ → Option Offer → Counts → List ℕ
-output_fact l (Some o) c = link_fact l (codes "sent " ++ (decimal c.sent ++ (codes " acknowledged " ++ decimal c.acked)))
-output_fact l None c = []
+abbrev pub output_fact : (link : ℕ) → (is_pending : Bool) → Counts → List ℕ
+output_fact l true c = link_fact l (codes "sent " ++ (decimal c.sent ++ (codes " acknowledged " ++ decimal c.acked)))
+output_fact l false c = []
 
 -- a pending input: how many bytes it has got
-abbrev pub input_fact : ℕ → Option Offer → Counts → List ℕ
-input_fact l (Some o) c = link_fact l (codes "got " ++ decimal c.got)
-input_fact l None c = []
+abbrev pub input_fact : (link : ℕ) → (is_pending : Bool) → Counts → List ℕ
+input_fact l true c = link_fact l (codes "got " ++ decimal c.got)
+input_fact l false c = []
 
 -- a byte, and whether it is marked as the last
 abbrev pub arrival_text : Arrival → List ℕ
@@ -231,8 +231,8 @@ enabled_fact l None = []
 -- a link with what lies at it; one that is at rest has no line
 abbrev pub link_facts : NodeState → Inbox → ℕ → List ℕ
 link_facts n box l =
-    output_fact l (output_at n l) (counts_at n l)
-    ++ (input_fact l (input_at n l) (counts_at n l)
+    output_fact l (is_some (output_at n l)) (counts_at n l)
+    ++ (input_fact l (is_some (input_at n l)) (counts_at n l)
     ++ (byte_fact l (codes "byte waits ") (counts_at n l).arrived
     ++ (byte_fact l (codes "packet data ") box.carried
     ++ (ack_fact l box.acknowledged ++ enabled_fact l (link_end n.machine.control l).remembered))))
@@ -252,25 +252,29 @@ listed_of m =
       waiting = by_descriptor m.waiting;
     }
 
--- a node whose processes are listed so
-abbrev pub listed_text : NetState → ℕ → NodeState → Listed → List ℕ
-listed_text net k n listed =
+-- a processor whose processes are listed so
+abbrev pub processor_where : ℕ → NodeState → Listed → List ℕ
+processor_where k n listed =
     node_line k n.broken n.machine.control.halted
     ++ (running_facts n.machine n.machine.control.current
     ++ (interrupted_facts n.machine n.machine.control.interrupted
     ++ (queue_facts (codes "  high queue    ") n.machine listed.high
     ++ (queue_facts (codes "  low queue     ") n.machine listed.low
-    ++ (waiting_facts n listed.waiting ++ links_facts net k n)))))
+    ++ waiting_facts n listed.waiting))))
 
 -- what stands behind the links: a processor whose processes are listed so, a source or a sink
-abbrev pub role_where : Role → NetState → ℕ → NodeState → Listed → List ℕ
-role_where Processor net k n listed = listed_text net k n listed
-role_where (Source done rest) net k n listed = source_line k done (done + length rest) ++ links_facts net k n
-role_where (Sink kept) net k n listed = sink_line k (length kept) ++ links_facts net k n
+abbrev pub role_where : Role → ℕ → NodeState → Listed → List ℕ
+role_where Processor k n listed = processor_where k n listed
+role_where (Source done rest) k n listed = source_line k done (done + length rest)
+role_where (Sink kept) k n listed = sink_line k (length kept)
+
+-- it, and the links
+abbrev pub listed_where : NetState → ℕ → NodeState → Listed → List ℕ
+listed_where net k n listed = role_where n.role k n listed ++ links_facts net k n
 
 -- a node
 abbrev pub node_where : NetState → ℕ → NodeState → List ℕ
-node_where net k n = role_where n.role net k n (listed_of n.machine.control)
+node_where net k n = listed_where net k n (listed_of n.machine.control)
 
 -- the nodes from a number on
 abbrev pub where_from : NetState → ℕ → List NodeState → List ℕ

@@ -1,6 +1,9 @@
 //! The links of a node that are not at rest.
 
-ghost use Rattle.std.specs.Prelude.{◌≡◌, ◌<◌, ◌++◌, codes, decimal, if◌then◌else◌, []};
+ghost use Rattle.std.specs.Prelude.{◌≡◌, ◌<◌, ◌++◌, codes, decimal, if◌then◌else◌, [], is_some};
+ghost use Rattle.tproc.specs.LinkChannels.{link_end};
+ghost use Rattle.tlink.specs.Node.{input_at, output_at};
+ghost use Rattle.tlink.specs.Whole.{IsWhole};
 ghost use Rattle.tnet.specs.Net.{inbox_at};
 ghost use Rattle.tnet.specs.Wires.{end_at};
 ghost use Rattle.tfiles.specs.Outputs.{Tells};
@@ -13,7 +16,6 @@ use tfiles::writing::text::{put_byte, put_decimal};
 use tlink::{Arrival, Counts, Node};
 use tnet::{Inbox, Net};
 use tplan::plan::End;
-use tproc::Offer;
 use tword::Word;
 
 /// The four links of the node of this number, with what lies at them.
@@ -23,6 +25,7 @@ pub(crate) fn put_links<W: CountedWrite>(
     number: u32,
     node: &Node,
 )
+    requires { IsWhole node.now }
     ensures { Tells W.contents W.failures out.old out.new (spec.links_facts net.now number node.now) }
 {
     put_link(out, node, 0, inbox(net, number, 0));
@@ -43,17 +46,50 @@ fn inbox(net: &Net, number: u32, link: u8) -> Inbox
 
 /// One link, with what lies at it.
 fn put_link<W: CountedWrite>(out: &mut Output<'_, W>, node: &Node, link: u8, inbox: Inbox)
-    requires { link < 4 }
+    requires whole { IsWhole node.now }
+    requires link { link < 4 }
     ensures { Tells W.contents W.failures out.old out.new (spec.link_facts node.now inbox link) }
 {
-    let end = node.processor().link(link);
     let counts = node.counts(link);
-    put_output(out, link, end.output, counts);
-    put_input(out, link, end.input, counts);
+    put_output(out, link, has_output(node, link), counts);
+    put_input(out, link, has_input(node, link), counts);
     put_arrival(out, link, b"byte waits ", counts.arrived);
     put_arrival(out, link, b"packet data ", inbox.carried);
     put_ack(out, link, inbox.acknowledged);
-    put_enabled(out, link, end.remembered);
+    put_enabled(out, link, remembered(node, link));
+}
+
+/// Whether an output is pending at a link. A source offers at link 0 the first of its messages that are not over.
+fn has_output(node: &Node, link: u8) -> bool
+    requires { IsWhole node.now }
+    ensures { result ≡ is_some (output_at node.now link) }
+{
+    if let Some(processor) = node.processor() {
+        return processor.pending_out(link).is_some();
+    }
+    match node.source() {
+        Some(source) => link == 0 && source.done() < source.messages(),
+        None => false,
+    }
+}
+
+/// Whether an input is pending at a link.
+fn has_input(node: &Node, link: u8) -> bool
+    ensures { result ≡ is_some (input_at node.now link) }
+{
+    node.due(link).is_some()
+}
+
+/// The process that enabled a link. A script has none.
+fn remembered(node: &Node, link: u8) -> Option<Word>
+    requires whole { IsWhole node.now }
+    requires link { link < 4 }
+    ensures { result ≡ (link_end node.now.machine.control link).remembered }
+{
+    match node.processor() {
+        Some(processor) => processor.link(link).remembered,
+        None => None,
+    }
 }
 
 /// What stands before each fact of a link.
@@ -66,15 +102,10 @@ fn put_name<W: CountedWrite>(out: &mut Output<'_, W>, link: u8)
 }
 
 /// A pending output: how many bytes were sent, and how many of them acknowledged.
-fn put_output<W: CountedWrite>(
-    out: &mut Output<'_, W>,
-    link: u8,
-    output: Option<Offer>,
-    counts: Counts,
-)
-    ensures { Tells W.contents W.failures out.old out.new (spec.output_fact link output counts) }
+fn put_output<W: CountedWrite>(out: &mut Output<'_, W>, link: u8, is_pending: bool, counts: Counts)
+    ensures { Tells W.contents W.failures out.old out.new (spec.output_fact link is_pending counts) }
 {
-    if let Some(_) = output {
+    if is_pending {
         put_name(out, link);
         out.put(b"sent ");
         put_decimal(out, u64::from(counts.sent));
@@ -85,15 +116,10 @@ fn put_output<W: CountedWrite>(
 }
 
 /// A pending input: how many bytes it has got.
-fn put_input<W: CountedWrite>(
-    out: &mut Output<'_, W>,
-    link: u8,
-    input: Option<Offer>,
-    counts: Counts,
-)
-    ensures { Tells W.contents W.failures out.old out.new (spec.input_fact link input counts) }
+fn put_input<W: CountedWrite>(out: &mut Output<'_, W>, link: u8, is_pending: bool, counts: Counts)
+    ensures { Tells W.contents W.failures out.old out.new (spec.input_fact link is_pending counts) }
 {
-    if let Some(_) = input {
+    if is_pending {
         put_name(out, link);
         out.put(b"got ");
         put_decimal(out, u64::from(counts.got));

@@ -5,9 +5,11 @@ ghost use Rattle.std.specs.Prelude.{◌≡◌, ◌≤◌, ◌==◌, ◌&&◌, If
 ghost use Rattle.std.specs.List.{position_or_len};
 ghost use Rattle.tproc.specs.Entries.{queue_in, waiting_in};
 ghost use Rattle.tproc.specs.Machine.{priority_of};
+ghost use Rattle.tlink.specs.Whole.{IsWhole};
 ghost use Rattle.twhere.specs.Wheres.{by_descriptor, descriptors, inserted, listed_of};
 
 use std::alloc::{AllocError, Global};
+use tlink::Node;
 use tnet::Net;
 use tproc::{Entry, Processor, Waiter};
 use tword::{Items, Word};
@@ -32,12 +34,27 @@ pub fn list_net(alloc: Global, net: &Net) -> Result<Items<Listed>, AllocError>
 {
     let mut all = Vec::new(alloc);
     for node in net.nodes() {
-        all.push(list_processes(alloc, node.processor())?)?;
+        all.push(list_node(alloc, node)?)?;
     }
     Ok(Items::new(all))
 }
 
-/// The processes of a node that are queued or wait.
+/// The processes of a node that are queued or wait. A script has none.
+fn list_node(alloc: Global, node: &Node) -> Result<Listed, AllocError>
+    requires { IsWhole node.now }
+    ensures { IfOk result (λ l. l ≡ listed_of node.now.machine.control) }
+{
+    match node.processor() {
+        Some(processor) => list_processes(alloc, processor),
+        None => Ok(Listed {
+            high: Items::new(Vec::new(alloc)),
+            low: Items::new(Vec::new(alloc)),
+            waiting: Items::new(Vec::new(alloc)),
+        }),
+    }
+}
+
+/// The processes of a processor that are queued or wait.
 fn list_processes(alloc: Global, processor: &Processor) -> Result<Listed, AllocError>
     ensures { IfOk result (λ l. l ≡ listed_of processor.now.control) }
 {

@@ -10,30 +10,48 @@ use tfiles::CountedWrite;
 use tfiles::writing::output::Output;
 use tfiles::writing::text::put_decimal;
 use tlink::Node;
-use tproc::{Offer, Reason, Waiter};
+use tproc::{Offer, Processor, Reason, Waiter};
 use tword::Word;
 
 /// Those that wait, each on a line.
-pub(crate) fn put_waiting<W: CountedWrite>(out: &mut Output<'_, W>, node: &Node, waiting: &[Waiter])
+pub(crate) fn put_waiting<W: CountedWrite>(
+    out: &mut Output<'_, W>,
+    node: &Node,
+    processor: &Processor,
+    waiting: &[Waiter],
+)
+    requires { processor.now ≡ node.now.machine }
     ensures { Tells W.contents W.failures out.old out.new (spec.waiting_facts node.now waiting.now) }
 {
     for waiter in waiting {
-        put_waiter(out, node, waiter);
+        put_waiter(out, node, processor, waiter);
     }
 }
 
 /// One of them: its Iptr, and for what it waits.
-fn put_waiter<W: CountedWrite>(out: &mut Output<'_, W>, node: &Node, waiter: &Waiter)
+fn put_waiter<W: CountedWrite>(
+    out: &mut Output<'_, W>,
+    node: &Node,
+    processor: &Processor,
+    waiter: &Waiter,
+)
+    requires { processor.now ≡ node.now.machine }
     ensures { Tells W.contents W.failures out.old out.new (spec.waiter_fact node.now waiter.now) }
 {
     out.put(b"  waits         ");
-    put_place(out, node.processor(), waiter.process);
-    put_reason(out, node, waiter.reason);
+    put_place(out, processor, waiter.process);
+    put_reason(out, node, processor, waiter.reason);
     out.put(b"\n");
 }
 
 /// What a process waits for.
-fn put_reason<W: CountedWrite>(out: &mut Output<'_, W>, node: &Node, reason: Reason)
+fn put_reason<W: CountedWrite>(
+    out: &mut Output<'_, W>,
+    node: &Node,
+    processor: &Processor,
+    reason: Reason,
+)
+    requires { processor.now ≡ node.now.machine }
     ensures { Tells W.contents W.failures out.old out.new (spec.reason_text node.now reason) }
 {
     match reason {
@@ -53,8 +71,8 @@ fn put_reason<W: CountedWrite>(out: &mut Output<'_, W>, node: &Node, reason: Rea
             out.put(b" output");
             put_channel(out, channel, buffer, length);
         }
-        Reason::LinkInput(link) => put_link_input(out, node, link),
-        Reason::LinkOutput(link) => put_link_output(out, node, link),
+        Reason::LinkInput(link) => put_link_input(out, node, processor, link),
+        Reason::LinkOutput(link) => put_link_output(out, node, processor, link),
         Reason::Chooses => out.put(b" alternative"),
     }
 }
@@ -79,29 +97,33 @@ fn put_message<W: CountedWrite>(out: &mut Output<'_, W>, buffer: Word, length: u
 }
 
 /// The input of a link.
-fn put_link_input<W: CountedWrite>(out: &mut Output<'_, W>, node: &Node, link: u8)
+fn put_link_input<W: CountedWrite>(
+    out: &mut Output<'_, W>,
+    node: &Node,
+    processor: &Processor,
+    link: u8,
+)
+    requires { processor.now ≡ node.now.machine }
     ensures { Tells W.contents W.failures out.old out.new (spec.link_input_text node.now link) }
 {
     out.put(b" input on link ");
     put_decimal(out, u64::from(link));
-    put_offer(
-        out,
-        node.processor().pending_in(link),
-        node.counts(link).got,
-    );
+    put_offer(out, processor.pending_in(link), node.counts(link).got);
 }
 
 /// The output of a link.
-fn put_link_output<W: CountedWrite>(out: &mut Output<'_, W>, node: &Node, link: u8)
+fn put_link_output<W: CountedWrite>(
+    out: &mut Output<'_, W>,
+    node: &Node,
+    processor: &Processor,
+    link: u8,
+)
+    requires { processor.now ≡ node.now.machine }
     ensures { Tells W.contents W.failures out.old out.new (spec.link_output_text node.now link) }
 {
     out.put(b" output on link ");
     put_decimal(out, u64::from(link));
-    put_offer(
-        out,
-        node.processor().pending_out(link),
-        node.counts(link).acked,
-    );
+    put_offer(out, processor.pending_out(link), node.counts(link).acked);
 }
 
 /// A message on a link, and how many of its bytes went over.

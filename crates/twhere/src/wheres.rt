@@ -1,6 +1,7 @@
-//! Where the processes and the links of a net stand, as text.
+//! Where the processes, the links and the scripts of a net stand, as text.
 
 ghost use Rattle.std.specs.Prelude.{◌≡◌, ◌≤◌, length, map};
+ghost use Rattle.tlink.specs.Whole.{IsWhole};
 ghost use Rattle.tfiles.specs.Outputs.{Tells};
 ghost use Rattle.twhere.specs.Wheres as spec;
 
@@ -11,11 +12,13 @@ use crate::waiting::put_waiting;
 use tfiles::CountedWrite;
 use tfiles::writing::node_dump::put_node_line;
 use tfiles::writing::output::Output;
+use tfiles::writing::scripts::{put_sink_line, put_source};
 use tlink::Node;
 use tnet::Net;
+use tproc::Processor;
 
 /// Where the processes and the links of each node stand (own choice of format, `specs/Wheres`), in the order of the
-/// nodes. The processes that are queued or wait are those that `list_net` lists. It takes no memory.
+/// nodes, sources and sinks behind them. The processes that are queued or wait are those that `list_net` lists. It takes no memory.
 pub fn put_where<W: CountedWrite>(out: &mut Output<'_, W>, net: &Net, listed: &[Listed])
     requires listed { listed.now ≡ map (λ n. spec.listed_of n.machine.control) net.now.nodes }
     requires few { length net.now.nodes ≤ 64 }
@@ -26,7 +29,7 @@ pub fn put_where<W: CountedWrite>(out: &mut Output<'_, W>, net: &Net, listed: &[
     }
 }
 
-/// One node, whose number is given.
+/// One node, whose number is given, with its links.
 fn put_node<W: CountedWrite>(
     out: &mut Output<'_, W>,
     net: &Net,
@@ -34,14 +37,42 @@ fn put_node<W: CountedWrite>(
     node: &Node,
     listed: &Listed,
 )
-    ensures { Tells W.contents W.failures out.old out.new (spec.listed_text net.now number node.now listed.now) }
+    requires { IsWhole node.now }
+    ensures { Tells W.contents W.failures out.old out.new (spec.listed_where net.now number node.now listed.now) }
 {
-    let processor = node.processor();
+    put_role(out, number, node, listed);
+    put_links(out, net, number, node);
+}
+
+/// What stands behind the links: a processor, a source or a sink.
+fn put_role<W: CountedWrite>(out: &mut Output<'_, W>, number: u32, node: &Node, listed: &Listed)
+    ensures { Tells W.contents W.failures out.old out.new
+        (spec.role_where node.now.role number node.now listed.now) }
+{
+    if let Some(processor) = node.processor() {
+        put_processor(out, number, node, processor, listed);
+    } else if let Some(source) = node.source() {
+        put_source(out, number as usize, source);
+    } else if let Some(sink) = node.sink() {
+        put_sink_line(out, number as usize, sink.kept().count());
+    }
+}
+
+/// The processor of a node.
+fn put_processor<W: CountedWrite>(
+    out: &mut Output<'_, W>,
+    number: u32,
+    node: &Node,
+    processor: &Processor,
+    listed: &Listed,
+)
+    requires { processor.now ≡ node.now.machine }
+    ensures { Tells W.contents W.failures out.old out.new (spec.processor_where number node.now listed.now) }
+{
     put_node_line(out, number as usize, node.broken(), processor.is_halted());
     put_running(out, processor);
     put_interrupted(out, processor);
     put_queue(out, b"  high queue    ", processor, listed.high.as_slice());
     put_queue(out, b"  low queue     ", processor, listed.low.as_slice());
-    put_waiting(out, node, listed.waiting.as_slice());
-    put_links(out, net, number, node);
+    put_waiting(out, node, processor, listed.waiting.as_slice());
 }

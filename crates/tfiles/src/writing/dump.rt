@@ -1,23 +1,26 @@
-//! The dump of a net: those of its nodes, in their order.
+//! The dump of a net: those of its nodes, in their order, and behind them those of its sources and sinks.
 
 ghost use Rattle.std.specs.Prelude.{IfErr, ◌≡◌, length, option_map};
 ghost use Rattle.tproc.specs.Machine.{buffer_of, claims_of};
 ghost use Rattle.tproc.specs.Hidden.{hidden};
 ghost use Rattle.tproc.specs.Messages.{input_of};
+ghost use Rattle.tlink.specs.Whole.{IsWhole};
 ghost use Rattle.tnet.specs.View.{view};
-ghost use Rattle.tfiles.specs.Texts.{dump_of, dump_text};
+ghost use Rattle.tfiles.specs.Texts.{dump_of, dump_text, role_dump};
 ghost use Rattle.tfiles.specs.Failures.{HasRisen};
 ghost use Rattle.tfiles.specs.Outputs.{IsOut, Tells};
 
 use crate::counted::CountedWrite;
 use crate::writing::node_dump::put_node_dump;
 use crate::writing::output::{Output, WriteFault};
+use crate::writing::scripts::{put_sink, put_source};
 use tlink::Node;
 use tnet::Net;
 use tproc::Processor;
-use tword::Span;
+use tword::{Break, Span};
 
-/// Writes the dumps of all nodes (own choice of format). A byte that a pending link input is to write is hidden.
+/// Writes the dumps of all nodes, and behind them those of sources and sinks (own choice of format). A byte that a
+/// pending link input is to write is hidden; of a sink the messages that it has kept whole are shown.
 ///
 /// # Errors
 /// Where the writer fails or takes nothing. Just so many of the first bytes are written as the fault tells.
@@ -39,17 +42,36 @@ pub fn put_dump<W: CountedWrite>(out: &mut Output<'_, W>, net: &Net)
     }
 }
 
-/// The dump of a node.
+/// The dump of a node: of its processor, or of the script in the place of one.
 fn put_node<W: CountedWrite>(out: &mut Output<'_, W>, number: usize, node: &Node)
-    requires { length node.now.machine.control.links ≡ 4 }
+    requires { IsWhole node.now }
     ensures { Tells W.contents W.failures out.old out.new
-        (dump_of number node.now.broken node.now.machine.control.halted (hidden node.now.machine).store) }
+        (role_dump node.now.role number node.now.broken (hidden node.now.machine)) }
 {
-    let processor = node.processor();
+    if let Some(processor) = node.processor() {
+        put_processor(out, number, node.broken(), processor);
+    } else if let Some(source) = node.source() {
+        put_source(out, number, source);
+    } else if let Some(sink) = node.sink() {
+        put_sink(out, number, sink);
+    }
+}
+
+/// The dump of a processor.
+fn put_processor<W: CountedWrite>(
+    out: &mut Output<'_, W>,
+    number: usize,
+    broken: Option<Break>,
+    processor: &Processor,
+)
+    requires { length processor.now.control.links ≡ 4 }
+    ensures { Tells W.contents W.failures out.old out.new
+        (dump_of number broken processor.now.control.halted (hidden processor.now).store) }
+{
     put_node_dump(
         out,
         number,
-        node.broken(),
+        broken,
         processor.is_halted(),
         processor.bytes(),
         &pending_inputs(processor),

@@ -1,7 +1,7 @@
 use Rattle.std.proofs.Common.{◌≡◌, ◌≤◌, ◌<◌, sym, ap, ◌∙◌, length, get_or}
 use Rattle.twhere.specs.declared.listing.Listed.{Listed}
 use Rattle.tlink.specs.Node.{NodeState}
-use Rattle.twhere.specs.Wheres.{listed_of, listed_text, node_where, where_text}
+use Rattle.twhere.specs.Wheres.{listed_of, listed_where, node_where, where_text}
 use Rattle.twhere.proofs.WhereNodes.{listed_at, where_end, where_next}
 use Rattle.tfiles.proofs.Told.{tells_as, goes_on-start, goes_on-next, goes_on-end}
 use Rattle.twhere.proofs.wheres.put_where.Goals as goal
@@ -22,7 +22,7 @@ loop-number-preserved g c =
     goes_on-next _ _ c.loop-number.invariant
     (where_next c.args.net.now c.loop-number.number c.args.net.now.nodes c.node-item.result below)
     (tells_as c.put_node.ensures
-    (ap (λ (l : Listed). listed_text c.args.net.now c.loop-number.number c.node-item.result l) listed
+    (ap (λ (l : Listed). listed_where c.args.net.now c.loop-number.number c.node-item.result l) listed
     ∙ ap (λ (n : NodeState). node_where c.args.net.now c.loop-number.number n) is))
 
 pub returns : goal.returns
