@@ -16,7 +16,6 @@ pub mod Failures
 pub mod Told
 pub mod DumpLines
 pub mod KeptMessages
-pub mod NodeRoles
 pub mod NetDumps
 pub mod DisLines
 pub mod SignedText

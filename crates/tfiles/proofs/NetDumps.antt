@@ -1,6 +1,6 @@
 -- The dumps of the nodes of a net, one after another.
 use Rattle.std.proofs.Common.{◌≡◌, ℕ, zero, suc, refl, sym, ap, ap₂, ◌∙◌, ◌+◌, ◌<◌, ◌≤◌, List, [], ◌∷◌, ◌++◌, length}
-use Rattle.std.proofs.Common.{drop, get_or, arith, add-one, append_assoc, append-nil, Bool, Option, Some, None}
+use Rattle.std.proofs.Common.{drop, get_or, arith, add-one, append_assoc, append-nil, Bool, Option, Some}
 use Rattle.std.specs.Prelude.{map, zip}
 use Rattle.std.proofs.Math.Seq.{drop-cons}
 use Rattle.std.proofs.lemmas.Option.{same_Some}
@@ -13,7 +13,7 @@ use Rattle.tlink.specs.Roles.{Role, Processor, Source, Sink}
 use Rattle.tlink.specs.Node.{NodeState}
 use Rattle.tlink.specs.Whole.{IsHeld}
 use Rattle.tlink.specs.Scripts.{done_messages, all_messages, messages_of, kept_messages}
-use Rattle.tlink.specs.Scripts.{processor_of, source_of, sink_of}
+use Rattle.tlink.specs.Scripts.{source_of, sink_of}
 use Rattle.tnet.specs.declared.inbox.Inbox.{Inbox}
 use Rattle.tnet.specs.Net.{NetState}
 use Rattle.tnet.specs.Sound.{IsSound}
@@ -80,15 +80,7 @@ dump_known n m broken halted pending store h p s =
     ap (λ (h : Bool). dump_of n broken h (hiding (is_pending pending) store)) h
     ∙ ap₂ (λ (p : List (Option Span)) (s : Store). dump_of n broken m.control.halted (hiding (is_pending p) s)) p s
 
--- what stands behind the links is a processor, a source or a sink, with its dump
-pub processor_dump : (role : Role) (n : ℕ) (broken : Option Break) (m p : Machine)
-    → Some p ≡ processor_of role m
-    → dump_of n broken p.control.halted (hidden p).store ≡ role_dump role n broken (hidden m)
-processor_dump Processor n broken m p h =
-    ap (λ (m : Machine). dump_of n broken m.control.halted (hidden m).store) (same_Some p m h)
-processor_dump (Source done rest) n broken m p h = cc
-processor_dump (Sink kept) n broken m p h = cc
-
+-- the dump of a source
 pub source_dump : (role : Role) (n : ℕ) (broken : Option Break) (x s : NodeState) → x.role ≡ role
     → Some s ≡ source_of x role
     → source_line n (done_messages s.role) (all_messages s.role) ≡ role_dump role n broken (hidden x.machine)
@@ -98,6 +90,7 @@ source_dump (Source done rest) n broken x s e h =
     (ap (λ (y : NodeState). y.role) (same_Some s x h) ∙ e)
 source_dump (Sink kept) n broken x s e h = cc
 
+-- the dump of a sink
 pub kept_dump : (role : Role) (n : ℕ) (broken : Option Break) (x s : NodeState) → x.role ≡ role
     → IsHeld role x.machine → Some s ≡ sink_of x role
     → sink_dump n (kept_messages s) ≡ role_dump role n broken (hidden x.machine)

@@ -1,6 +1,6 @@
 -- What the answer of a node to an event emits and tells.
 use Rattle.std.proofs.Common.{◌≡◌, ℕ, refl, List, [], Bool, true, false, Ok, Err, Option, Some, None, ◌⊎◌, inl, inr, ap}
-use Rattle.std.specs.Prelude.{⊤, if◌then◌else◌, ◌+◌, ◌&&◌, ◌==◌, nat_lt}
+use Rattle.std.specs.Prelude.{⊤, if◌then◌else◌, ◌&&◌, ◌==◌, nat_lt}
 use Rattle.tword.specs.declared.breaks.Break.{Break}
 use Rattle.tproc.specs.declared.offer.Offer.{Offer}
 use Rattle.tlink.specs.declared.counts.Arrival.{Arrival}
@@ -11,6 +11,7 @@ use Rattle.tlink.specs.declared.event.NodeEvent.{NodeEvent}
 use Rattle.tlink.specs.declared.event.NodeEvent.TheVariants.{Run, Send, Data, Take, Ack}
 use Rattle.tlink.specs.declared.event.Mark.TheVariants.{Nothing, Halted}
 use Rattle.tlink.specs.declared.event.StepFault.TheVariants.{NotEnabled, Frozen}
+use Rattle.tlink.specs.Roles.{has_room, is_full}
 use Rattle.tlink.specs.Node.{NodeState, counts_at, output_at, input_at, is_wired}
 use Rattle.tlink.specs.Events.{Answer, happens, unless_frozen, emitting, after_send, after_take, take_marked}
 use Rattle.tlink.specs.Events.{node_left_by, node_answered}
@@ -57,7 +58,12 @@ take_on : (l : ℕ) (a : Option Arrival) (o : Option Offer) (c : Counts) (n : No
     → EmitsOn l (after_take l a o c n)
 take_on l None o c n = tt
 take_on l (Some a) None c n = tt
-take_on l (Some a) (Some o) c n = marked_on l a.byte a.last (c.got + 1 == o.length) o c n
+take_on l (Some a) (Some o) c n = by (has_room n.role o c)
+  where
+    by : (t : Bool)
+        → EmitsOn l (if t then take_marked l a.last (is_full n.role a o c) a.byte o c n else Err NotEnabled)
+    by true = marked_on l a.byte a.last (is_full n.role a o c) o c n
+    by false = tt
 
 happens-send_on : (l : ℕ) (n : NodeState) → EmitsOn l (happens (Send l) n)
 unfolding happens

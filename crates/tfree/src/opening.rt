@@ -95,8 +95,9 @@ fn room(
     Ok((allotments, list))
 }
 
-/// Opens a net for so many workers, from 1 to 64. The nodes are shared out in their order, each worker gets as many
-/// as the others, rounded up, and the last may get fewer. What lay at the ends of wires lies in the rings.
+/// Opens a net for so many workers, from 1 to 64. The nodes, and behind them the sources and the sinks, are shared out
+/// in their order, each worker gets as many as the others, rounded up, and the last may get fewer. What lay at the ends
+/// of wires lies in the rings.
 ///
 /// # Errors
 /// `BadWorkers`, or `OutOfMemory`; the net comes back as it was.

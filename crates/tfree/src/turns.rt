@@ -134,7 +134,8 @@ impl Worker {
     }
 
     /// A turn over all its nodes: of each, at most two packets of each link, then the bytes that wait, then runs,
-    /// at most `slice`, then the next bytes of its outputs. It waits for nobody.
+    /// at most `slice`, then the next bytes of its outputs. Of a source or a sink no run is ever enabled. It waits for
+    /// nobody.
     ///
     /// # Errors
     /// `OutOfMemory`, or `ClockFull` where the stamp of the next event would not fit. The events that were done

@@ -1,16 +1,18 @@
 -- A node of the rendezvous machine, of any role: a byte is hidden exactly where a pending input claims it.
-use Rattle.std.proofs.Common.{◌≡◌, ◌≢◌, ℕ, zero, suc, ◌+◌, ◌-◌, ◌≤◌, refl, sym, ap, ◌∙◌, List, [], ◌∷◌, ◌++◌, length}
-use Rattle.std.proofs.Common.{get_or, Bool, true, false, Result, Ok, Some, None, arith}
+use Rattle.std.proofs.Common.{◌≡◌, ◌≢◌, ℕ, zero, suc, ◌+◌, ◌-◌, ◌<◌, ◌≤◌, refl, sym, ap, ◌∙◌, List, [], ◌∷◌, ◌++◌}
+use Rattle.std.proofs.Common.{length, get_or, Bool, true, false, Result, Ok, Some, None, arith}
 use Rattle.std.specs.Prelude.{sum, drop, slice_index_or}
 use Rattle.std.specs.List.{list_any}
 use Rattle.std.proofs.lemmas.List.Sums.{sum_by_push}
 use Rattle.tword.specs.declared.breaks.Break.{Break}
 use Rattle.tword.specs.Words.{most_neg}
-use Rattle.tword.specs.Stores.{Store, cells, with_cells, bytes_at}
+use Rattle.tword.specs.Stores.{Store, place, cells, with_cells, bytes_at}
 use Rattle.tword.specs.declared.span.Span.{Span}
 use Rattle.tword.specs.Claims.{overlap, overlaps_claim, is_input}
 use Rattle.tword.specs.Touches.{byte_span}
 use Rattle.tword.proofs.Hiding.{covers, length-hiding_from, get_or-hiding_from, overlap-parts}
+use Rattle.tword.proofs.Copying.{with_cells-below}
+use Rattle.tword.proofs.Laying.{length-cells}
 use Rattle.tword.proofs.Seen.{IsSeenOutside}
 use Rattle.tproc.specs.declared.offer.Offer.{Offer}
 use Rattle.tproc.specs.declared.offer.Ran.{Ran}
@@ -18,6 +20,7 @@ use Rattle.tproc.specs.declared.offer.Ran.TheVariants as ran
 use Rattle.tproc.specs.Machine.{Control, Machine, claims_of}
 use Rattle.tproc.specs.LinkChannels.{link_end}
 use Rattle.tproc.specs.Hidden.{hidden}
+use Rattle.tproc.specs.Placement.{LiesWithin}
 use Rattle.tproc.specs.Scripts.{input_moved}
 use Rattle.tproc.specs.Steps.{step, step_left_by}
 use Rattle.tproc.specs.Links.{notice}
@@ -26,7 +29,7 @@ use Rattle.tproc.proofs.Keeping.{keeps_store}
 use Rattle.tproc.proofs.LinkClaims.{input_claim, set_same}
 use Rattle.tproc.proofs.OffersStand.{StillOffers, step_offers, notice_offers, finish_output_offers, given_offers}
 use Rattle.tproc.proofs.Scripted.{input_moved-outside}
-use Rattle.tproc.proofs.Handing.{input_lies}
+use Rattle.tproc.proofs.Handing.{input_lies, output_lies}
 use Rattle.tproc.proofs.Veiled.{IsVeiled, step_veiled, notice_veiled, finish_output_veiled}
 use Rattle.tlink.specs.Roles.{Role, Processor, Source, Sink, first_offer, behind, receives}
 use Rattle.tlink.specs.Roles.{role_woken, woken, role_filled, filled}
@@ -228,6 +231,42 @@ module _ (a b : Machine) (k l : ℕ) (out inp : Offer) (g : IsGiven a b k l out 
       let f : None ≡ Some inp = sym (source_asks_none rest b l v.held) ∙ g.asks in cc
   given-message (Sink kept) v fits =
       moved-bytes a b k l out inp g (input_moved l out.length b.control) (kept_apart kept v.held)
+
+  -- a sink's bytes before them are those that it had
+  pub kept_before : (kept : List ℕ) → AreVeils (Sink kept) b → (i : ℕ) → i < sum kept
+      → get_or (hidden (filled (Sink kept) l out.length holding)).store i None ≡ get_or b.store i None
+  kept_before kept v i before =
+      get_or-hiding_from (λ x. is_input (claims_of after.control) (byte_span x)) most_neg holding.store i
+      ∙ rw unclaimed
+      (with_cells-below b.store inp.buffer out.length (cells a.store out.buffer out.length) lies.0 room size i below)
+    where
+      after : Machine
+      after = filled (Sink kept) l out.length holding
+
+      held : IsSink (kept ++ out.length ∷ []) after
+      held = moved_held kept v.held
+
+      at : inp.buffer ≡ most_neg + sum kept
+      at = sym (ap (λ (o : Offer). o.buffer) (sink_asks kept b l inp v.held g.asks).1)
+
+      lies : LiesWithin (length b.store) inp
+      lies = input_lies b l inp g.receiver g.asks
+
+      room : place inp.buffer + out.length ≤ length b.store
+      room = omega (arith, lies.1, g.fits)
+
+      size : length (cells a.store out.buffer out.length) ≡ out.length
+      size = length-cells a.store out.buffer out.length (output_lies a k out g.sender g.offers).1
+
+      below : i < place inp.buffer
+      below = omega (arith, at)
+
+      unclaimed : is_input (claims_of after.control) (byte_span (most_neg + i)) ≡ false
+      unclaimed =
+          let total : sum (kept ++ out.length ∷ []) ≡ sum kept + out.length = sum_by_push (λ x. x) kept out.length in
+          ap (λ (c : Control). is_input (claims_of c) (byte_span (most_neg + i))) held.control
+          ∙ rw (before_apart (byte_span (most_neg + i))
+          (record { start = most_neg + sum (kept ++ out.length ∷ []); size = held.room }) (omega (arith, total))) refl
 
   -- and an output of the receiver stands: a sink has none
   pub given_still : (role : Role) → AreVeils role b → Fits role out inp → (j : ℕ) (o : Offer)

@@ -8,7 +8,7 @@ ghost use Rattle.tfiles.specs.Outputs.{Tells};
 use crate::counted::CountedWrite;
 use crate::writing::output::Output;
 use crate::writing::text::{put_decimal, put_hex};
-use tlink::{Messages, Sink, Source};
+use tlink::{Sink, Source};
 
 /// The line of a source (own choice of format), as `source 2 done 1 of 2`: its number, how many of its messages are
 /// over, and how many it has.
@@ -42,15 +42,15 @@ pub fn put_sink_line<W: CountedWrite>(out: &mut Output<'_, W>, number: usize, me
 pub(crate) fn put_sink<W: CountedWrite>(out: &mut Output<'_, W>, number: usize, sink: &Sink)
     ensures { Tells W.contents W.failures out.old out.new (sink_dump number (kept_messages sink.now)) }
 {
-    let messages = sink.kept();
-    put_sink_line(out, number, messages.count());
-    put_messages(out, messages);
+    put_sink_line(out, number, sink.kept().count());
+    put_messages(out, sink);
 }
 
-/// The lines of messages that a sink has kept.
-fn put_messages<W: CountedWrite>(out: &mut Output<'_, W>, mut messages: Messages<'_>)
-    ensures { Tells W.contents W.failures out.old out.new (flat_map kept_line messages) }
+/// The lines of the messages that a sink has kept.
+fn put_messages<W: CountedWrite>(out: &mut Output<'_, W>, sink: &Sink)
+    ensures { Tells W.contents W.failures out.old out.new (flat_map kept_line (kept_messages sink.now)) }
 {
+    let mut messages = sink.kept();
     while let Some(message) = messages.take_first() {
         put_message(out, message);
     }

@@ -1,5 +1,5 @@
-use Rattle.std.proofs.Common.{ℕ, List, ap, ap₂, ◌∙◌, length, flat_map}
-use Rattle.tfiles.specs.Texts.{kept_line, sink_line}
+use Rattle.std.proofs.Common.{ℕ, ap, ◌∙◌, length}
+use Rattle.tfiles.specs.Texts.{sink_line}
 use Rattle.tfiles.proofs.Told.{tells_then, tells_as}
 use Rattle.tfiles.proofs.writing.scripts.put_sink.Goals as goal
 
@@ -7,5 +7,5 @@ pub returns : goal.returns
 returns g c =
     tells_then
     (tells_as c.put_sink_line.ensures
-    (ap (λ (n : ℕ). sink_line c.args.number n) (c.count.ensures ∙ ap length c.kept-messages.ensures)))
-    (tells_as c.put_messages.ensures (ap (flat_map kept_line) c.kept-messages.ensures))
+    (ap (λ (n : ℕ). sink_line c.args.number n) (c.count.ensures ∙ ap length c.kept.ensures)))
+    c.put_messages.ensures
