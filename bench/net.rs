@@ -1,5 +1,5 @@
-//! The benchmarks of nets in plain, safe Rust, event by event: nodes in a ring that send messages on, and nodes in a row
-//! between a source and a sink.
+//! The benchmarks of nets in plain, safe Rust, event by event: nodes in a ring that send messages on, and nodes in a
+//! row between a source and a sink.
 
 mod plain;
 
