@@ -10,6 +10,7 @@ pub mod memory;
 pub mod net;
 pub mod processor;
 pub mod programs;
+pub mod scripts;
 pub mod text;
 pub mod wiring;
 

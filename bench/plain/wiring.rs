@@ -1,6 +1,7 @@
 //! Wirings: as much of TOML as the examples and the benchmarks use. Holds are left out.
 
 use super::net::End;
+use super::scripts::{Sink, Source};
 
 pub struct NodePlan {
     pub memory: usize,
@@ -11,6 +12,8 @@ pub struct Wiring {
     pub timeslice: u32,
     pub nodes: Vec<NodePlan>,
     pub wires: Vec<(End, End)>,
+    pub sources: Vec<Source>,
+    pub sinks: Vec<Sink>,
 }
 
 /// The table that is being read.
@@ -18,6 +21,8 @@ enum Table {
     Top { version: Option<u32>, timeslice: Option<u32> },
     Node { memory: Option<u32>, image: Option<String> },
     Wire { a: Option<End>, b: Option<End> },
+    Source { end: Option<End>, messages: Option<Vec<Vec<u8>>> },
+    Sink { end: Option<End>, capacity: Option<u32> },
 }
 
 impl Table {
@@ -26,6 +31,8 @@ impl Table {
         match heading {
             "[[node]]" => Some(Table::Node { memory: None, image: None }),
             "[[wire]]" => Some(Table::Wire { a: None, b: None }),
+            "[[source]]" => Some(Table::Source { end: None, messages: None }),
+            "[[sink]]" => Some(Table::Sink { end: None, capacity: None }),
             _ => None,
         }
     }
@@ -39,6 +46,10 @@ impl Table {
             (Table::Node { image, .. }, "image") => set(image, text(value)),
             (Table::Wire { a, .. }, "a") => set(a, end(value)),
             (Table::Wire { b, .. }, "b") => set(b, end(value)),
+            (Table::Source { end: place, .. }, "end") => set(place, end(value)),
+            (Table::Source { messages: place, .. }, "messages") => set(place, messages(value)),
+            (Table::Sink { end: place, .. }, "end") => set(place, end(value)),
+            (Table::Sink { capacity, .. }, "capacity") => set(capacity, value.parse().ok()),
             _ => None,
         }
     }
@@ -47,13 +58,15 @@ impl Table {
     fn close(self, wiring: &mut Wiring) -> Option<()> {
         match self {
             Table::Top { version, timeslice } => {
-                version.filter(|number| *number == 1)?;
+                version.filter(|number| matches!(number, 1 | 2))?;
                 wiring.timeslice = timeslice.unwrap_or(wiring.timeslice);
             }
             Table::Node { memory, image } => {
                 wiring.nodes.push(NodePlan { memory: memory? as usize, image: image? });
             }
             Table::Wire { a, b } => wiring.wires.push((a?, b?)),
+            Table::Source { end, messages } => wiring.sources.push(Source::new(end?, messages?)),
+            Table::Sink { end, capacity } => wiring.sinks.push(Sink::new(end?, capacity? as usize)),
         }
         Some(())
     }
@@ -79,6 +92,23 @@ fn end(value: &str) -> Option<End> {
     Some(End { node: node.trim().parse().ok()?, link: link.trim().parse().ok()? })
 }
 
+/// Messages in a list that stands on one line.
+fn messages(value: &str) -> Option<Vec<Vec<u8>>> {
+    let inner = value.strip_prefix('[')?.strip_suffix(']')?;
+    inner.split_terminator(',').map(|value| message(&text(value.trim())?)).collect()
+}
+
+/// The bytes of pairs of hexadecimal digits.
+fn message(digits: &str) -> Option<Vec<u8>> {
+    let value = |digit: u8| char::from(digit).to_digit(16);
+    let pair = |pair: &[u8]| match pair {
+        [high, low] => Some((value(*high)? * 16 + value(*low)?) as u8),
+        _ => None,
+    };
+    let bytes: Option<Vec<_>> = digits.as_bytes().chunks(2).map(pair).collect();
+    bytes.filter(|bytes| (1..=4_096).contains(&bytes.len()))
+}
+
 /// A line without its comment and without blanks around it.
 fn bare(line: &str) -> &str {
     let mut is_quoted = false;
@@ -102,7 +132,7 @@ fn read_line(line: &str, table: &mut Table, wiring: &mut Wiring) -> Option<()> {
 }
 
 pub fn read_wiring(text: &str) -> Result<Wiring, String> {
-    let mut wiring = Wiring { timeslice: 1_024, nodes: vec![], wires: vec![] };
+    let mut wiring = Wiring { timeslice: 1_024, nodes: vec![], wires: vec![], sources: vec![], sinks: vec![] };
     let mut table = Table::Top { version: None, timeslice: None };
     for (line, number) in text.lines().zip(1..) {
         let read = read_line(bare(line), &mut table, &mut wiring);

@@ -8,6 +8,7 @@ mod free;
 mod local_loop;
 mod mixed_code;
 mod nets;
+mod pipeline;
 mod programs;
 mod rounds;
 mod scheduling;
@@ -28,6 +29,7 @@ enum Benchmark {
     Local(Claims),
     Processor(Job),
     Net(Ring),
+    Pipeline,
     Crew(Crew),
 }
 
@@ -72,7 +74,7 @@ fn in_turns(load: Load, slice: u32, workers: usize) -> Benchmark {
 }
 
 /// All of them, by name.
-fn benchmarks() -> [(&'static str, Benchmark); 30] {
+fn benchmarks() -> [(&'static str, Benchmark); 31] {
     [
         ("decode", Benchmark::Decode),
         ("local", Benchmark::Local(Claims::Nothing)),
@@ -90,6 +92,7 @@ fn benchmarks() -> [(&'static str, Benchmark); 30] {
         ("net-byte", ring(2, 1)),
         ("net-kilobyte", ring(2, 1_024)),
         ("net-ring", ring(64, 4)),
+        ("net-pipeline", Benchmark::Pipeline),
         ("rounds-1024", in_rounds(Load::Computing, 1_024, 1)),
         ("rounds-1024-2", in_rounds(Load::Computing, 1_024, 2)),
         ("rounds-1024-4", in_rounds(Load::Computing, 1_024, 4)),
@@ -119,6 +122,7 @@ fn done<R: Threads + Sync>(
         Benchmark::Local(claims) => local_loop::looped(alloc, amount, claims),
         Benchmark::Processor(job) => scheduling::worked(alloc, amount, job),
         Benchmark::Net(ring) => nets::went_round(alloc, amount, ring),
+        Benchmark::Pipeline => pipeline::went_through(alloc, amount),
         Benchmark::Crew(crew) => crew::worked(rt, alloc, amount, crew),
     }
 }

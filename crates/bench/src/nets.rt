@@ -87,6 +87,11 @@ pub fn wired(alloc: Global, nodes: Vec<NodePlan>) -> Result<Plan, AllocError> {
     })
 }
 
+/// A node that waits for a message of so many bytes, and then sends it on.
+pub fn passes_on(alloc: Global, length: u32) -> Result<NodePlan, AllocError> {
+    node(alloc, &PONG, &[BACK, ONWARD, BUFFER, length])
+}
+
 /// By turns a node that sends on what it has, and then waits for the next, and one that waits first.
 fn plan(alloc: Global, ring: Ring) -> Result<Plan, AllocError> {
     let mut nodes = Vec::new(alloc);
@@ -94,7 +99,7 @@ fn plan(alloc: Global, ring: Ring) -> Result<Plan, AllocError> {
         let planned = if number % 2 == 0 {
             node(alloc, &PING, &[ONWARD, BACK, BUFFER, ring.length])?
         } else {
-            node(alloc, &PONG, &[BACK, ONWARD, BUFFER, ring.length])?
+            passes_on(alloc, ring.length)?
         };
         nodes.push(planned)?;
     }
@@ -103,13 +108,13 @@ fn plan(alloc: Global, ring: Ring) -> Result<Plan, AllocError> {
 
 /// One event, if it is enabled: whether it was done.
 #[inline]
-fn tried(net: &mut Net, node: u8, act: Act) -> bool {
+pub fn tried(net: &mut Net, node: u8, act: Act) -> bool {
     !matches!(&net.step(Event { node, act }), Err(StepFault::NotEnabled))
 }
 
 /// One node does what comes and what it can: how many events that was.
 #[inline]
-fn turn(net: &mut Net, node: u8) -> u32 {
+pub fn turn(net: &mut Net, node: u8) -> u32 {
     let mut done = 0u32;
     for act in [Act::Ack(1), Act::Data(2), Act::Take(2)] {
         if tried(net, node, act) {
@@ -147,7 +152,7 @@ fn turns(net: &mut Net, ring: Ring, count: u64) -> u64 {
 pub fn answered(net: &Net, operations: u64) -> Answer {
     let mut sum = mixed(BEGIN, (operations % 4_294_967_296) as u32);
     for node in net.nodes() {
-        sum = checksum(sum, node.processor().bytes());
+        sum = checksum(sum, node.bytes());
     }
     Answer { operations, sum }
 }

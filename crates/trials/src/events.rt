@@ -174,7 +174,7 @@ fn draw(net: &mut Net, seed: u32, count: u32) -> u32 {
 fn digest_with_memories(digest: u32, net: &Net) -> u32 {
     let mut digest = digest;
     for node in net.nodes() {
-        for byte in node.processor().bytes() {
+        for byte in node.bytes() {
             digest = digest_with(digest, u32::from(*byte));
         }
     }

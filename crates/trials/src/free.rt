@@ -1,8 +1,8 @@
 //! Free workers: what their turns do with packets between them, on one thread and on three.
 
-use crate::plans::{event, lengths, ring, transfer};
+use crate::plans::{event, lengths, ring, scripted, transfer};
 use crate::rounds::Open;
-use crate::texts::{LENGTHS_LINES, PAIR_LINES, ring_lines, shown};
+use crate::texts::{LENGTHS_LINES, PAIR_LINES, SCRIPTED_LINES, ring_lines, shown};
 use crate::threads::on_threads_until_idle;
 use crate::workers::{
     SLICE, gathered, hold_back, opened, put_back, replay_shown_of, rotate, rotate_until_idle,
@@ -111,6 +111,24 @@ fn lengths_that_differ(rt: HostRuntime) -> Result<(), Fail> {
     assert!(rt; rotate_until_idle(&mut workers));
     let done = gathered(alloc, workers)?;
     assert!(rt; shown_of(alloc, &done)?.as_slice() == LENGTHS_LINES.as_bytes());
+    Ok(())
+}
+
+/// A worker of all, and one each for a node, its source and its sink.
+#[test]
+fn a_source_and_a_sink_by_turns_in_rotation(rt: HostRuntime) -> Result<(), Fail> {
+    let alloc = rt.alloc();
+    for count in [1, 3] {
+        let net = Net::build(alloc, scripted(alloc)?)?;
+        let copy = net.try_copy(alloc)?;
+        let mut workers = opened(alloc, net, count)?;
+        assert!(rt; rotate_until_idle(&mut workers));
+        let done = gathered(alloc, workers)?;
+        let lines = shown_of(alloc, &done)?;
+        assert!(rt; lines.as_slice() == SCRIPTED_LINES.as_bytes());
+        assert!(rt; lines.as_slice() == replay_shown_of(alloc, copy, &done)?.as_slice());
+        assert!(rt; done.net.is_quiet());
+    }
     Ok(())
 }
 

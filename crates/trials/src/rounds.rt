@@ -36,9 +36,14 @@ fn refused<R: Threads + Sync>(
     }
 }
 
+/// The processor of a node.
+fn processor_of(net: &Net, node: usize) -> Option<&Processor> {
+    net.nodes().get(node)?.processor()
+}
+
 /// Four bytes of a node's memory.
 fn word(net: &Net, node: usize, address: u32) -> Option<[u8; 4]> {
-    let processor = net.nodes().get(node)?.processor();
+    let processor = processor_of(net, node)?;
     Some([
         processor.byte_at(Word::new(address))?,
         processor.byte_at(Word::new(address.checked_add(1)?))?,
@@ -151,8 +156,8 @@ fn is_same_net(one: &Net, other: &Net) -> bool {
                 return false;
             }
         }
-        let same = match (one.nodes().get(node), other.nodes().get(node)) {
-            (Some(mine), Some(yours)) => is_same_processor(mine.processor(), yours.processor()),
+        let same = match (processor_of(one, node), processor_of(other, node)) {
+            (Some(mine), Some(yours)) => is_same_processor(mine, yours),
             _ => false,
         };
         if !same {

@@ -37,6 +37,21 @@ node 1 frozen LengthMismatch
 80000100: 00 00 00 00 -- -- -- -- 00 00 00 00 00 00 00 00
 ";
 
+/// The trace and the dumps of a node between a source and a sink: it waits for a third message.
+pub const SCRIPTED_LINES: &str = "msg 1.0 0.2 4 01020304
+msg 0.1 2.0 4 01020304
+msg 1.0 0.2 4 0a0b0c0d
+msg 0.1 2.0 4 0a0b0c0d
+node 0 ok
+80000080: 11 24 f2 56 44 f7 11 24 f2 51 44 fb 60 02 00 00
+800000f0: 00 00 00 00 00 00 00 00 00 00 00 00 86 00 00 80
+80000100: 00 00 00 00 -- -- -- -- 00 00 00 00 00 00 00 00
+source 1 done 2 of 2
+sink 2 messages 2
+kept 01020304
+kept 0a0b0c0d
+";
+
 /// The messages of once round the ring.
 pub const ONCE_ROUND: &str = "msg 0.1 1.2 4 2a000000
 msg 1.1 2.2 4 2a000000

@@ -3,8 +3,8 @@
 -- Source: own choice, a format of this program; the names of registers, flags and queues are the Compiler Writer's
 -- Guide's (1988).
 use Rattle.std.specs.Prelude.{ℕ, zero, suc, ◌+◌, Bool, true, false, nat_le, List, [], ◌∷◌, ◌++◌, map, flat_map}
-use Rattle.std.specs.Prelude.{Option, Some, None, is_some, length, unwrap_or, Result, Ok, Err, codes, decimal, fold, insert}
-use Rattle.std.specs.Prelude.{if◌then◌else◌}
+use Rattle.std.specs.Prelude.{length, Option, Some, None, is_some, unwrap_or, Result, Ok, Err, codes, decimal, fold}
+use Rattle.std.specs.Prelude.{insert, if◌then◌else◌}
 use Rattle.std.specs.List.{position_or_len}
 use Rattle.std.specs.Int.{w32, from_le_bytes, to_be_bytes}
 use Rattle.hex.specs.Hex.{encode_lower}

@@ -19,4 +19,5 @@ returns g c =
     (tells_as c.put_arrival.ensures
     (ap (λ (n : Counts). byte_fact c.args.link (codes "byte waits ") n.arrived) counts))
     (tells_then c.put_arrival-2.ensures
-    (tells_then c.put_ack.ensures (tells_as c.put_enabled.ensures (ap (enabled_fact c.args.link) c.remembered.ensures))))))
+    (tells_then c.put_ack.ensures
+    (tells_as c.put_enabled.ensures (ap (enabled_fact c.args.link) c.remembered.ensures))))))

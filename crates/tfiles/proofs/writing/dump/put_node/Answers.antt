@@ -6,8 +6,8 @@ use Rattle.tfiles.proofs.writing.dump.put_node.Goals as goal
 pub returns-in-Some-source : goal.returns-in-Some-source
 returns-in-Some-source g c =
     tells_as c.put_source.ensures
-    (source_dump c.args.node.now.role c.args.number c.args.node.now.broken c.args.node.now c.in-Some-source.source.now refl
-    c.in-Some-source.ensures)
+    (source_dump c.args.node.now.role c.args.number c.args.node.now.broken c.args.node.now
+    c.in-Some-source.source.now refl c.in-Some-source.ensures)
 
 pub returns-in-Some-sink : goal.returns-in-Some-sink
 returns-in-Some-sink g c =
