@@ -161,7 +161,7 @@ impl Sink {
     }
 
     /// One event. It receives bytes, keeps them and acknowledges them, and does nothing else.
-    #[inline(always)]
+    #[inline(never)]
     pub(crate) fn step(&mut self, event: NodeEvent) -> Result<Emitted, StepFault>
         ensures { DoesNode (happens event self.old) self.old result self.new }
     {
@@ -188,7 +188,7 @@ impl Sink {
     }
 
     /// Whether an event would be done.
-    #[inline(always)]
+    #[inline(never)]
     pub(crate) fn enabled(&self, event: NodeEvent) -> bool
         ensures { result ≡ is_node_enabled event self.now }
     {
@@ -212,7 +212,6 @@ impl Sink {
     }
 
     /// A byte comes.
-    #[inline(never)]
     fn data(&mut self, byte: u8, last: bool) -> Result<Emitted, StepFault>
         ensures { DoesNode (happens (Data 0 byte last) self.old) self.old result self.new }
     {
@@ -225,7 +224,6 @@ impl Sink {
     }
 
     /// The byte that waits is kept, where there is room for it; the last one completes its message.
-    #[inline(never)]
     fn take(&mut self) -> Result<Emitted, StepFault>
         ensures { DoesNode (happens (Take 0) self.old) self.old result self.new }
     {
