@@ -1,7 +1,7 @@
 use Rattle.std.proofs.Common.{◌∙◌, arith}
 use Rattle.std.proofs.lemmas.List.{with_items_is}
 use Rattle.tword.proofs.AsCells.{bytes_put}
-use Rattle.tword.proofs.memory.Memory.load.Goals as goal
+use Rattle.tword.proofs.bytes.Bytes.load.Goals as goal
 
 pub returns-clause-loaded : goal.returns-clause-loaded
 returns-clause-loaded c =

@@ -2,7 +2,7 @@ use Rattle.std.proofs.Common.{◌∙◌, arith}
 use Rattle.std.specs.Int.{w32, to_le_bytes}
 use Rattle.std.proofs.lemmas.List.{with_items_is}
 use Rattle.tword.proofs.AsCells.{bytes_put}
-use Rattle.tword.proofs.memory.Memory.set_word.Goals as goal
+use Rattle.tword.proofs.bytes.Bytes.set_word.Goals as goal
 
 pub returns-clause-set : goal.returns-clause-set
 returns-clause-set c =

@@ -1,7 +1,7 @@
 use Rattle.std.proofs.Common.{arith}
 use Rattle.tword.specs.Touches.{byte_span}
 use Rattle.tword.proofs.AsCells.{byte_put, bounds, length-as_cells}
-use Rattle.tword.proofs.memory.Memory.set_byte.Goals as goal
+use Rattle.tword.proofs.bytes.Bytes.set_byte.Goals as goal
 
 pub returns-clause-set : goal.returns-clause-set
 returns-clause-set c =

@@ -1,7 +1,7 @@
 use Rattle.std.proofs.Common.{◌∙◌, arith}
 use Rattle.std.proofs.lemmas.List.{with_items_is}
 use Rattle.tword.proofs.AsCells.{bytes_copied, bounds, length-as_cells}
-use Rattle.tword.proofs.memory.Memory.copy.Goals as goal
+use Rattle.tword.proofs.bytes.Bytes.copy.Goals as goal
 
 pub returns-clause-copied : goal.returns-clause-copied
 returns-clause-copied c =

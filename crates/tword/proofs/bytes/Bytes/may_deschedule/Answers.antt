@@ -2,7 +2,7 @@ use Rattle.std.proofs.Common.{◌≡◌, Option, Some, None, true, is_ok, ap, sy
 use Rattle.tword.specs.declared.breaks.Break.{Break}
 use Rattle.tword.specs.Actions.{or_break}
 use Rattle.tword.proofs.Descheduling.{deschedule-together}
-use Rattle.tword.proofs.memory.Memory.may_deschedule.Goals as goal
+use Rattle.tword.proofs.bytes.Bytes.may_deschedule.Goals as goal
 
 none_if_ok : (b : Option Break) → is_ok (or_break b (tt {0})) ≡ true → b ≡ None
 none_if_ok None h = refl

@@ -1,7 +1,7 @@
 use Rattle.std.proofs.Common.{◌∙◌, List, ℕ, ap, rules}
 use Rattle.tword.specs.Stores.{as_cells}
 use Rattle.tword.proofs.AsCells.{as_cells-replicate}
-use Rattle.tword.proofs.memory.Memory.new.Goals as goal
+use Rattle.tword.proofs.bytes.Bytes.new.Goals as goal
 
 pub returns-clause-zeros : goal.returns-clause-zeros
 returns-clause-zeros c =
