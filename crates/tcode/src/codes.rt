@@ -130,7 +130,7 @@ pub fn operation_of(operand: Word, kind: Kind) -> Option<Operation>
         0x57 => Some(Operation::Clrhalterr),
         0x58 => Some(Operation::Sethalterr),
         0x59 => Some(Operation::Testhalterr),
-        0x5a if kind == Kind::Two => Some(Operation::Dup),
+        0x5a if matches!(kind, Kind::Two) => Some(Operation::Dup),
         _ => None,
     }
 }

@@ -78,7 +78,9 @@ pub fn decode_for(
 {
     let byte = memory.read_byte(marks, iptr)?;
     match function_of(byte / 16) {
-        Some(function) => ended(kind, function, u32::from(byte % 16), 1).ok_or(Break::NoSuchOperation),
+        Some(function) => ended(kind, function, u32::from(byte % 16), 1).ok_or(
+            Break::NoSuchOperation,
+        ),
         None => decode_prefixed(kind, memory, marks, iptr, byte),
     }
 }

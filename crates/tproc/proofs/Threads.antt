@@ -8,9 +8,8 @@ use Rattle.tword.specs.Stores.{Store, word_at}
 use Rattle.tproc.specs.Machine.{Machine}
 use Rattle.tproc.specs.ProcessStatus.{queue}
 use Rattle.tproc.specs.Queues.{link_word, last_of}
-use Rattle.tproc.specs.Opening.{empty_machine}
 use Rattle.tproc.specs.SavedWords.{WordStands, LinksStand, IsJoined, QueueGoesOn, SavedStand, OfEachMove, linked_from}
-use Rattle.tproc.specs.SavedWords.{IsThreaded, AreThreaded, QueuesStayThreaded}
+use Rattle.tproc.specs.SavedWords.{IsThreaded, AreThreaded, EmptyIsThreaded, QueuesStayThreaded}
 use Rattle.tproc.proofs.SavedWords.{saved_words_stand}
 
 -- the link of a workspace is the next one, and so on to the last
@@ -101,9 +100,9 @@ module _ (n n' : Machine) where
   threaded h t = λ p. queue_threaded (queue n.control p) (queue n'.control p) (h.queues p) (t p)
 
 -- a processor without a process has no queue to be found
-pub empty_threaded : (size timeslice : ℕ) → AreThreaded (empty_machine size timeslice)
-empty_threaded size timeslice zero = refl
-empty_threaded size timeslice (suc p) = refl
+pub empty_threaded : EmptyIsThreaded
+empty_threaded size timeslice kind zero = refl
+empty_threaded size timeslice kind (suc p) = refl
 
 -- each move leaves the queues threaded
 pub queues_stay_threaded : QueuesStayThreaded
