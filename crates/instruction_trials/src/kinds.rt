@@ -105,6 +105,20 @@ fn the_last_word_of_kind_2_is_there(rt: HostRuntime) -> Result<(), Fail> {
     Ok(())
 }
 
+/// Whether this size is refused for a memory and for a processor of a kind.
+fn is_bad_size(alloc: Global, size: u32, kind: Kind) -> bool {
+    matches!(Memory::new(alloc, size, kind), Err(MemoryFault::BadSize))
+        && matches!(Processor::new(alloc, size, 1, kind), Err(MemoryFault::BadSize))
+}
+
+/// Whether a memory of a kind is made with this size.
+fn is_size(alloc: Global, size: u32, kind: Kind) -> bool {
+    match Memory::new(alloc, size, kind) {
+        Ok(memory) => memory.size() == size && memory.kind() == kind,
+        Err(_) => false,
+    }
+}
+
 #[test]
 fn sizes_are_judged_by_kind(rt: HostRuntime) {
     for (size, kind) in [
@@ -114,17 +128,13 @@ fn sizes_are_judged_by_kind(rt: HostRuntime) {
         (2_044, Kind::Two),
         (2_050, Kind::Two),
     ] {
-        let made = Memory::new(rt.alloc(), size, kind);
-        assert!(rt; matches!(made, Err(MemoryFault::BadSize)));
-        let made = Processor::new(rt.alloc(), size, 1, kind);
-        assert!(rt; matches!(made, Err(MemoryFault::BadSize)));
+        assert!(rt; is_bad_size(rt.alloc(), size, kind), "{size}");
     }
     for (size, kind) in [
         (1_048_576, Kind::One),
         (1_048_580, Kind::Two),
         (2_048, Kind::Two),
     ] {
-        let made = Memory::new(rt.alloc(), size, kind);
-        assert!(rt; matches!(made, Ok(memory) if memory.size() == size && memory.kind() == kind));
+        assert!(rt; is_size(rt.alloc(), size, kind), "{size}");
     }
 }

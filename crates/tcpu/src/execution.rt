@@ -32,7 +32,13 @@ pub fn local(
     ensures sized { length memory.new.bytes ≡ length memory.old.bytes }
     ensures kind { memory.new.kind ≡ memory.old.kind }
 {
-    local_for(memory.kind, registers, &mut memory.bytes, marks, instruction)
+    local_for(
+        memory.kind,
+        registers,
+        &mut memory.bytes,
+        marks,
+        instruction,
+    )
 }
 
 /// The same, by the bytes of the memory and the kind apart.

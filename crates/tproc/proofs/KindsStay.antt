@@ -2,7 +2,9 @@
 use Rattle.std.proofs.Common.{◌≡◌, ℕ, zero, suc, ◌+◌, ◌-◌, ◌<◌, ◌≤◌, refl, sym, subst, ◌∙◌, List, [], ◌∷◌, length, Ok}
 use Rattle.std.proofs.Common.{Option, Some, None, arith}
 use Rattle.std.proofs.lemmas.Bool.{le-leb, and_from}
+use Rattle.std.proofs.lemmas.List.{length-replicate}
 use Rattle.tword.specs.declared.kind.Kind.{Kind}
+use Rattle.tword.specs.Accesses.{IsMemorySize}
 use Rattle.tword.specs.Words.{most_neg}
 use Rattle.tword.specs.Stores.{Store}
 use Rattle.tword.specs.Claims.{Claims}
@@ -15,7 +17,7 @@ use Rattle.tproc.specs.Links.{finished, finish_output, finish_input, notice, wak
 use Rattle.tproc.specs.LinkChannels.{link_end, with_link}
 use Rattle.tproc.specs.Machine.{Control, Machine, claims_of, workspace_of, priority_of}
 use Rattle.tproc.specs.Messages.{input_of, HasByte, with_byte}
-use Rattle.tproc.specs.Opening.{added, loaded}
+use Rattle.tproc.specs.Opening.{added, empty_machine, loaded}
 use Rattle.tproc.specs.Placement.{IsPlaced}
 use Rattle.tproc.specs.Queues.{appended, release, without_waiter, add_process, admit}
 use Rattle.tproc.specs.SavedWords.{OfEachMove}
@@ -126,39 +128,40 @@ module _ (k : Kind) where
           enqueue_to n (λ m'. m'.kind ≡ k) process m _
           (appended-kind (workspace_of process) (priority_of process) m ∙ h)
 
+-- a store of as many bytes
+abbrev IsAsLong : Machine → Store → Type 0
+IsAsLong n s = length s ≡ length n.store
+
 -- each move leaves the kind and the size
 pub kinds_stay : KindsStay
 kinds_stay n p =
     record {
       steps = λ n' r e. record {
         kind = step-kind n.control.kind n n' r refl e;
-        size = step-leaves IsAsLong n refl stays n' r e;
+        size = step-leaves (IsAsLong n) n refl stays n' r e;
       };
       notices = λ l. record {
         kind = notice-kind n.control.kind l n refl;
-        size = notice-leaves IsAsLong l n refl stays;
+        size = notice-leaves (IsAsLong n) l n refl stays;
       };
       outputs = λ l. record {
         kind = finish_output-kind n.control.kind l n refl;
-        size = finish_output-leaves IsAsLong n refl stays l;
+        size = finish_output-leaves (IsAsLong n) n refl stays l;
       };
       inputs = λ l. record {
         kind = finish_input-kind n.control.kind l n refl;
-        size = finish_input-leaves IsAsLong n refl stays l;
+        size = finish_input-leaves (IsAsLong n) n refl stays l;
       };
       bytes = λ l i byte h. of_byte l i byte (input_of n l) refl h;
       additions = λ process iptr n' w e. record {
         kind = added-kind n.control.kind process iptr n n' refl e;
-        size = added-gives (λ (m : Machine). IsAsLong m.store) n process iptr n' (λ m t f. stays Control _ m t f) e;
+        size = added-gives (λ (m : Machine). IsAsLong n m.store) n process iptr n' (λ m t f. stays Control _ m t f) e;
       };
       loads = λ start bytes inside clear. record { kind = refl; size = loaded-size start bytes n inside };
     }
   where
-    abbrev IsAsLong : Store → Type 0
-    IsAsLong s = length s ≡ length n.store
-
     stays : (A : Type 0) (x : Action A) (a : A) (t : Store) → run x n.store (claims_of n.control) ≡ Ok (a, t)
-        → IsAsLong t
+        → IsAsLong n t
     stays A x a t e = run-size n p.claimed p.apart x a t e
 
     of_byte : (l i byte : ℕ) (o : Option Offer) → input_of n l ≡ o → HasByte o i → IsAlike n (with_byte o i byte n)
@@ -173,7 +176,14 @@ kinds_stay n p =
               (le-leb (o.buffer + i - most_neg + 1) (length n.store) (omega (arith, lies.above, lies.within, h))));
         }
 
--- so it has a size that one of its kind may have
+-- a processor without a process has the size that it was made for
+pub empty_sized : (size timeslice : ℕ) (kind : Kind) → IsMemorySize kind size
+    → IsSized (empty_machine size timeslice kind)
+empty_sized size timeslice kind h =
+    let e : length (empty_machine size timeslice kind).store ≡ size = length-replicate size (Some 0) in
+    record { size = rw e h }
+
+-- each move leaves a size that one of its kind may have
 pub sizes_stay : (n : Machine) → IsPlaced n → IsSized n → OfEachMove (λ n n'. IsSized n') n
 sizes_stay n p s =
     record {

@@ -3,13 +3,15 @@ use Rattle.std.proofs.Common.{◌≡◌, ℕ, zero, suc, ◌-◌, refl, ap, subs
 use Rattle.std.proofs.Common.{inl, inr, arith}
 use Rattle.std.specs.Prelude.{slice_get}
 use Rattle.std.proofs.lemmas.List.Elements.{All-head, All-tail, All-take}
+use Rattle.tword.specs.declared.kind.Kind.{Kind}
 use Rattle.tword.specs.Words.{word_below}
 use Rattle.tword.specs.Stores.{Store, word_at}
 use Rattle.tproc.specs.Machine.{Machine}
 use Rattle.tproc.specs.ProcessStatus.{queue}
 use Rattle.tproc.specs.Queues.{link_word, last_of}
+use Rattle.tproc.specs.Opening.{empty_machine}
 use Rattle.tproc.specs.SavedWords.{WordStands, LinksStand, IsJoined, QueueGoesOn, SavedStand, OfEachMove, linked_from}
-use Rattle.tproc.specs.SavedWords.{IsThreaded, AreThreaded, EmptyIsThreaded, QueuesStayThreaded}
+use Rattle.tproc.specs.SavedWords.{IsThreaded, AreThreaded, QueuesStayThreaded}
 use Rattle.tproc.proofs.SavedWords.{saved_words_stand}
 
 -- the link of a workspace is the next one, and so on to the last
@@ -100,7 +102,7 @@ module _ (n n' : Machine) where
   threaded h t = λ p. queue_threaded (queue n.control p) (queue n'.control p) (h.queues p) (t p)
 
 -- a processor without a process has no queue to be found
-pub empty_threaded : EmptyIsThreaded
+pub empty_threaded : (size timeslice : ℕ) (kind : Kind) → AreThreaded (empty_machine size timeslice kind)
 empty_threaded size timeslice kind zero = refl
 empty_threaded size timeslice kind (suc p) = refl
 

@@ -24,9 +24,9 @@ pub struct Memory {
 impl Model for Memory {
     ghost use Rattle.std.specs.Prelude.{length};
     ghost use Rattle.tword.specs.Accesses.{IsMemorySize};
-    ghost use Rattle.tword.specs.Memories.{Kept};
+    ghost use Rattle.tword.specs.Memories.{NodeMemory};
 
-    ghost Value = { Kept };
+    ghost Value = { NodeMemory };
 
     ghost view = { λ m. record { bytes = m.bytes; kind = m.kind } };
 
