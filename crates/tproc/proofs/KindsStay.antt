@@ -116,17 +116,18 @@ module _ (k : Kind) where
       (release-kind (length n.store) process (noticing l n).control (claims_of (noticing l n).control) h) e)
       (λ A x a t e. h) (link_end n.control l).remembered
 
+  add_process-kind : (n process iptr : ℕ) (m : Control) (c : Claims) → m.kind ≡ k
+      → Leads n PartIsOf c (add_process process iptr m)
+  unfolding admit
+  add_process-kind n process iptr m c h = λ _ _ _ _.
+      enqueue_to n (λ m'. m'.kind ≡ k) process m _
+      (appended-kind (workspace_of process) (priority_of process) m ∙ h)
+
   added-kind : (process iptr : ℕ) (n n' : Machine) → IsOf n → added process iptr n ≡ Ok n' → IsOf n'
   added-kind process iptr n n' h e =
       added-gives IsOf n process iptr n'
       (λ m t f. part-kind n (add_process process iptr n.control) m t
-      (adds (length n.store) n.control (claims_of n.control) h) f) e
-    where
-      adds : (n : ℕ) (m : Control) (c : Claims) → m.kind ≡ k → Leads n PartIsOf c (add_process process iptr m)
-      unfolding admit
-      adds n m c h = λ _ _ _ _.
-          enqueue_to n (λ m'. m'.kind ≡ k) process m _
-          (appended-kind (workspace_of process) (priority_of process) m ∙ h)
+      (add_process-kind (length n.store) process iptr n.control (claims_of n.control) h) f) e
 
 -- a store of as many bytes
 abbrev IsAsLong : Machine → Store → Type 0
