@@ -85,6 +85,7 @@ OPERATIONS = {
     "sum": (0x52, lambda a, b, c, p: (k2(b + a, c), False)),
     "mul": (0x53, lambda a, b, c, p: signed2(s(b) * s(a), c)),
     "cword": (0x56, lambda a, b, c, p: ((b, c, c), s(b) >= s(a) or s(b) < -s(a))),
+    "dup": (0x5A, lambda a, b, c, p: ((a, a, b), False)),
 }
 # These read or set flags: (stack, Error, HaltOnError) after.
 FLAGS = {

@@ -7,7 +7,7 @@ use crate::programs::{LOOP, SIZE, START};
 use std::alloc::Global;
 use tcode::decode;
 use tcpu::{Next, Registers, local};
-use tword::{Break, Marks, Memory, Word};
+use tword::{Break, Kind, Marks, Memory, Word};
 
 /// Where the workspace lies.
 const WORKSPACE: u32 = 0x8000_2000;
@@ -99,7 +99,7 @@ pub fn looped(alloc: Global, thousands: u32, claims: Claims) -> Result<Answer, F
     ensures { IfOk result (λ answer. answer.operations ≡ thousands * 1000) }
 {
     let steps = u64::from(thousands) * 1_000;
-    let mut memory = Memory::new(alloc, SIZE).map_err(Fault::Memory)?;
+    let mut memory = Memory::new(alloc, SIZE, Kind::One).map_err(Fault::Memory)?;
     let mut marks = Marks::new(alloc, SIZE).map_err(Fault::Memory)?;
     load(&mut memory, &marks).map_err(Fault::Broken)?;
     claim(&mut marks, claims).map_err(Fault::Broken)?;
@@ -116,6 +116,6 @@ pub fn looped(alloc: Global, thousands: u32, claims: Claims) -> Result<Answer, F
     run(&mut registers, &mut memory, &marks, steps).map_err(Fault::Broken)?;
     Ok(Answer {
         operations: steps,
-        sum: checksum(sum_of(&registers), memory.bytes()),
+        sum: checksum(sum_of(&registers), memory.bytes.as_slice()),
     })
 }

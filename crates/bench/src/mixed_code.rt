@@ -6,7 +6,7 @@ use crate::answer::{Answer, Fault};
 use crate::programs::{SIZE, START};
 use std::alloc::Global;
 use tcode::{Function, decode, encode, operation_of};
-use tword::{Break, Marks, Memory, Word};
+use tword::{Break, Kind, Marks, Memory, Word};
 
 /// How many instructions a turn decodes.
 const INSTRUCTIONS: u32 = 1_000;
@@ -52,7 +52,7 @@ fn operand_at(number: u32) -> i32 {
 /// An operation's operand: that which is drawn, or `rev` where it is not listed.
 fn operation_at(number: u32) -> i32 {
     let drawn = number >> 8 & 0x7f;
-    if operation_of(Word::new(drawn)).is_some() {
+    if operation_of(Word::new(drawn), Kind::One).is_some() {
         drawn.cast_signed()
     } else {
         0
@@ -102,7 +102,7 @@ fn sum_of(memory: &Memory, marks: &Marks, turns: u32) -> Result<u32, Break> {
 pub fn decoded(alloc: Global, turns: u32) -> Result<Answer, Fault>
     ensures { IfOk result (λ answer. answer.operations ≡ turns * INSTRUCTIONS) }
 {
-    let mut memory = Memory::new(alloc, SIZE).map_err(Fault::Memory)?;
+    let mut memory = Memory::new(alloc, SIZE, Kind::One).map_err(Fault::Memory)?;
     let marks = Marks::new(alloc, SIZE).map_err(Fault::Memory)?;
     load(&mut memory, &marks).map_err(Fault::Broken)?;
     Ok(Answer {

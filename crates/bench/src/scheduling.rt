@@ -7,7 +7,7 @@ use crate::answer::{Answer, BEGIN, Fault, checksum, mixed};
 use crate::programs::{IDLE, LOOP, PING, PONG, SIZE, START, WAIT};
 use std::alloc::Global;
 use tproc::{Processor, Ran};
-use tword::{Break, Word};
+use tword::{Break, Kind, Word};
 
 const IDLE_CODE: u32 = 0x8000_0100;
 
@@ -170,7 +170,7 @@ pub fn worked(alloc: Global, thousands: u32, job: Job) -> Result<Answer, Fault>
 {
     let steps = u64::from(thousands) * 1_000;
     let timeslice = if let Job::Switch(_) = job { 1 } else { 1_024 };
-    let mut p = Processor::new(alloc, SIZE, timeslice).map_err(Fault::Memory)?;
+    let mut p = Processor::new(alloc, SIZE, timeslice, Kind::One).map_err(Fault::Memory)?;
     prepare(&mut p, job).map_err(Fault::Broken)?;
     let dispatches = run(&mut p, steps).map_err(Fault::Broken)?;
     Ok(Answer {

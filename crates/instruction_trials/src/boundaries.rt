@@ -3,7 +3,7 @@
 use std::test::Fail;
 use tcode::{Function, Instruction};
 use tcpu::{Next, Registers, local};
-use tword::{Marks, Memory, Word};
+use tword::{Kind, Marks, Memory, Word};
 
 /// Boundary values of an operand.
 const VALUES: [u32; 12] = [
@@ -23,7 +23,7 @@ const VALUES: [u32; 12] = [
 
 /// What the operations on registers do at all stacks of boundary values and all flags: name, code, and the digest that
 /// `boundary.py` works out from the tables of the instruction set.
-const OPERATIONS: [(&str, u32, u64); 43] = [
+const OPERATIONS: [(&str, u32, u64); 44] = [
     ("rev", 0x00, 0xe17a_ca9f_22a1_7c80),
     ("bsub", 0x02, 0xbdc5_a15a_073c_eb00),
     ("diff", 0x04, 0x79ce_c3a5_3df3_4e00),
@@ -63,6 +63,7 @@ const OPERATIONS: [(&str, u32, u64); 43] = [
     ("sum", 0x52, 0xbdc5_a15a_073c_eb00),
     ("mul", 0x53, 0x6305_097d_4a81_a5c8),
     ("cword", 0x56, 0x0648_1d54_ef02_e350),
+    ("dup", 0x5a, 0xc0e3_2de8_1e0e_9c80),
     ("testerr", 0x29, 0x1241_a9c0_eff9_4a00),
     ("clrhalterr", 0x57, 0x97a2_d141_6bd2_1f00),
     ("sethalterr", 0x58, 0x2593_b65a_433d_8a00),
@@ -190,7 +191,7 @@ fn function_digest(memory: &mut Memory, marks: &Marks, function: Function) -> u6
 
 #[test]
 fn operations_agree_at_the_boundaries(rt: HostRuntime) -> Result<(), Fail> {
-    let mut memory = Memory::new(rt.alloc(), 2048)?;
+    let mut memory = Memory::new(rt.alloc(), 2048, Kind::Two)?;
     let marks = Marks::new(rt.alloc(), 2048)?;
     for (name, code, digest) in OPERATIONS {
         assert_eq!(rt;
@@ -204,7 +205,7 @@ fn operations_agree_at_the_boundaries(rt: HostRuntime) -> Result<(), Fail> {
 
 #[test]
 fn functions_agree_at_the_boundaries(rt: HostRuntime) -> Result<(), Fail> {
-    let mut memory = Memory::new(rt.alloc(), 2048)?;
+    let mut memory = Memory::new(rt.alloc(), 2048, Kind::One)?;
     let marks = Marks::new(rt.alloc(), 2048)?;
     for (function, digest) in FUNCTIONS {
         assert_eq!(rt;

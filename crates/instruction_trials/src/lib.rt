@@ -6,4 +6,6 @@ mod boundaries;
 #[cfg(test)]
 mod encodings;
 #[cfg(test)]
+mod kinds;
+#[cfg(test)]
 mod processors;

@@ -4,7 +4,7 @@ ghost use Rattle.std.specs.Prelude.{◌≡◌, ◌<◌};
 ghost use Rattle.tcode.specs.Table.{function_at, function_entry, operation_at};
 
 use crate::instruction::{Function, Operation};
-use tword::Word;
+use tword::{Kind, Word};
 
 /// The function of a byte's high four bits, unless they are a prefix.
 #[inline(always)]
@@ -54,12 +54,13 @@ pub(crate) fn code_of(function: Function) -> u8
     }
 }
 
-/// The operation that an operand of `opr` selects, if it is listed: by the tables of the Compiler Writer's Guide,
-/// without timers, floating support and the surgery of queues and channels.
+/// The operation that an operand of `opr` selects, if it is listed for the kind: by the tables of the Compiler Writer's
+/// Guide, without timers, floating support and the surgery of queues and channels; and for kind 2 `dup` of the T425 and
+/// the T800.
 #[inline(always)]
 #[tactic(auto, unfolding(crate::specs::Table::operation_at))]
-pub fn operation_of(operand: Word) -> Option<Operation>
-    ensures { result ≡ operation_at operand }
+pub fn operation_of(operand: Word, kind: Kind) -> Option<Operation>
+    ensures { result ≡ operation_at kind operand }
 {
     match operand.get() {
         0x00 => Some(Operation::Rev),
@@ -129,6 +130,7 @@ pub fn operation_of(operand: Word) -> Option<Operation>
         0x57 => Some(Operation::Clrhalterr),
         0x58 => Some(Operation::Sethalterr),
         0x59 => Some(Operation::Testhalterr),
+        0x5a if matches!(kind, Kind::Two) => Some(Operation::Dup),
         _ => None,
     }
 }

@@ -9,7 +9,7 @@ ghost use Rattle.tword.specs.Words.{reduced};
 
 use crate::codes::{function_of, operation_of};
 use crate::instruction::{DecodeFault, Function, Instruction};
-use tword::{Break, Marks, Memory, Word};
+use tword::{Break, Bytes, Kind, Marks, Memory, Word};
 
 /// How many bytes an instruction has at most, with its prefixes (own choice).
 const LONGEST: u8 = 16;
@@ -29,15 +29,15 @@ fn prefixed(code: u8, value: u32) -> u32
     }
 }
 
-/// The instruction that a function ends, unless its operation is not listed.
+/// The instruction that a function ends, unless its operation is not listed for the kind.
 #[inline(always)]
-fn ended(function: Function, operand: u32, length: u8) -> Option<Instruction>
+fn ended(kind: Kind, function: Function, operand: u32, length: u8) -> Option<Instruction>
     ensures { result
-        ≡ (if is_listed function (pos operand) then Some (instruction function (pos operand) length) else None) }
+        ≡ (if is_listed kind function (pos operand) then Some (instruction function (pos operand) length) else None) }
 {
     let operand = Word::new(operand);
     if let Function::Opr = function
-        && operation_of(operand).is_none()
+        && operation_of(operand, kind).is_none()
     {
         return None;
     }
@@ -48,44 +48,64 @@ fn ended(function: Function, operand: u32, length: u8) -> Option<Instruction>
     })
 }
 
-/// The instruction at an address. Its bytes are fetched one by one, each with the checks of a touch.
+/// The instruction at an address, for the kind of node that the memory belongs to. Its bytes are fetched one by one,
+/// each with the checks of a touch.
 ///
 /// # Errors
 /// The break of the first fetch that fails; `LongPrefix` where sixteen bytes were fetched and all are prefixes;
-/// `NoSuchOperation` where its operation is not listed.
+/// `NoSuchOperation` where its operation is not listed for the kind.
+#[inline(always)]
+pub fn decode(memory: &Memory, marks: &Marks, iptr: Word) -> Result<Instruction, Break>
+    ensures { result ≡ value_of (run (decoded memory.now.kind iptr) memory.now.bytes marks.now) }
+{
+    decode_for(memory.kind, &memory.bytes, marks, iptr)
+}
+
+/// The same, by the bytes of the memory and the kind apart.
+///
+/// # Errors
+/// As `decode`.
 // Chains of three bytes and more stay out of line, so that the common cases are small where they are inlined.
 #[inline(always)]
 #[tactic(auto, unfolding(crate::specs::Decoding::decode))]
-pub fn decode(memory: &Memory, marks: &Marks, iptr: Word) -> Result<Instruction, Break>
-    ensures { result ≡ value_of (run (decoded iptr) memory.now marks.now) }
+pub fn decode_for(
+    kind: Kind,
+    memory: &Bytes,
+    marks: &Marks,
+    iptr: Word,
+) -> Result<Instruction, Break>
+    ensures { result ≡ value_of (run (decoded kind iptr) memory.now marks.now) }
 {
     let byte = memory.read_byte(marks, iptr)?;
     match function_of(byte / 16) {
-        Some(function) => ended(function, u32::from(byte % 16), 1).ok_or(Break::NoSuchOperation),
-        None => decode_prefixed(memory, marks, iptr, byte),
+        Some(function) => ended(kind, function, u32::from(byte % 16), 1).ok_or(
+            Break::NoSuchOperation,
+        ),
+        None => decode_prefixed(kind, memory, marks, iptr, byte),
     }
 }
 
 /// The instruction at an address where a prefix was fetched: most end with the next byte.
 #[inline(always)]
 fn decode_prefixed(
-    memory: &Memory,
+    kind: Kind,
+    memory: &Bytes,
     marks: &Marks,
     iptr: Word,
     prefix: u8,
 ) -> Result<Instruction, Break>
     requires fetched { IsFetched memory.now marks.now iptr prefix }
     requires prefix { function_at (prefix / 16) ≡ None }
-    ensures { result ≡ value_of (run (decoded iptr) memory.now marks.now) }
+    ensures { result ≡ value_of (run (decoded kind iptr) memory.now marks.now) }
 {
     let value = prefixed(prefix / 16, u32::from(prefix % 16));
     let byte = memory.read_byte(marks, iptr.plus(Word::new(1)))?;
     let data = u32::from(byte % 16);
     match function_of(byte / 16) {
-        Some(function) => ended(function, value.wrapping_add(data), 2).ok_or(
+        Some(function) => ended(kind, function, value.wrapping_add(data), 2).ok_or(
             Break::NoSuchOperation,
         ),
-        None => decode_chain(memory, marks, iptr, prefix),
+        None => decode_chain(kind, memory, marks, iptr, prefix),
     }
 }
 
@@ -93,14 +113,15 @@ fn decode_prefixed(
 #[cold]
 #[inline(never)]
 fn decode_chain(
-    memory: &Memory,
+    kind: Kind,
+    memory: &Bytes,
     marks: &Marks,
     iptr: Word,
     prefix: u8,
 ) -> Result<Instruction, Break>
     requires fetched { IsFetched memory.now marks.now iptr prefix }
     requires prefix { function_at (prefix / 16) ≡ None }
-    ensures { result ≡ value_of (run (decoded iptr) memory.now marks.now) }
+    ensures { result ≡ value_of (run (decoded kind iptr) memory.now marks.now) }
 {
     let mut value = prefixed(prefix / 16, u32::from(prefix % 16));
     let mut address = iptr;
@@ -110,20 +131,20 @@ fn decode_chain(
         let data = u32::from(byte % 16);
         let sum = value.wrapping_add(data);
         if let Some(function) = function_of(byte / 16) {
-            return ended(function, sum, had + 1).ok_or(Break::NoSuchOperation);
+            return ended(kind, function, sum, had + 1).ok_or(Break::NoSuchOperation);
         }
         value = prefixed(byte / 16, sum);
     }
     Err(Break::LongPrefix)
 }
 
-/// The instruction at the head of plain bytes.
+/// The instruction at the head of plain bytes, for a node of a kind.
 ///
 /// # Errors
 /// `Ended` where the bytes end within it, `LongPrefix` where the first sixteen are all prefixes, `NoSuchOperation`
-/// where its operation is not listed.
-pub fn decode_bytes(bytes: &[u8]) -> Result<Instruction, DecodeFault>
-    ensures { result ≡ decoded_bytes bytes.now }
+/// where its operation is not listed for the kind.
+pub fn decode_bytes(bytes: &[u8], kind: Kind) -> Result<Instruction, DecodeFault>
+    ensures { result ≡ decoded_bytes kind bytes.now }
 {
     let mut value = 0u32;
     for had in 0..LONGEST {
@@ -133,7 +154,7 @@ pub fn decode_bytes(bytes: &[u8]) -> Result<Instruction, DecodeFault>
         let byte = bytes[had as usize];
         let sum = value.wrapping_add(u32::from(byte % 16));
         if let Some(function) = function_of(byte / 16) {
-            return ended(function, sum, had + 1).ok_or(DecodeFault::NoSuchOperation);
+            return ended(kind, function, sum, had + 1).ok_or(DecodeFault::NoSuchOperation);
         }
         value = prefixed(byte / 16, sum);
     }

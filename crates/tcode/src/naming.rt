@@ -6,6 +6,7 @@ ghost use Rattle.tcode.specs.Table.{function_entry, operation_entry};
 use crate::codes::operation_of;
 use crate::instruction::{Function, Instruction, Operation};
 use std::fmt;
+use tword::Kind;
 
 /// The name of a function, as it is printed.
 pub fn function_name(function: Function) -> &'static str
@@ -101,11 +102,12 @@ pub fn operation_name(operation: Operation) -> &'static str
         Operation::Clrhalterr => "clrhalterr",
         Operation::Sethalterr => "sethalterr",
         Operation::Testhalterr => "testhalterr",
+        Operation::Dup => "dup",
     }
 }
 
 /// An operation is printed as its name, another function as its name, a space and the signed decimal operand; so is
-/// `opr` with an operand that is not listed (own choice: no bytes decode to it).
+/// `opr` with an operand that no kind lists (own choice: no bytes decode to it).
 impl fmt::Display for Instruction {
     ghost use Rattle.std.specs.Prelude.{Some};
     ghost use Rattle.tcode.specs.Texts.{instruction_text};
@@ -114,7 +116,7 @@ impl fmt::Display for Instruction {
 
     fn fmt<W: fmt::Write>(&self, f: &mut fmt::Formatter<W>) -> fmt::Result {
         if let Function::Opr = self.function
-            && let Some(operation) = operation_of(self.operand)
+            && let Some(operation) = operation_of(self.operand, Kind::Two)
         {
             let name = operation_name(operation);
             return write!(f, "{name}");

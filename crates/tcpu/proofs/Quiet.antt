@@ -5,6 +5,7 @@ use Rattle.std.proofs.Common.{Result, Ok, Err}
 use Rattle.std.specs.Prelude.{IfSome, IfOk, unwrap_or}
 use Rattle.tword.specs.declared.breaks.Break.{Break}
 use Rattle.tword.proofs.Leads.{passed}
+use Rattle.tword.specs.declared.kind.Kind.{Kind}
 use Rattle.tword.specs.Words.{plus, minus}
 use Rattle.tword.specs.Stores.{Store, word_at, byte_at, with_word, with_cells, as_cells, cells}
 use Rattle.tword.specs.Claims.{Claims}
@@ -185,6 +186,7 @@ operations-quiet op.Cword b r w = halts_or_goes _ _ _
 operations-quiet op.Clrhalterr b r w = tt
 operations-quiet op.Sethalterr b r w = tt
 operations-quiet op.Testhalterr b r w = tt
+operations-quiet op.Dup b r w = tt
 operations-quiet _ b r w = tt
 
 -- an effect may also be left to the scheduler
@@ -220,31 +222,31 @@ selected-quiet : (o : Option Operation) (b r : Registers) → b.wptr ≡ r.wptr 
 selected-quiet None b r w = tt
 selected-quiet (Some o) b r w = local-quiet (operation_effect o r) o b (operations-quiet o b r w)
 
-effect_at-quiet : (f : Function) (n : ℕ) (b r : Registers) → b.wptr ≡ r.wptr → IsQuiet (IsStay b) (effect_at f n b r)
-effect_at-quiet function.Opr n b r w = selected-quiet (operation_at n) b r w
-effect_at-quiet f n b r w = quiet_stays b (function_effect f n r) (functions-quiet f n b r w)
+effect_at-quiet : (kind : Kind) (f : Function) (n : ℕ) (b r : Registers) → b.wptr ≡ r.wptr → IsQuiet (IsStay b) (effect_at kind f n b r)
+effect_at-quiet kind function.Opr n b r w = selected-quiet (operation_at kind n) b r w
+effect_at-quiet kind f n b r w = quiet_stays b (function_effect f n r) (functions-quiet f n b r w)
 
 -- the effect of an instruction
-effect-quiet : (i : Instruction) (r : Registers) → IsQuiet (IsStay r) (effect i r)
+effect-quiet : (kind : Kind) (i : Instruction) (r : Registers) → IsQuiet (IsStay r) (effect kind i r)
 unfolding effect
-effect-quiet i r = effect_at-quiet i.function i.operand r (record r { iptr = plus r.iptr i.length }) refl
+effect-quiet kind i r = effect_at-quiet kind i.function i.operand r (record r { iptr = plus r.iptr i.length }) refl
 
 -- what follows an effect goes on from the claims as they are and from the store that the effect left
-pub effect_then : {B : Type 0} (i : Instruction) (r : Registers) (f : Outcome → Action B) (s : Store) (c : Claims)
-    → run_from (effect i r >>= f) s c s ≡ then_from (run (effect i r) s c) (λ o s'. run_from (f o) s c s')
-effect_then i r f s c = quiet_bind (IsStay r) (effect i r) f s s c (effect-quiet i r)
+pub effect_then : {B : Type 0} (kind : Kind) (i : Instruction) (r : Registers) (f : Outcome → Action B) (s : Store) (c : Claims)
+    → run_from (effect kind i r >>= f) s c s ≡ then_from (run (effect kind i r) s c) (λ o s'. run_from (f o) s c s')
+effect_then kind i r f s c = quiet_bind (IsStay r) (effect kind i r) f s s c (effect-quiet kind i r)
 
 -- so what was answered goes on as what follows says
-pub effect_answered : {B : Type 0} (i : Instruction) (r r' : Registers) (next : Next) (f : Outcome → Action B)
+pub effect_answered : {B : Type 0} (kind : Kind) (i : Instruction) (r r' : Registers) (next : Next) (f : Outcome → Action B)
     (s s' : Store) (c : Claims)
-    → run (effect i r) s c ≡ Ok ((r', next), s') → run_from (effect i r >>= f) s c s ≡ run_from (f (r', next)) s c s'
-effect_answered i r r' next f s s' c e = rw (effect_then i r f s c, e) refl
+    → run (effect kind i r) s c ≡ Ok ((r', next), s') → run_from (effect kind i r >>= f) s c s ≡ run_from (f (r', next)) s c s'
+effect_answered kind i r r' next f s s' c e = rw (effect_then kind i r f s c, e) refl
 
 -- and a break is one whatever follows
-pub effect_broke : {B : Type 0} (i : Instruction) (r : Registers) (b : Break) (f : Outcome → Action B) (s : Store)
+pub effect_broke : {B : Type 0} (kind : Kind) (i : Instruction) (r : Registers) (b : Break) (f : Outcome → Action B) (s : Store)
     (c : Claims)
-    → run (effect i r) s c ≡ Err b → run_from (effect i r >>= f) s c s ≡ Err b
-effect_broke i r b f s c e = rw (effect_then i r f s c, e) refl
+    → run (effect kind i r) s c ≡ Err b → run_from (effect kind i r >>= f) s c s ≡ Err b
+effect_broke kind i r b f s c e = rw (effect_then kind i r f s c, e) refl
 
 -- what would jump does
 pub jump_foretold : (x : Result (Outcome × Store) Break) → Ok true ≡ would_jump x
@@ -261,10 +263,10 @@ break_foretold (Ok ((r', next), s')) b e = cc
 break_foretold (Err b') b e = cc
 
 -- a jump stays in its workspace
-pub stays_effect : (i : Instruction) (r r' : Registers) (c : Claims) (s s' : Store) (result : Result Next Break)
-    → run (effect i r) s c ≡ outcome_of result r' s' → IfOk result (λ next. StaysWhereJumped next r r')
-stays_effect i r r' c s s' (Ok next) e = quiet_run (IsStay r) (effect i r) s s c (r', next) s' (effect-quiet i r) e
-stays_effect i r r' c s s' (Err b) e = tt
+pub stays_effect : (kind : Kind) (i : Instruction) (r r' : Registers) (c : Claims) (s s' : Store) (result : Result Next Break)
+    → run (effect kind i r) s c ≡ outcome_of result r' s' → IfOk result (λ next. StaysWhereJumped next r r')
+stays_effect kind i r r' c s s' (Ok next) e = quiet_run (IsStay r) (effect kind i r) s s c (r', next) s' (effect-quiet kind i r) e
+stays_effect kind i r r' c s s' (Err b) e = tt
 
 -- what is left to the scheduler has changed nothing
 local-left : (x : Option (Action Outcome)) (o p : Operation) (b r' : Registers) (c : Claims) (s s' : Store)
@@ -282,16 +284,16 @@ selected-left None p b r r' c s s' w e = cc
 selected-left (Some o) p b r r' c s s' w e =
     local-left (operation_effect o r) o p b r' c s s' (operations-quiet o b r w) e
 
-effect_at-left : (f : Function) (n : ℕ) (p : Operation) (b r r' : Registers) (c : Claims) (s s' : Store)
+effect_at-left : (kind : Kind) (f : Function) (n : ℕ) (p : Operation) (b r r' : Registers) (c : Claims) (s s' : Store)
     → b.wptr ≡ r.wptr
-    → run (effect_at f n b r) s c ≡ Ok ((r', Schedule p), s') → (s' ≡ s) × (r' ≡ b)
-effect_at-left function.Opr n p b r r' c s s' w e = selected-left (operation_at n) p b r r' c s s' w e
-effect_at-left f n p b r r' c s s' w e =
+    → run (effect_at kind f n b r) s c ≡ Ok ((r', Schedule p), s') → (s' ≡ s) × (r' ≡ b)
+effect_at-left kind function.Opr n p b r r' c s s' w e = selected-left (operation_at kind n) p b r r' c s s' w e
+effect_at-left kind f n p b r r' c s s' w e =
     absurd (quiet_run (IsEnd b) (function_effect f n r) s s c (r', Schedule p) s' (functions-quiet f n b r w) e)
 
-pub stands_at : (f : Function) (n : ℕ) (b r r' : Registers) (c : Claims) (s s' : Store) (next : Next) → b.wptr ≡ r.wptr
-    → run (effect_at f n b r) s c ≡ Ok ((r', next), s') → StandsWhereLeft next s b s' r'
-stands_at f n b r r' c s s' (Schedule p) w e = effect_at-left f n p b r r' c s s' w e
-stands_at f n b r r' c s s' Go w e = tt
-stands_at f n b r r' c s s' Jumped w e = tt
-stands_at f n b r r' c s s' Halt w e = tt
+pub stands_at : (kind : Kind) (f : Function) (n : ℕ) (b r r' : Registers) (c : Claims) (s s' : Store) (next : Next) → b.wptr ≡ r.wptr
+    → run (effect_at kind f n b r) s c ≡ Ok ((r', next), s') → StandsWhereLeft next s b s' r'
+stands_at kind f n b r r' c s s' (Schedule p) w e = effect_at-left kind f n p b r r' c s s' w e
+stands_at kind f n b r r' c s s' Go w e = tt
+stands_at kind f n b r r' c s s' Jumped w e = tt
+stands_at kind f n b r r' c s s' Halt w e = tt

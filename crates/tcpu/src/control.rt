@@ -14,7 +14,7 @@ ghost use Rattle.tcpu.specs.Operations.{operation_effect};
 
 use crate::registers::{Next, Registers, Step};
 use crate::word_arithmetic::{is_word_address, word_address};
-use tword::{Break, Marks, Memory, Word};
+use tword::{Break, Bytes, Marks, Word};
 
 impl Registers {
     /// `j`: jumps by the operand
@@ -71,7 +71,7 @@ impl Registers {
     /// # Errors
     /// `Unaligned` where A is no multiple of 4.
     #[inline(always)]
-    pub(crate) fn general_adjust_workspace(&mut self, memory: &Memory, marks: &Marks) -> Step
+    pub(crate) fn general_adjust_workspace(&mut self, memory: &Bytes, marks: &Marks) -> Step
         ensures done { DoesOperation op.Gajw self.old memory.now marks.now result self.new memory.now }
         ensures kept { OnErr result (self.new ≡ self.old) }
     {
@@ -89,7 +89,7 @@ impl Registers {
     /// # Errors
     /// The break of the first of the four words, from the lowest up, that may not be written.
     #[inline(always)]
-    pub(crate) fn call(&mut self, memory: &mut Memory, marks: &Marks, operand: Word) -> Step
+    pub(crate) fn call(&mut self, memory: &mut Bytes, marks: &Marks, operand: Word) -> Step
         ensures done { DoesFunction function.Call operand self.old memory.old marks.now result self.new memory.new }
         ensures kept { OnErr result ((memory.new ≡ memory.old) × (self.new ≡ self.old)) }
         ensures sized { length memory.new ≡ length memory.old }
@@ -112,7 +112,7 @@ impl Registers {
     /// # Errors
     /// The break of the first of them, from the lowest up, that may not be written.
     #[inline(never)]
-    pub(crate) fn may_call(&self, memory: &Memory, marks: &Marks) -> Result<(), Break>
+    pub(crate) fn may_call(&self, memory: &Bytes, marks: &Marks) -> Result<(), Break>
         ensures checks { result ≡ or_break (
             first_break (word_break (length memory.now) marks.now Writes (minus self.now.wptr 16)) (
             first_break (word_break (length memory.now) marks.now Writes (minus self.now.wptr 12)) (
@@ -135,7 +135,7 @@ impl Registers {
     /// # Errors
     /// The break of a read of the workspace's first word.
     #[inline(always)]
-    pub(crate) fn return_from_call(&mut self, memory: &Memory, marks: &Marks) -> Step
+    pub(crate) fn return_from_call(&mut self, memory: &Bytes, marks: &Marks) -> Step
         ensures done { DoesOperation op.Ret self.old memory.now marks.now result self.new memory.now }
         ensures kept { OnErr result (self.new ≡ self.old) }
     {
@@ -150,7 +150,7 @@ impl Registers {
     /// # Errors
     /// The break of a write of the count, else of the index.
     #[inline(always)]
-    pub(crate) fn loop_end(&mut self, memory: &mut Memory, marks: &Marks) -> Step
+    pub(crate) fn loop_end(&mut self, memory: &mut Bytes, marks: &Marks) -> Step
         ensures done { DoesOperation op.Lend self.old memory.old marks.now result self.new memory.new }
         ensures kept { OnErr result ((memory.new ≡ memory.old) × (self.new ≡ self.old)) }
         ensures sized { length memory.new ≡ length memory.old }
@@ -178,7 +178,7 @@ impl Registers {
     /// # Errors
     /// The break of a write of the count, else of the index.
     #[inline(always)]
-    pub(crate) fn falling_count(&self, memory: &Memory, marks: &Marks) -> Result<Word, Break>
+    pub(crate) fn falling_count(&self, memory: &Bytes, marks: &Marks) -> Result<Word, Break>
         ensures count { result ≡ or_break (
             first_break (word_break (length memory.now) marks.now Writes (plus self.now.b 4))
             (word_break (length memory.now) marks.now Writes self.now.b))

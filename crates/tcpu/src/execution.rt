@@ -8,24 +8,53 @@ ghost use Rattle.tcpu.specs.Operations.{operation_effect};
 
 use crate::registers::{Next, Registers, Step};
 use tcode::{Function, Instruction, Operation, operation_of};
-use tword::{Break, Marks, Memory, Word};
+use tword::{Break, Bytes, Kind, Marks, Memory, Word};
 
-/// Does an instruction, as the tables of the Compiler Writer's Guide say, or leaves an operation to the scheduler with
-/// nothing changed.
+/// Does an instruction, as the tables of the Compiler Writer's Guide say for the kind of node that the memory belongs to,
+/// or leaves an operation to the scheduler with nothing changed.
 ///
 /// # Errors
 /// The first check of the instruction that fails, in the order of its row: `Unaligned`, `BadAddress`, `Reserved`,
 /// `InTransit` or `SavedWord` of a word or of bytes that it touches, `Unaligned` of a workspace, `NoSuchOperation`.
 /// Registers and memory are then as they were.
 #[inline(always)]
-#[tactic(auto, unfolding(crate::specs::Effects::effect))]
 pub fn local(
     registers: &mut Registers,
     memory: &mut Memory,
     marks: &Marks,
     instruction: Instruction,
 ) -> Result<Next, Break>
-    ensures done { run (effect instruction registers.old) memory.old marks.now
+    ensures done { run (effect memory.old.kind instruction registers.old) memory.old.bytes marks.now
+        ≡ outcome_of result registers.new memory.new.bytes }
+    ensures kept { OnErr result ((memory.new ≡ memory.old) × (registers.new ≡ registers.old)) }
+    ensures left { IfOk result
+        (λ next. StandsWhereLeft next memory.old.bytes registers.old memory.new.bytes registers.new) }
+    ensures sized { length memory.new.bytes ≡ length memory.old.bytes }
+    ensures kind { memory.new.kind ≡ memory.old.kind }
+{
+    local_for(
+        memory.kind,
+        registers,
+        &mut memory.bytes,
+        marks,
+        instruction,
+    )
+}
+
+/// The same, by the bytes of the memory and the kind apart.
+///
+/// # Errors
+/// As `local`.
+#[inline(always)]
+#[tactic(auto, unfolding(crate::specs::Effects::effect))]
+pub fn local_for(
+    kind: Kind,
+    registers: &mut Registers,
+    memory: &mut Bytes,
+    marks: &Marks,
+    instruction: Instruction,
+) -> Result<Next, Break>
+    ensures done { run (effect kind instruction registers.old) memory.old marks.now
         ≡ outcome_of result registers.new memory.new }
     ensures kept { OnErr result ((memory.new ≡ memory.old) × (registers.new ≡ registers.old)) }
     ensures left { IfOk result (λ next. StandsWhereLeft next memory.old registers.old memory.new registers.new) }
@@ -35,7 +64,7 @@ pub fn local(
     let function = instruction.function;
     let operand = instruction.operand;
     registers.iptr = start.plus(Word::new(u32::from(instruction.length)));
-    match act(registers, memory, marks, start, function, operand) {
+    match act(kind, registers, memory, marks, start, function, operand) {
         Ok(next) => Ok(next),
         Err(broken) => {
             registers.iptr = start;
@@ -47,14 +76,15 @@ pub fn local(
 /// Does an instruction that began at `start`. Iptr is behind it already.
 #[inline(always)]
 fn act(
+    kind: Kind,
     registers: &mut Registers,
-    memory: &mut Memory,
+    memory: &mut Bytes,
     marks: &Marks,
     start: Word,
     function: Function,
     operand: Word,
 ) -> Step
-    ensures done { run (effect_at function operand (record registers.old { iptr = start }) registers.old) memory.old
+    ensures done { run (effect_at kind function operand (record registers.old { iptr = start }) registers.old) memory.old
         marks.now ≡ outcome_of result registers.new memory.new }
     ensures kept { OnErr result ((memory.new ≡ memory.old) × (registers.new ≡ registers.old)) }
     ensures sized { length memory.new ≡ length memory.old }
@@ -73,7 +103,7 @@ fn act(
         Function::Eqc => Ok(registers.equals_constant(operand)),
         Function::Stl => registers.store_local(memory, marks, operand),
         Function::Stnl => registers.store_non_local(memory, marks, operand),
-        Function::Opr => match operation_of(operand) {
+        Function::Opr => match operation_of(operand, kind) {
             Some(operation) => operate(registers, memory, marks, start, operation),
             None => Err(Break::NoSuchOperation),
         },
@@ -85,7 +115,7 @@ fn act(
 #[tactic(auto, unfolding(crate::specs::Operations::operation_effect))]
 fn operate(
     registers: &mut Registers,
-    memory: &mut Memory,
+    memory: &mut Bytes,
     marks: &Marks,
     start: Word,
     operation: Operation,
@@ -146,6 +176,7 @@ fn operate(
         Operation::Clrhalterr => Ok(registers.clear_halt_on_error()),
         Operation::Sethalterr => Ok(registers.set_halt_on_error()),
         Operation::Testhalterr => Ok(registers.test_halt_on_error()),
+        Operation::Dup => Ok(registers.duplicate()),
         Operation::Endp
         | Operation::In
         | Operation::Out

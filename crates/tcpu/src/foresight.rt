@@ -9,20 +9,37 @@ ghost use Rattle.tcpu.specs.Operations.{operation_effect};
 use crate::registers::Registers;
 use crate::word_arithmetic::{is_word_address, word_address};
 use tcode::{Function, Instruction, Operation, operation_of};
-use tword::{Break, Marks, Memory};
+use tword::{Break, Bytes, Kind, Marks, Memory};
 
 /// Whether an instruction would jump so that a timeslice may end, as `local` would answer it. Nothing is changed.
 ///
 /// # Errors
 /// The break that `local` would answer.
-#[tactic(auto, unfolding(crate::specs::Effects::effect, crate::specs::Functions::function_effect))]
 pub fn jumps(
     registers: &Registers,
     memory: &Memory,
     marks: &Marks,
     instruction: Instruction,
 ) -> Result<bool, Break>
-    ensures { result ≡ would_jump (run (effect instruction registers.now) memory.now marks.now) }
+    ensures { result ≡ would_jump
+        (run (effect memory.now.kind instruction registers.now) memory.now.bytes marks.now) }
+{
+    jumps_for(memory.kind, registers, &memory.bytes, marks, instruction)
+}
+
+/// The same, by the bytes of the memory and the kind apart.
+///
+/// # Errors
+/// As `jumps`.
+#[tactic(auto, unfolding(crate::specs::Effects::effect, crate::specs::Functions::function_effect))]
+pub fn jumps_for(
+    kind: Kind,
+    registers: &Registers,
+    memory: &Bytes,
+    marks: &Marks,
+    instruction: Instruction,
+) -> Result<bool, Break>
+    ensures { result ≡ would_jump (run (effect kind instruction registers.now) memory.now marks.now) }
 {
     let operand = instruction.operand;
     match instruction.function {
@@ -47,7 +64,7 @@ pub fn jumps(
             memory.may_write_word(marks, word_address(registers.a, operand))?;
             Ok(false)
         }
-        Function::Opr => match operation_of(operand) {
+        Function::Opr => match operation_of(operand, kind) {
             Some(operation) => operation_jumps(registers, memory, marks, operation),
             None => Err(Break::NoSuchOperation),
         },
@@ -65,7 +82,7 @@ pub fn jumps(
 #[tactic(auto, unfolding(crate::specs::Operations::operation_effect))]
 fn operation_jumps(
     registers: &Registers,
-    memory: &Memory,
+    memory: &Bytes,
     marks: &Marks,
     operation: Operation,
 ) -> Result<bool, Break>

@@ -8,7 +8,7 @@ ghost use Rattle.tcpu.specs.Local.{DoesFunction, DoesOperation};
 
 use crate::registers::{Next, Registers, Step};
 use crate::word_arithmetic::word_address;
-use tword::{Marks, Memory, Word};
+use tword::{Bytes, Marks, Word};
 
 impl Registers {
     /// `ldl`: pushes a word of the workspace
@@ -16,7 +16,7 @@ impl Registers {
     /// # Errors
     /// The break of a read of the word.
     #[inline(always)]
-    pub(crate) fn load_local(&mut self, memory: &Memory, marks: &Marks, operand: Word) -> Step
+    pub(crate) fn load_local(&mut self, memory: &Bytes, marks: &Marks, operand: Word) -> Step
         ensures done { DoesFunction function.Ldl operand self.old memory.now marks.now result self.new memory.now }
         ensures kept { OnErr result (self.new ≡ self.old) }
     {
@@ -30,7 +30,7 @@ impl Registers {
     /// # Errors
     /// The break of a read of the word.
     #[inline(always)]
-    pub(crate) fn load_non_local(&mut self, memory: &Memory, marks: &Marks, operand: Word) -> Step
+    pub(crate) fn load_non_local(&mut self, memory: &Bytes, marks: &Marks, operand: Word) -> Step
         ensures done { DoesFunction function.Ldnl operand self.old memory.now marks.now result self.new memory.now }
         ensures kept { OnErr result (self.new ≡ self.old) }
     {
@@ -44,7 +44,7 @@ impl Registers {
     /// # Errors
     /// The break of a write of the word.
     #[inline(always)]
-    pub(crate) fn store_local(&mut self, memory: &mut Memory, marks: &Marks, operand: Word) -> Step
+    pub(crate) fn store_local(&mut self, memory: &mut Bytes, marks: &Marks, operand: Word) -> Step
         ensures done { DoesFunction function.Stl operand self.old memory.old marks.now result self.new memory.new }
         ensures kept { OnErr result ((memory.new ≡ memory.old) × (self.new ≡ self.old)) }
         ensures sized { length memory.new ≡ length memory.old }
@@ -61,7 +61,7 @@ impl Registers {
     #[inline(always)]
     pub(crate) fn store_non_local(
         &mut self,
-        memory: &mut Memory,
+        memory: &mut Bytes,
         marks: &Marks,
         operand: Word,
     ) -> Step
@@ -80,7 +80,7 @@ impl Registers {
     /// # Errors
     /// The break of a read of the byte.
     #[inline(always)]
-    pub(crate) fn load_byte(&mut self, memory: &Memory, marks: &Marks) -> Step
+    pub(crate) fn load_byte(&mut self, memory: &Bytes, marks: &Marks) -> Step
         ensures done { DoesOperation op.Lb self.old memory.now marks.now result self.new memory.now }
         ensures kept { OnErr result (self.new ≡ self.old) }
     {
@@ -94,7 +94,7 @@ impl Registers {
     /// # Errors
     /// The break of a write of the byte.
     #[inline(always)]
-    pub(crate) fn store_byte(&mut self, memory: &mut Memory, marks: &Marks) -> Step
+    pub(crate) fn store_byte(&mut self, memory: &mut Bytes, marks: &Marks) -> Step
         ensures done { DoesOperation op.Sb self.old memory.old marks.now result self.new memory.new }
         ensures kept { OnErr result ((memory.new ≡ memory.old) × (self.new ≡ self.old)) }
         ensures sized { length memory.new ≡ length memory.old }
@@ -111,7 +111,7 @@ impl Registers {
     /// # Errors
     /// The break of a read of the source, else of a write of the target.
     #[inline(always)]
-    pub(crate) fn move_bytes(&mut self, memory: &mut Memory, marks: &Marks) -> Step
+    pub(crate) fn move_bytes(&mut self, memory: &mut Bytes, marks: &Marks) -> Step
         ensures done { DoesOperation op.Move self.old memory.old marks.now result self.new memory.new }
         ensures kept { OnErr result ((memory.new ≡ memory.old) × (self.new ≡ self.old)) }
         ensures sized { length memory.new ≡ length memory.old }

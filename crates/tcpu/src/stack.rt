@@ -49,6 +49,14 @@ impl Registers {
         Next::Go
     }
 
+    /// `dup`: pushes A
+    pub(crate) fn duplicate(&mut self) -> Next
+        ensures { operation_effect op.Dup self.old ≡ Some (answer (self.new, result)) }
+    {
+        self.push(self.a);
+        Next::Go
+    }
+
     /// `rev`: exchanges A and B
     #[inline]
     pub(crate) fn reverse(&mut self) -> Next

@@ -2,6 +2,7 @@
 use Rattle.std.proofs.Common.{◌≡◌, ℕ, ◌<◌, refl, List, length, true, not, Option, Some, None, arith, is_none}
 use Rattle.std.specs.Prelude.{◌==◌}
 use Rattle.std.proofs.lemmas.Bool.{and_parts, eqb-false, not-true}
+use Rattle.tword.specs.declared.kind.Kind.{Kind}
 use Rattle.tword.specs.Words.{word_below}
 use Rattle.tword.specs.Claims.{Claims, saving}
 use Rattle.tword.specs.Touches.{deschedule_break}
@@ -39,7 +40,7 @@ pub none_if : (o : Option Offer) → is_none o ≡ true → o ≡ None
 none_if None h = refl
 none_if (Some x) h = cc
 
-module _ (n : ℕ) (K : List ℕ → List ℕ → List Waiter → List LinkEnd → Type 0) (law : RowsKeep n K) where
+module _ (n : ℕ) (K : Kind → List ℕ → List ℕ → List Waiter → List LinkEnd → Type 0) (law : RowsKeep n K) where
   -- the process waits after its words were descheduled
   waits-keeps : (process : ℕ) (reason : Reason) (m : Control) (c : Claims) → Obeys K m × Guarded m c → IsOwn process m
       → deschedule_break n c m.registers.wptr ≡ None → Obeys K (waiting_for process reason m)

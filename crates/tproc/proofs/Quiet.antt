@@ -2,6 +2,7 @@
 -- that was left. By this a contract that speaks of the run of a part alone serves a step that goes on.
 use Rattle.std.proofs.Common.{◌≡◌, ℕ, ℤ, zero, suc, pos, refl, cond, Bool, true, false, Option, Some, None, Result, Ok}
 use Rattle.std.proofs.Common.{Err}
+use Rattle.tword.specs.declared.kind.Kind.{Kind}
 use Rattle.tword.specs.declared.breaks.Break.{Break}
 use Rattle.tword.specs.declared.breaks.Break.TheVariants.{NoSuchOperation}
 use Rattle.tword.specs.Words.{plus}
@@ -25,21 +26,21 @@ use Rattle.tcpu.proofs.Quiet.{effect_answered, effect_broke, stays_effect}
 use Rattle.tproc.specs.Doing.{Begins, Foresees, jumps_as, onward, with_registers}
 
 -- what an instruction did tells how a step begins
-pub begins_effect : (i : Instruction) (r r' : Registers) (c : Claims) (s s' : Store) (result : Result Next Break)
-    → run (effect i r) s c ≡ outcome_of result r' s' → Begins (effect i r) c s (with_registers result r') s'
-begins_effect i r r' c s s' (Ok next) e = λ f. effect_answered i r r' next f s s' c e
-begins_effect i r r' c s s' (Err b) e = λ f. effect_broke i r b f s c e
+pub begins_effect : (kind : Kind) (i : Instruction) (r r' : Registers) (c : Claims) (s s' : Store) (result : Result Next Break)
+    → run (effect kind i r) s c ≡ outcome_of result r' s' → Begins (effect kind i r) c s (with_registers result r') s'
+begins_effect kind i r r' c s s' (Ok next) e = λ f. effect_answered kind i r r' next f s s' c e
+begins_effect kind i r r' c s s' (Err b) e = λ f. effect_broke kind i r b f s c e
 
 -- what an instruction would do tells how a step would begin
-pub foresees : (i : Instruction) (r : Registers) (c : Claims) (s : Store) (result : Result Bool Break)
-    → result ≡ would_jump (run (effect i r) s c) → Foresees (effect i r) c s r result
-foresees i r c s result e = by (run (effect i r) s c) refl e
+pub foresees : (kind : Kind) (i : Instruction) (r : Registers) (c : Claims) (s : Store) (result : Result Bool Break)
+    → result ≡ would_jump (run (effect kind i r) s c) → Foresees (effect kind i r) c s r result
+foresees kind i r c s result e = by (run (effect kind i r) s c) refl e
   where
-    by : (y : Result (Outcome × Store) Break) → run (effect i r) s c ≡ y → result ≡ would_jump y
-        → Foresees (effect i r) c s r result
-    by (Err b) k h = rw h (λ f. effect_broke i r b f s c k)
+    by : (y : Result (Outcome × Store) Break) → run (effect kind i r) s c ≡ y → result ≡ would_jump y
+        → Foresees (effect kind i r) c s r result
+    by (Err b) k h = rw h (λ f. effect_broke kind i r b f s c k)
     by (Ok ((r', Jumped), s')) k h =
-        rw h (r', s', stays_effect i r r' c s s' (Ok Jumped) k, (λ f. effect_answered i r r' Jumped f s s' c k))
+        rw h (r', s', stays_effect kind i r r' c s s' (Ok Jumped) k, (λ f. effect_answered kind i r r' Jumped f s s' c k))
     by (Ok ((r', _), s')) k h = rw h tt
 
 -- no store is written
@@ -74,36 +75,36 @@ reading_bind (reading_saved w k next) f old new c q = absurd q
 reading_bind (setting_saved w k v next) f old new c q = absurd q
 
 -- the bytes of an instruction
-complete-reading : (rest : ℤ → Action Instruction) (length : ℕ) (p : Chained) → ((w : ℤ) → IsReading (rest w))
-    → IsReading (complete rest length p)
-complete-reading rest length (More w) h = h w
-complete-reading rest length (Last f w) h = by (is_listed f w)
+complete-reading : (kind : Kind) (rest : ℤ → Action Instruction) (length : ℕ) (p : Chained) → ((w : ℤ) → IsReading (rest w))
+    → IsReading (complete kind rest length p)
+complete-reading kind rest length (More w) h = h w
+complete-reading kind rest length (Last f w) h = by (is_listed kind f w)
   where
     by : (b : Bool) → IsReading (cond b (answer (instruction f w length)) (breaks NoSuchOperation))
     by true = tt
     by false = tt
 
-fetch-reading : (left had address : ℕ) (value : ℤ) → IsReading (fetch left had address value)
-fetch-reading zero had address value = tt
-fetch-reading (suc left) had address value =
-    λ byte. complete-reading (fetch left (suc had) (plus address 1)) (suc had) (chained value byte)
-    (λ w. fetch-reading left (suc had) (plus address 1) w)
+fetch-reading : (kind : Kind) (left had address : ℕ) (value : ℤ) → IsReading (fetch kind left had address value)
+fetch-reading kind zero had address value = tt
+fetch-reading kind (suc left) had address value =
+    λ byte. complete-reading kind (fetch kind left (suc had) (plus address 1)) (suc had) (chained value byte)
+    (λ w. fetch-reading kind left (suc had) (plus address 1) w)
 
 -- what was decoded tells how a step begins
-pub begins_decode : (iptr : ℕ) (c : Claims) (s : Store) (result : Result Instruction Break)
-    → result ≡ value_of (run (decode iptr) s c) → Begins (decode iptr) c s result s
+pub begins_decode : (kind : Kind) (iptr : ℕ) (c : Claims) (s : Store) (result : Result Instruction Break)
+    → result ≡ value_of (run (decode kind iptr) s c) → Begins (decode kind iptr) c s result s
 unfolding decode
-begins_decode iptr c s result e =
-    λ f. rw e (reading_bind (fetch longest 0 iptr (pos 0)) f s s c (fetch-reading longest 0 iptr (pos 0)))
+begins_decode kind iptr c s result e =
+    λ f. rw e (reading_bind (fetch kind longest 0 iptr (pos 0)) f s s c (fetch-reading kind longest 0 iptr (pos 0)))
 
 -- whether it jumped
-pub told_effect : (i : Instruction) (r r' : Registers) (c : Claims) (s s' : Store) (result : Result Next Break)
-    → run (effect i r) s c ≡ outcome_of result r' s' → would_jump (run (effect i r) s c) ≡ jumps_as result
-told_effect i r r' c s s' (Ok next) e = rw e refl
-told_effect i r r' c s s' (Err b) e = rw e refl
+pub told_effect : (kind : Kind) (i : Instruction) (r r' : Registers) (c : Claims) (s s' : Store) (result : Result Next Break)
+    → run (effect kind i r) s c ≡ outcome_of result r' s' → would_jump (run (effect kind i r) s c) ≡ jumps_as result
+told_effect kind i r r' c s s' (Ok next) e = rw e refl
+told_effect kind i r r' c s s' (Err b) e = rw e refl
 
 -- a jump jumps, wherever it leads
-pub jump_jumps : (i : Instruction) (r : Registers) (c : Claims) (s : Store) → i.function ≡ J
-    → Ok true ≡ would_jump (run (effect i r) s c)
+pub jump_jumps : (kind : Kind) (i : Instruction) (r : Registers) (c : Claims) (s : Store) → i.function ≡ J
+    → Ok true ≡ would_jump (run (effect kind i r) s c)
 unfolding effect function_effect
-jump_jumps i r c s e = rw e refl
+jump_jumps kind i r c s e = rw e refl

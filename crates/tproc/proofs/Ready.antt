@@ -5,6 +5,7 @@ use Rattle.std.proofs.Common.{get_or, arith}
 use Rattle.std.specs.Prelude.{IfSome, IfOk, IsSome, All, find, option_map, nat_le, unwrap_or}
 use Rattle.std.specs.List.{list_any}
 use Rattle.std.proofs.lemmas.Bool.{eqb-true, eq-eqb, or_right, leb-true, leb-false}
+use Rattle.tword.specs.declared.kind.Kind.{Kind}
 use Rattle.tword.specs.declared.breaks.Break.{Break}
 use Rattle.tword.specs.Words.{most_neg}
 use Rattle.tword.specs.Stores.{Store, place, word_at, byte_at, with_word, with_cells, as_cells, cells}
@@ -243,8 +244,8 @@ input_byte n l k o p e h =
     (omega (arith, b.0, h), omega (arith, b.0, b.1, h))
 
 -- no claims are those of no process
-pub agrees_empty : (timeslice : ℕ) → Agrees no_claims (no_processes timeslice)
-agrees_empty timeslice = record { on = record { saved = λ w. refl; count = refl; inputs = refl; outputs = refl } }
+pub agrees_empty : (timeslice : ℕ) (kind : Kind) → Agrees no_claims (no_processes timeslice kind)
+agrees_empty timeslice kind = record { on = record { saved = λ w. refl; count = refl; inputs = refl; outputs = refl } }
 
 -- parts of an action may be joined in any way
 module _ {A B C : Type 0} (f : A → Action B) (g : B → Action C) where
@@ -332,7 +333,8 @@ placed_loaded start bytes n s p small inside e =
 
 -- what is fetched does not depend on the order in which the claims are kept
 pub fetched_at_alike : (address : ℕ) (c : Claims) (n : Machine) → Agrees c n.control
-    → value_of (run (decode address) n.store c) ≡ value_of (run (decode address) n.store (claims_of n.control))
+    → value_of (run (decode n.control.kind address) n.store c)
+    ≡ value_of (run (decode n.control.kind address) n.store (claims_of n.control))
 fetched_at_alike address c n a =
     ap (λ (r : Result (Instruction × Store) Break). value_of r)
-    (run_from-same (decode address) n.store n.store c (claims_of n.control) (same_from c n.control a))
+    (run_from-same (decode n.control.kind address) n.store n.store c (claims_of n.control) (same_from c n.control a))

@@ -1,6 +1,7 @@
 -- Decoding and local effects deschedule nobody and set no saved word.
 use Rattle.std.proofs.Common.{ℕ, ℤ, zero, suc, pos, Bool, true, false, Option, Some, None}
 use Rattle.std.specs.Prelude.{IfSome, if◌then◌else◌}
+use Rattle.tword.specs.declared.kind.Kind.{Kind}
 use Rattle.tword.specs.Words.{plus, minus}
 use Rattle.tword.specs.declared.breaks.Break.TheVariants.{NoSuchOperation}
 use Rattle.tword.specs.Actions.{Action, answer, breaks}
@@ -20,24 +21,24 @@ use Rattle.tcpu.specs.Effects.{local_or_left, selected_effect, effect_at, effect
 use Rattle.tproc.proofs.SavedSets.{SetsNone}
 
 -- the bytes of an instruction
-complete-none : (rest : ℤ → Action Decoded) (length : ℕ) (p : Chained) → ((w : ℤ) → SetsNone (rest w))
-    → SetsNone (complete rest length p)
-complete-none rest length (More w) h = h w
-complete-none rest length (Last f w) h = by (is_listed f w)
+complete-none : (kind : Kind) (rest : ℤ → Action Decoded) (length : ℕ) (p : Chained) → ((w : ℤ) → SetsNone (rest w))
+    → SetsNone (complete kind rest length p)
+complete-none kind rest length (More w) h = h w
+complete-none kind rest length (Last f w) h = by (is_listed kind f w)
   where
     by : (b : Bool) → SetsNone (if b then answer (instruction f w length) else breaks NoSuchOperation)
     by true = tt
     by false = tt
 
-fetch-none : (left had address : ℕ) (value : ℤ) → SetsNone (fetch left had address value)
-fetch-none zero had address value = tt
-fetch-none (suc left) had address value =
-    λ byte. complete-none (fetch left (suc had) (plus address 1)) (suc had) (chained value byte)
-    (λ w. fetch-none left (suc had) (plus address 1) w)
+fetch-none : (kind : Kind) (left had address : ℕ) (value : ℤ) → SetsNone (fetch kind left had address value)
+fetch-none kind zero had address value = tt
+fetch-none kind (suc left) had address value =
+    λ byte. complete-none kind (fetch kind left (suc had) (plus address 1)) (suc had) (chained value byte)
+    (λ w. fetch-none kind left (suc had) (plus address 1) w)
 
-pub decode-none : (iptr : ℕ) → SetsNone (decode iptr)
+pub decode-none : (kind : Kind) (iptr : ℕ) → SetsNone (decode kind iptr)
 unfolding decode
-decode-none iptr = fetch-none longest 0 iptr (pos 0)
+decode-none kind iptr = fetch-none kind longest 0 iptr (pos 0)
 
 -- a function
 functions-none : (f : Function) (n : ℕ) (r : Registers) → SetsNone (function_effect f n r)
@@ -67,11 +68,11 @@ selected-none : (o : Option Operation) (b r : Registers) → SetsNone (selected_
 selected-none None b r = tt
 selected-none (Some o) b r = local-none (operation_effect o r) o b (operations-none o r)
 
-effect_at-none : (f : Function) (n : ℕ) (b r : Registers) → SetsNone (effect_at f n b r)
-effect_at-none function.Opr n b r = selected-none (operation_at n) b r
-effect_at-none f n b r = functions-none f n r
+effect_at-none : (kind : Kind) (f : Function) (n : ℕ) (b r : Registers) → SetsNone (effect_at kind f n b r)
+effect_at-none kind function.Opr n b r = selected-none (operation_at kind n) b r
+effect_at-none kind f n b r = functions-none f n r
 
 -- the effect of an instruction
-pub effect-none : (i : Decoded) (r : Registers) → SetsNone (effect i r)
+pub effect-none : (kind : Kind) (i : Decoded) (r : Registers) → SetsNone (effect kind i r)
 unfolding effect
-effect-none i r = effect_at-none i.function i.operand r (record r { iptr = plus r.iptr i.length })
+effect-none kind i r = effect_at-none kind i.function i.operand r (record r { iptr = plus r.iptr i.length })

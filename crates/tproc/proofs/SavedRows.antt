@@ -239,11 +239,11 @@ module _ (D : List ℕ) where
   instruction-turns : (p : ℕ) (m : Control) → p < 2 → Sets D (StepTurns m) None (instruction_step p m)
   unfolding instruction_step
   instruction-turns p m b =
-      sets_bind D (λ l _. l ≡ None) (StepTurns m) (decode m.registers.iptr)
-      (λ i. effect i m.registers >>= (λ r. after i.length p m r.0 r.1)) None
-      (sets_none D (decode m.registers.iptr) None (decode-none m.registers.iptr)) (λ l i h.
-      rw h (sets_bind D (λ l _. l ≡ None) (StepTurns m) (effect i m.registers) (λ r. after i.length p m r.0 r.1) None
-      (sets_none D (effect i m.registers) None (effect-none i m.registers)) (λ l r k.
+      sets_bind D (λ l _. l ≡ None) (StepTurns m) (decode m.kind m.registers.iptr)
+      (λ i. effect m.kind i m.registers >>= (λ r. after i.length p m r.0 r.1)) None
+      (sets_none D (decode m.kind m.registers.iptr) None (decode-none m.kind m.registers.iptr)) (λ l i h.
+      rw h (sets_bind D (λ l _. l ≡ None) (StepTurns m) (effect m.kind i m.registers) (λ r. after i.length p m r.0 r.1) None
+      (sets_none D (effect m.kind i m.registers) None (effect-none m.kind i m.registers)) (λ l r k.
       rw k (after-turns i.length p m r.0 r.1 b))))
 
   -- a dispatch: the first of a queue leaves it

@@ -3,6 +3,7 @@ use Rattle.std.proofs.Common.{◌≡◌, ◌≢◌, ℕ, zero, suc, ◌+◌, ref
 use Rattle.std.proofs.Common.{true, false, not, ◌&&◌, Result, Ok, Err, Option, Some, None}
 use Rattle.std.specs.Prelude.{◌==◌, IfSome, is_none, unwrap_or, option_map, option_and_then, find}
 use Rattle.std.proofs.lemmas.Bool.{eq-eqb, ne_eqb}
+use Rattle.tword.specs.declared.kind.Kind.{Kind}
 use Rattle.tword.specs.declared.breaks.Break.{Break}
 use Rattle.tword.specs.Words.{plus}
 use Rattle.tword.specs.Stores.{Store, word_at}
@@ -35,15 +36,15 @@ use Rattle.tproc.proofs.Quiet.{begins_decode}
 use Rattle.tproc.proofs.Disabling.{IsSelected, Selects, selects-ends, disables-ends, awaits-ends}
 
 -- an operation that is none of the local ones is left to the scheduler
-scheduled : (i : Decoded) (r : Registers) (o : Operation) → operation_of i.function i.operand ≡ Some o
-    → ((r' : Registers) → operation_effect o r' ≡ None) → effect i r ≡ answer (r, Schedule o)
+scheduled : (kind : Kind) (i : Decoded) (r : Registers) (o : Operation) → operation_of kind i.function i.operand ≡ Some o
+    → ((r' : Registers) → operation_effect o r' ≡ None) → effect kind i r ≡ answer (r, Schedule o)
 unfolding effect
-scheduled i r o e h = by i.function e
+scheduled kind i r o e h = by i.function e
   where
     after_it : Registers
     after_it = record r { iptr = plus r.iptr i.length }
 
-    by : (f : Function) → operation_of f i.operand ≡ Some o → effect_at f i.operand r after_it ≡ answer (r, Schedule o)
+    by : (f : Function) → operation_of kind f i.operand ≡ Some o → effect_at kind f i.operand r after_it ≡ answer (r, Schedule o)
     by function.Opr e = rw (e, h _) refl
     by function.J e = cc
     by function.Ldlp e = cc
@@ -82,8 +83,8 @@ module _ (n n' : Machine) (x : Ran) (o : Operation) (left : (r : Registers) → 
 
   -- one instruction
   instruction : (p : ℕ) (i : Decoded)
-      → Ok i ≡ value_of (run (decode n.control.registers.iptr) n.store (claims_of n.control))
-      → operation_of i.function i.operand ≡ Some o
+      → Ok i ≡ value_of (run (decode n.control.kind n.control.registers.iptr) n.store (claims_of n.control))
+      → operation_of n.control.kind i.function i.operand ≡ Some o
       → run (instruction_step p n.control) n.store (claims_of n.control) ≡ Ok ((n'.control, x), n'.store) → IsStepOf
   unfolding instruction_step
   instruction p i e f h =
@@ -91,24 +92,24 @@ module _ (n n' : Machine) (x : Ran) (o : Operation) (left : (r : Registers) → 
         priority = p;
         size = i.length;
         ran = rw (
-          begins_decode n.control.registers.iptr (claims_of n.control) n.store (Ok i) e
-              (λ i. effect i n.control.registers >>= (λ r. after i.length p n.control r.0 r.1)),
-          scheduled i n.control.registers o f left,
+          begins_decode n.control.kind n.control.registers.iptr (claims_of n.control) n.store (Ok i) e
+              (λ i. effect n.control.kind i n.control.registers >>= (λ r. after i.length p n.control r.0 r.1)),
+          scheduled n.control.kind i n.control.registers o f left,
         ) at h;
       }
 
   -- it is the one that runs next
   runs_low : (p : ℕ) (high : List ℕ) (y : Result Decoded Break)
-      → y ≡ value_of (run (decode n.control.registers.iptr) n.store (claims_of n.control))
-      → operation_by (Some (suc p)) high y ≡ Some o
+      → y ≡ value_of (run (decode n.control.kind n.control.registers.iptr) n.store (claims_of n.control))
+      → operation_by n.control.kind (Some (suc p)) high y ≡ Some o
       → run (low_step high n.control) n.store (claims_of n.control) ≡ Ok ((n'.control, x), n'.store) → IsStepOf
   runs_low p [] (Ok i) e f h = instruction 1 i e f h
   runs_low p [] (Err b) e f h = cc
   runs_low p (w ∷ ws) y e f h = cc
 
   runs_next : (current : Option ℕ) (y : Result Decoded Break)
-      → y ≡ value_of (run (decode n.control.registers.iptr) n.store (claims_of n.control))
-      → operation_by current n.control.high y ≡ Some o
+      → y ≡ value_of (run (decode n.control.kind n.control.registers.iptr) n.store (claims_of n.control))
+      → operation_by n.control.kind current n.control.high y ≡ Some o
       → run (running_step current n.control) n.store (claims_of n.control) ≡ Ok ((n'.control, x), n'.store) → IsStepOf
   runs_next None y e f h = cc
   runs_next (Some zero) (Ok i) e f h = instruction 0 i e f h
@@ -121,12 +122,12 @@ module _ (n n' : Machine) (x : Ran) (o : Operation) (left : (r : Registers) → 
     where
       by : (b : Bool)
           → cond b None
-          (operation_by n.control.current n.control.high
-          (value_of (run (decode n.control.registers.iptr) n.store (claims_of n.control)))) ≡ Some o
+          (operation_by n.control.kind n.control.current n.control.high
+          (value_of (run (decode n.control.kind n.control.registers.iptr) n.store (claims_of n.control)))) ≡ Some o
           → acted n.store (run (control_step b n.control) n.store (claims_of n.control)) ≡ Ok (n', x) → IsStepOf
       by true e f = cc
       by false e f =
-          runs_next n.control.current (value_of (run (decode n.control.registers.iptr) n.store (claims_of n.control)))
+          runs_next n.control.current (value_of (run (decode n.control.kind n.control.registers.iptr) n.store (claims_of n.control)))
           refl e (what_ran (running_step n.control.current n.control) f)
 
 -- a step that disables a guard

@@ -1,5 +1,7 @@
--- The moves that make up the rows of a step, and what each has to keep of a law of queues, waiting processes and links.
+-- The moves that make up the rows of a step, and what each has to keep of a law of kinds, queues, waiting
+-- processes and links.
 use Rattle.std.proofs.Common.{◌≡◌, ℕ, ◌<◌, List, ◌∷◌, Bool, true, None}
+use Rattle.tword.specs.declared.kind.Kind.{Kind}
 use Rattle.tword.specs.Claims.{Claims, saving}
 use Rattle.tword.specs.Touches.{Reads, Writes, is_aligned, deschedule_break, span_break}
 use Rattle.tproc.specs.declared.offer.Ran.{Ran}
@@ -14,9 +16,9 @@ use Rattle.tproc.specs.LinkChannels.{offered, link_end, with_link, link_of}
 use Rattle.tproc.proofs.ClaimState.{HasWaiter}
 use Rattle.tproc.proofs.ClaimMeaning.{Guarded}
 
--- a law of the queues, the processes that wait and the links, at a control
-abbrev pub Obeys : (List ℕ → List ℕ → List Waiter → List LinkEnd → Type 0) → Control → Type 0
-Obeys K m = K m.high m.low m.waiting m.links
+-- a law of the kind, the queues, the processes that wait and the links, at a control
+abbrev pub Obeys : (Kind → List ℕ → List ℕ → List Waiter → List LinkEnd → Type 0) → Control → Type 0
+Obeys K m = K m.kind m.high m.low m.waiting m.links
 
 -- the descriptor of the process that runs names its workspace
 abbrev pub IsOwn : ℕ → Control → Type 0
@@ -27,7 +29,7 @@ abbrev pub IsNoLink : Reason → Type 0
 IsNoLink reason = ((l : ℕ) → reason ≡ LinkOutput l → ⊥) × ((l : ℕ) → reason ≡ LinkInput l → ⊥)
 
 -- what each move of a row keeps. n: the size of the memory, c: claims that hold at least those of the control
-pub record RowsKeep (n : ℕ) (K : List ℕ → List ℕ → List Waiter → List LinkEnd → Type 0) : Type 0 where
+pub record RowsKeep (n : ℕ) (K : Kind → List ℕ → List ℕ → List Waiter → List LinkEnd → Type 0) : Type 0 where
   -- the process that runs waits after its words were descheduled
   pub waits : (process : ℕ) (reason : Reason) (m : Control) (c : Claims) → Obeys K m → Guarded m c → IsOwn process m
       → deschedule_break n c m.registers.wptr ≡ None → Obeys K (waiting_for process reason m)
@@ -65,11 +67,11 @@ pub record RowsKeep (n : ℕ) (K : List ℕ → List ℕ → List Waiter → Lis
   pub first_low : (w : ℕ) (ws : List ℕ) (m : Control) → m.low ≡ w ∷ ws → Obeys K m → Obeys K (record m { low = ws })
 
 -- the answers of steps, of parts and of tests
-abbrev pub StepObeys : (List ℕ → List ℕ → List Waiter → List LinkEnd → Type 0) → Claims → Control × Ran → Type 0
+abbrev pub StepObeys : (Kind → List ℕ → List ℕ → List Waiter → List LinkEnd → Type 0) → Claims → Control × Ran → Type 0
 StepObeys K d r = Obeys K r.0
 
-abbrev pub PartObeys : (List ℕ → List ℕ → List Waiter → List LinkEnd → Type 0) → Claims → Control → Type 0
+abbrev pub PartObeys : (Kind → List ℕ → List ℕ → List Waiter → List LinkEnd → Type 0) → Claims → Control → Type 0
 PartObeys K d m = Obeys K m
 
-abbrev pub AnswerObeys : (List ℕ → List ℕ → List Waiter → List LinkEnd → Type 0) → Claims → Control × Bool → Type 0
+abbrev pub AnswerObeys : (Kind → List ℕ → List ℕ → List Waiter → List LinkEnd → Type 0) → Claims → Control × Bool → Type 0
 AnswerObeys K d r = Obeys K r.0

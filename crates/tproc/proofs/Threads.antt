@@ -3,6 +3,7 @@ use Rattle.std.proofs.Common.{◌≡◌, ℕ, zero, suc, ◌-◌, refl, ap, subs
 use Rattle.std.proofs.Common.{inl, inr, arith}
 use Rattle.std.specs.Prelude.{slice_get}
 use Rattle.std.proofs.lemmas.List.Elements.{All-head, All-tail, All-take}
+use Rattle.tword.specs.declared.kind.Kind.{Kind}
 use Rattle.tword.specs.Words.{word_below}
 use Rattle.tword.specs.Stores.{Store, word_at}
 use Rattle.tproc.specs.Machine.{Machine}
@@ -101,9 +102,9 @@ module _ (n n' : Machine) where
   threaded h t = λ p. queue_threaded (queue n.control p) (queue n'.control p) (h.queues p) (t p)
 
 -- a processor without a process has no queue to be found
-pub empty_threaded : (size timeslice : ℕ) → AreThreaded (empty_machine size timeslice)
-empty_threaded size timeslice zero = refl
-empty_threaded size timeslice (suc p) = refl
+pub empty_threaded : (size timeslice : ℕ) (kind : Kind) → AreThreaded (empty_machine size timeslice kind)
+empty_threaded size timeslice kind zero = refl
+empty_threaded size timeslice kind (suc p) = refl
 
 -- each move leaves the queues threaded
 pub queues_stay_threaded : QueuesStayThreaded

@@ -89,7 +89,7 @@ pub inside_from : (n : ℕ) (span : Span) → most_neg ≤ span.start → span.s
 inside_from n span above within = or_right (span.size == 0) _ (rw (le-leb _ _ above, le-leb _ _ within) refl)
 
 -- the words of a workspace that may be descheduled may be claimed, and nobody claims them
-pub claimable : (n w : ℕ) (c : Claims) → n ≤ 1048576 → w < 2 ^ 32 → deschedule_break n c w ≡ None
+pub claimable : (n w : ℕ) (c : Claims) → n ≤ 16777216 → w < 2 ^ 32 → deschedule_break n c w ≡ None
     → IsClaimableWorkspace w
 claimable n w c small word h = (omega (arith, one.0), word, three.1.0, omega (arith, three.1.0, three.1.1, one.1.1))
   where
@@ -108,18 +108,18 @@ claimable n w c small word h = (omega (arith, one.0), word, three.1.0, omega (ar
     three : (word_below w 3 % 4 ≡ 0) × ((mem_start ≤ word_below w 3) × (word_below w 3 - most_neg + 4 ≤ n))
     three = bounds 3 refl
 
-pub unclaimed : (n w : ℕ) (c : Claims) → n ≤ 1048576 → deschedule_break n c w ≡ None
+pub unclaimed : (n w : ℕ) (c : Claims) → n ≤ 16777216 → deschedule_break n c w ≡ None
     → claim_break c Writes (saved_words w) ≡ None
 unclaimed n w c small h =
     let p : Passes n c Writes (saved_words w) = deschedule-passes n c w (omega arith) h in
     rw (p.still, p.unsaved) refl
 
-pub saved_inside : (n w : ℕ) (c : Claims) → n ≤ 1048576 → deschedule_break n c w ≡ None
+pub saved_inside : (n w : ℕ) (c : Claims) → n ≤ 16777216 → deschedule_break n c w ≡ None
     → is_inside n (saved_words w) ≡ true
 saved_inside n w c small h = (deschedule-passes n c w (omega arith) h).inside
 
 -- a saved word of a workspace in the memory is inside
-pub saved_word_inside : (n w k : ℕ) → n ≤ 1048576 → is_slot k ≡ true → is_inside n (saved_words w) ≡ true
+pub saved_word_inside : (n w k : ℕ) → n ≤ 16777216 → is_slot k ≡ true → is_inside n (saved_words w) ≡ true
     → is_inside n (word_span (word_below w k)) ≡ true
 saved_word_inside n w k small s h =
     let p : Clear n [] (word_span (word_below w k)) = saved_word-clear [] n w k (omega arith) h s refl in
@@ -141,7 +141,7 @@ pub all_inside_freed : (n w : ℕ) (c d : Claims) → ((v : ℕ) → has_saved c
 all_inside_freed n w c d h f v e = h v (and_parts (not (v == w)) (has_saved c v) (sym (f v) ∙ e)).1
 
 -- and there is an address behind it
-pub behind_saved : (n w : ℕ) → n ≤ 1048576 → w < 4294967296 → is_inside n (saved_words w) ≡ true → w + 1 < 4294967296
+pub behind_saved : (n w : ℕ) → n ≤ 16777216 → w < 4294967296 → is_inside n (saved_words w) ≡ true → w + 1 < 4294967296
 behind_saved n w small b h =
     let within = inside_within n (saved_words w) (omega arith) h in
     omega (arith, within.0, within.1, small, b)

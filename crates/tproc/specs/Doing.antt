@@ -97,7 +97,7 @@ with_control (Err b) m = Err b
 
 -- the effect of an instruction of the current process, and what follows it
 abbrev pub rest_of : Instruction → ℕ → Control → StepAction
-rest_of i p m = effect i m.registers >>= (λ o. after i.length p m o.0 o.1)
+rest_of i p m = effect m.kind i m.registers >>= (λ o. after i.length p m o.0 o.1)
 
 -- the current process has moved on by an instruction of this length
 abbrev pub moved_on : ℕ → Control → Control

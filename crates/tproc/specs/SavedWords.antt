@@ -4,6 +4,7 @@
 -- leaves of them: own choice, laws of the machine.
 use Rattle.std.specs.Prelude.{ℕ, zero, suc, ◌-◌, ◌≡◌, ◌⊎◌, List, [], ◌∷◌, ◌++◌, length, map, take, All, Ok, IfSome}
 use Rattle.std.specs.Prelude.{IsTrue, false, slice_index_or}
+use Rattle.tword.specs.declared.kind.Kind.{Kind}
 use Rattle.tword.specs.Words.{word_below}
 use Rattle.tword.specs.Stores.{Store, word_at}
 use Rattle.tword.specs.declared.span.Span.{Span}
@@ -82,7 +83,7 @@ AreThreaded n = (priority : ℕ) → IsThreaded n.store (queue n.control priorit
 
 -- they are so in a processor without a process
 abbrev pub EmptyIsThreaded : Type 0
-EmptyIsThreaded = (size timeslice : ℕ) → AreThreaded (empty_machine size timeslice)
+EmptyIsThreaded = (size timeslice : ℕ) (kind : Kind) → AreThreaded (empty_machine size timeslice kind)
 
 -- each move leaves them so
 abbrev pub QueuesStayThreaded : Type 0

@@ -4,6 +4,7 @@
 -- list of guards: own choice.
 use Rattle.std.specs.Prelude.{ℕ, zero, suc, ◌≡◌, ◌≢◌, List, [], ◌∷◌, Bool, false, not, ◌&&◌, ◌==◌, is_none, Option}
 use Rattle.std.specs.Prelude.{Some, None, option_map, option_and_then, unwrap_or, find, Result, Ok, if◌then◌else◌}
+use Rattle.tword.specs.declared.kind.Kind.{Kind}
 use Rattle.tword.specs.declared.breaks.Break.{Break}
 use Rattle.tword.specs.Stores.{word_at}
 use Rattle.tword.specs.Actions.{run, value_of}
@@ -28,23 +29,23 @@ use Rattle.tproc.specs.Alternatives.{none_selected}
 use Rattle.tproc.specs.Placement.{IsPlaced}
 use Rattle.tproc.specs.Steps.{step}
 
--- the operation that a function with an operand stands for, if it stands for one
-abbrev pub operation_of : Function → ℕ → Option Operation
-operation_of Opr operand = operation_at operand
-operation_of _ operand = None
+-- the operation that a function with an operand stands for on a node of a kind, if it stands for one
+abbrev pub operation_of : Kind → Function → ℕ → Option Operation
+operation_of kind Opr operand = operation_at kind operand
+operation_of kind _ operand = None
 
 -- the operation of what was decoded, where a process runs that no queued high one interrupts
-abbrev pub operation_by : (current : Option ℕ) (high : List ℕ) → Result Decoded Break → Option Operation
-operation_by (Some zero) high (Ok i) = operation_of i.function i.operand
-operation_by (Some (suc p)) [] (Ok i) = operation_of i.function i.operand
-operation_by _ _ _ = None
+abbrev pub operation_by : (kind : Kind) (current : Option ℕ) (high : List ℕ) → Result Decoded Break → Option Operation
+operation_by kind (Some zero) high (Ok i) = operation_of kind i.function i.operand
+operation_by kind (Some (suc p)) [] (Ok i) = operation_of kind i.function i.operand
+operation_by kind _ _ _ = None
 
 -- the operation that the next step of a processor makes, if it makes one
 abbrev pub next_operation : Machine → Option Operation
 next_operation n =
     if n.control.halted then None
-    else operation_by n.control.current n.control.high
-    (value_of (run (decode n.control.registers.iptr) n.store (claims_of n.control)))
+    else operation_by n.control.kind n.control.current n.control.high
+    (value_of (run (decode n.control.kind n.control.registers.iptr) n.store (claims_of n.control)))
 
 -- a process that waits to output on this channel
 abbrev pub outputs_on : ℕ → ProcessStatus → Bool

@@ -1,6 +1,7 @@
 -- Rows that the definitions compute: single steps, and a byte that comes in.
 use Rattle.std.specs.Prelude.{◌≡◌, ◌+◌, ◌*◌, ◌++◌, replicate, ℕ, zero, suc, List, [], ◌∷◌, Ok, Err, Result, Some, None}
 use Rattle.std.specs.Prelude.{Option, refl}
+use Rattle.tword.specs.declared.kind.Kind.TheVariants.{One}
 use Rattle.tword.specs.declared.breaks.Break.{Break}
 use Rattle.tword.specs.declared.breaks.Break.TheVariants.{Unaligned, InTransit, SavedWord, LinkBusy, ChannelMisuse}
 use Rattle.tword.specs.declared.breaks.Break.TheVariants.{AlreadyLive, TooManyProcesses}
@@ -18,7 +19,7 @@ use Rattle.tproc.specs.Examples.{machine_of, word_after, low_of}
 -- a low process that runs this code with these registers; its timeslice is 3, and it has done 2 instructions
 abbrev running : (w a b c : ℕ) → List ℕ → Machine
 running w a b c code =
-    let n = loaded 0x8000_0080 code (empty_machine 0x110 3) in
+    let n = loaded 0x8000_0080 code (empty_machine 0x110 3 One) in
     record n {
       control =
           record n.control {

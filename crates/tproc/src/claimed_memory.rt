@@ -1,4 +1,4 @@
-//! The memory of a node with the claims on it.
+//! The bytes of a node's memory with the claims on it.
 
 ghost use Rattle.std.specs.Prelude.{ℕ, [], ◌∷◌, ◌≡◌, ◌<◌, ◌≤◌, ◌+◌, ◌↔◌, length, not, true, None, IfOk, OnOk, Some};
 ghost use Rattle.std.specs.Prelude.{is_some, replicate, IsErrOf};
@@ -16,15 +16,15 @@ ghost use Rattle.tproc.specs.Requests.{may_touch};
 use crate::workspace::below;
 use std::alloc::{AllocError, Global};
 use tword::limits::MOST_NEG;
-use tword::{Break, Marks, Memory, MemoryFault, Span, Word};
+use tword::{Break, Bytes, Kind, Marks, MemoryFault, Span, Word};
 
 /// A memory with its claims. Of each change there is one call that checks it, or one for a caller that has checked
 /// it.
 #[derive(Drop)]
 pub struct ClaimedMemory {
-    pub memory: Memory,
+    pub memory: Bytes,
     pub marks: Marks,
-    ghost size: { length memory ≤ 1048576 },
+    ghost size: { length memory ≤ 16777216 },
     ghost inside: { (w : ℕ) → has_saved marks w ≡ true → is_inside (length memory) (saved_words w) ≡ true },
 }
 
@@ -54,17 +54,17 @@ fn keep_clear(workspace: Word, start: Word, size: u32) -> Result<(), Break>
 }
 
 impl ClaimedMemory {
-    /// A memory of this many bytes, all 0, and no claims: no other call takes memory.
+    /// A memory of this many bytes, all 0, and no claims, for a node of a kind: no other call takes memory.
     ///
     /// # Errors
-    /// `BadSize` for a size that no memory has, else `OutOfMemory` where the allocator refuses.
-    pub fn new(alloc: Global, size: u32) -> Result<ClaimedMemory, MemoryFault>
+    /// `BadSize` for a size that no memory of the kind has, else `OutOfMemory` where the allocator refuses.
+    pub fn new(alloc: Global, size: u32, kind: Kind) -> Result<ClaimedMemory, MemoryFault>
         ensures zeros { IfOk result (λ claimed. claimed.memory ≡ replicate size (Some 0)) }
         ensures free { IfOk result (λ claimed. claimed.marks ≡ no_claims) }
-        ensures sized { OnOk result (IsMemorySize size) }
-        ensures bad_size { IsErrOf result MemoryFault.BadSize ↔ ¬ IsMemorySize size }
+        ensures sized { OnOk result (IsMemorySize kind size) }
+        ensures bad_size { IsErrOf result MemoryFault.BadSize ↔ ¬ IsMemorySize kind size }
     {
-        let memory = Memory::new(alloc, size)?;
+        let memory = Bytes::new(alloc, size, kind)?;
         let marks = Marks::new(alloc, size)?;
         Ok(ClaimedMemory { memory, marks })
     }

@@ -2,6 +2,7 @@
 
 ghost use Rattle.tproc.specs.Hidden.{FinishOutputIsBlind, NoticeIsBlind, StepIsBlind};
 ghost use Rattle.tproc.specs.Resting.{HaltingHalts, RestChangesNothing, StepIsThere};
+ghost use Rattle.tproc.specs.Kinds.{KindsStay};
 ghost use Rattle.tproc.specs.Keeping.{ClaimedBytesStand, ClaimsStayApart, StepsKeepPlaced};
 ghost use Rattle.tproc.specs.SavedWords.{EmptyIsThreaded, QueuesStayThreaded, SavedWordsStand};
 ghost use Rattle.tproc.specs.Selection.{FirstReadyIsSelected, SelectedIsTold};
@@ -50,4 +51,9 @@ pub fn saved_words_stand()
 pub fn queues_stay_threaded()
     ensures first { EmptyIsThreaded }
     ensures moves { QueuesStayThreaded }
+{}
+
+/// Each move leaves the kind of the node, and how many bytes its memory has.
+pub fn kinds_stay()
+    ensures { KindsStay }
 {}

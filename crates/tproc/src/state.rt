@@ -17,7 +17,7 @@ use std::alloc::{AllocError, Global};
 use std::marker::Model;
 use tcode::Operation;
 use tcpu::Registers;
-use tword::Word;
+use tword::{Kind, Word};
 
 /// A processor without its memory. A priority is 0 where it is high and 1 where it is low, as in a descriptor's
 /// lowest bit.
@@ -32,6 +32,8 @@ pub struct State {
     pub descheduled: Descheduled,
     pub links: [LinkEnd; 4],
     pub timeslice: u32,
+    /// What kind of node it is.
+    pub kind: Kind,
     pub halted: bool,
 }
 
@@ -50,6 +52,7 @@ impl Model for State {
       waiting = s.descheduled.waiting;
       links = s.links;
       timeslice = s.timeslice;
+      kind = s.kind;
       halted = s.halted;
     } };
 }
@@ -71,13 +74,13 @@ pub fn workspace_of(process: Word) -> Word
 }
 
 impl State {
-    /// No process, nothing pending and both flags clear, with room for all processes that may live in a memory of so
-    /// many bytes.
+    /// No process, nothing pending and both flags clear, on a node of a kind, with room for all processes that may live
+    /// in a memory of so many bytes.
     ///
     /// # Errors
     /// Where the allocator refuses.
-    pub fn new(alloc: Global, size: u32, timeslice: u32) -> Result<State, AllocError>
-        ensures { IfOk result (λ s. s ≡ no_processes timeslice) }
+    pub fn new(alloc: Global, size: u32, timeslice: u32, kind: Kind) -> Result<State, AllocError>
+        ensures { IfOk result (λ s. s ≡ no_processes timeslice kind) }
     {
         let zero = Word::new(0);
         let descheduled = Descheduled::new(alloc, size)?;
@@ -97,6 +100,7 @@ impl State {
             descheduled,
             links: [QUIET; 4],
             timeslice,
+            kind,
             halted: false,
         })
     }
@@ -119,6 +123,7 @@ impl State {
             descheduled,
             links,
             timeslice: self.timeslice,
+            kind: self.kind,
             halted: self.halted,
         })
     }

@@ -6,12 +6,12 @@ ghost use Rattle.tword.specs.Touches.{Reads, Writes, place_break, word_place_bre
 ghost use Rattle.tword.specs.Touches.{copy_break, deschedule_break, is_inside, word_span};
 
 use crate::breaks::Break;
+use crate::bytes::Bytes;
 use crate::limits::{CLOSED, MEM_START, MOST_NEG};
 use crate::marks::Marks;
-use crate::memory::Memory;
 use crate::word::Word;
 
-impl Memory {
+impl Bytes {
     /// Whether the bytes of a span lie in the memory, where programs may use them.
     ///
     /// # Errors

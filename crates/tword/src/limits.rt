@@ -13,8 +13,11 @@ pub(crate) const CLOSED: u32 = MEM_START - MOST_NEG;
 /// The least number of bytes of a memory (own choice).
 pub const SMALLEST_MEMORY: u32 = 2_048;
 
-/// The greatest number of bytes of a memory (own choice).
-pub const LARGEST_MEMORY: u32 = 1_048_576;
+/// The greatest number of bytes of a memory of kind 1 (own choice).
+pub const LARGEST_MEMORY_ONE: u32 = 1_048_576;
+
+/// The greatest number of bytes of a memory of kind 2 (own choice).
+pub const LARGEST_MEMORY_TWO: u32 = 16_777_216;
 
 /// How many processes a node has at most, of an image too (own choice).
 pub const MOST_PROCESSES: usize = 512;

@@ -1,100 +1,82 @@
-//! The bytes of a node.
+//! The memory of a node.
 
-ghost use Rattle.std.specs.Prelude.{◌≡◌, ◌↔◌, ◌≤◌, ◌+◌, ◌∷◌, [], ◌++◌, take, drop, Some, IfOk, OnOk, IsErrOf};
-ghost use Rattle.std.specs.Prelude.{length, replicate, slice_range, unwrap_or, true};
+ghost use Rattle.std.specs.Prelude.{◌≡◌, ◌↔◌, ◌∷◌, [], Some, IfOk, OnOk, IsErrOf, length, replicate, unwrap_or};
 ghost use Rattle.tword.specs.Accesses.{Changing, IsMemorySize};
 ghost use Rattle.tword.specs.Actions.{or_break};
-ghost use Rattle.std.specs.Int.{w32, from_le_bytes, to_le_bytes};
-ghost use Rattle.tword.specs.Stores.{as_cells, word_at, with_word, cells, with_cells, byte_at, place as the_place};
-ghost use Rattle.tword.specs.Touches.{Reads, Writes, span_break, word_break, is_inside, word_span, byte_span};
-ghost use Rattle.tword.specs.Words.{most_neg};
+ghost use Rattle.tword.specs.Stores.{as_cells, word_at, with_word, with_cells, byte_at};
+ghost use Rattle.tword.specs.Touches.{Reads, Writes, span_break, word_break, byte_span};
 
 use crate::breaks::{Break, MemoryFault};
-use crate::limits::{CLOSED, LARGEST_MEMORY, MOST_NEG, SMALLEST_MEMORY};
+use crate::bytes::Bytes;
+use crate::kind::Kind;
 use crate::marks::Marks;
-use crate::span::Span;
 use crate::word::Word;
-use byteorder::{ByteOrder, LittleEndian};
 use std::alloc::{AllocError, Global};
 use std::marker::Model;
 
-/// The memory of a node: its bytes from address #80000000 on. Contracts see it as a store whose cells are all there.
+/// The memory of a node: its bytes, and what kind of node it belongs to. Contracts see both.
 #[derive(Drop)]
 pub struct Memory {
-    bytes: Vec<u8>,
-    /// How many of them programs may use: all but those below `MEM_START`.
-    open: u32,
+    pub bytes: Bytes,
+    pub kind: Kind,
 }
 
 impl Model for Memory {
-    ghost use Rattle.std.specs.Prelude.{◌≡◌, ◌+◌, length};
-    ghost use Rattle.tword.specs.Stores.{Store, as_cells};
+    ghost use Rattle.std.specs.Prelude.{length};
     ghost use Rattle.tword.specs.Accesses.{IsMemorySize};
+    ghost use Rattle.tword.specs.Memories.{NodeMemory};
 
-    ghost Value = { Store };
+    ghost Value = { NodeMemory };
 
-    ghost view = { λ m. as_cells m.bytes.items };
+    ghost view = { λ m. record { bytes = m.bytes; kind = m.kind } };
 
-    ghost invariant = { λ m. IsMemorySize (length m.bytes.items) × (m.open + 72 ≡ length m.bytes.items) };
+    ghost invariant = { λ m. IsMemorySize m.kind (length m.bytes) };
 }
 
 impl Memory {
-    /// A memory of zeros. Its size is a multiple of 4 between 2,048 and 1,048,576 bytes (own choice).
+    /// A memory of zeros, of a node of this kind. Its size is a multiple of 4 between 2,048 and 1,048,576 bytes, for
+    /// kind 2 up to 16,777,216 (own choice).
     ///
     /// # Errors
     /// `BadSize` for any other size, and else `OutOfMemory` where the allocator refuses.
-    pub fn new(alloc: Global, size: u32) -> Result<Memory, MemoryFault>
-        ensures zeros { IfOk result (λ m. m ≡ replicate size (Some 0)) }
-        ensures sized { OnOk result (IsMemorySize size) }
-        ensures bad_size { IsErrOf result MemoryFault.BadSize ↔ ¬ IsMemorySize size }
+    pub fn new(alloc: Global, size: u32, kind: Kind) -> Result<Memory, MemoryFault>
+        ensures zeros { IfOk result (λ m. m ≡ record { bytes = replicate size (Some 0); kind = kind }) }
+        ensures sized { OnOk result (IsMemorySize kind size) }
+        ensures bad_size { IsErrOf result MemoryFault.BadSize ↔ ¬ IsMemorySize kind size }
     {
-        if size < SMALLEST_MEMORY || LARGEST_MEMORY < size || size % 4 != 0 {
-            return Err(MemoryFault::BadSize);
-        }
-        Ok(Memory {
-            bytes: vec![in alloc; 0; size as usize]?,
-            open: size - CLOSED,
-        })
+        let bytes = Bytes::new(alloc, size, kind)?;
+        Ok(Memory { bytes, kind })
     }
 
-    /// A memory of the same bytes.
+    /// A memory of the same kind with the same bytes.
     ///
     /// # Errors
     /// Where the allocator refuses.
     pub fn try_copy(&self, alloc: Global) -> Result<Memory, AllocError>
         ensures { IfOk result (λ m. m ≡ self.now) }
     {
+        let bytes = self.bytes.try_copy(alloc)?;
         Ok(Memory {
-            bytes: Vec::from_slice(alloc, self.bytes.as_slice())?,
-            open: self.open,
+            bytes,
+            kind: self.kind,
         })
+    }
+
+    /// The kind of its node.
+    #[inline(always)]
+    pub fn kind(&self) -> Kind
+        ensures { result ≡ self.now.kind }
+    {
+        self.kind
     }
 
     /// How many bytes it has.
     #[inline(always)]
     pub fn size(&self) -> u32
-        ensures is { result ≡ length self.now }
-        ensures sized { IsMemorySize result }
+        ensures is { result ≡ length self.now.bytes }
+        ensures sized { IsMemorySize self.now.kind result }
     {
-        self.bytes.len() as u32
-    }
-
-    /// How many of its bytes programs may use: those from `MEM_START` on.
-    #[inline(always)]
-    pub(crate) fn open_size(&self) -> u32
-        ensures is { result + 72 ≡ length self.now }
-        ensures sized { IsMemorySize (length self.now) }
-    {
-        self.open
-    }
-
-    /// Its bytes, the one of the least address first.
-    #[inline(always)]
-    pub fn bytes(&self) -> &[u8]
-        ensures bytes { as_cells result.now ≡ self.now }
-        ensures sized { IsMemorySize (length result.now) }
-    {
-        self.bytes.as_slice()
+        self.bytes.size()
     }
 
     /// The word at an address. A word has its lowest byte first (the Compiler Writer's Guide).
@@ -104,25 +86,10 @@ impl Memory {
     /// (own choice of the checks).
     #[inline(always)]
     pub fn read_word(&self, marks: &Marks, address: Word) -> Result<Word, Break>
-        ensures { result ≡ or_break (word_break (length self.now) marks.now Reads address)
-            (word_at self.now address) }
+        ensures { result ≡ or_break (word_break (length self.now.bytes) marks.now Reads address)
+            (word_at self.now.bytes address) }
     {
-        self.may_read_word(marks, address)?;
-        Ok(self.word(address))
-    }
-
-    /// The word at an address, for a row that may go on to write it: checked as a write.
-    ///
-    /// # Errors
-    /// As `write_word`.
-    #[inline(always)]
-    pub fn take_word(&self, marks: &Marks, address: Word) -> Result<Word, Break>
-        ensures { result ≡ or_break (word_break (length self.now) marks.now Writes address)
-            (word_at self.now address) }
-    {
-        self.may_write_word(marks, address)?;
-        let word = self.word(address);
-        Ok(word)
+        self.bytes.read_word(marks, address)
     }
 
     /// Sets the word at an address.
@@ -132,13 +99,10 @@ impl Memory {
     /// word; nothing is changed then.
     #[inline(always)]
     pub fn write_word(&mut self, marks: &Marks, address: Word, value: Word) -> Result<(), Break>
-        ensures changes { Changing (word_break (length self.old) marks.now Writes address) self.old
-            (with_word self.old address value) result self.new }
-        ensures sized { length self.new ≡ length self.old }
+        ensures { Changing (word_break (length self.old.bytes) marks.now Writes address) self.old
+            (record self.old { bytes = with_word self.old.bytes address value }) result self.new }
     {
-        self.may_write_word(marks, address)?;
-        self.set_word(address, value);
-        Ok(())
+        self.bytes.write_word(marks, address, value)
     }
 
     /// The byte at an address.
@@ -147,11 +111,10 @@ impl Memory {
     /// The first of `BadAddress`, `Reserved`, `InTransit`, `SavedWord` that holds of a read of the byte.
     #[inline(always)]
     pub fn read_byte(&self, marks: &Marks, address: Word) -> Result<u8, Break>
-        ensures { result ≡ or_break (span_break (length self.now) marks.now Reads (byte_span address))
-            (unwrap_or (byte_at self.now address) 0) }
+        ensures { result ≡ or_break (span_break (length self.now.bytes) marks.now Reads (byte_span address))
+            (unwrap_or (byte_at self.now.bytes address) 0) }
     {
-        self.may_read(marks, address, 1)?;
-        Ok(self.byte(address))
+        self.bytes.read_byte(marks, address)
     }
 
     /// Sets the byte at an address.
@@ -161,115 +124,9 @@ impl Memory {
     /// changed then.
     #[inline(always)]
     pub fn write_byte(&mut self, marks: &Marks, address: Word, value: u8) -> Result<(), Break>
-        ensures changes { Changing (span_break (length self.old) marks.now Writes (byte_span address)) self.old
-            (with_cells self.old address (as_cells (value ∷ []))) result self.new }
-        ensures sized { length self.new ≡ length self.old }
+        ensures { Changing (span_break (length self.old.bytes) marks.now Writes (byte_span address)) self.old
+            (record self.old { bytes = with_cells self.old.bytes address (as_cells (value ∷ [])) }) result self.new }
     {
-        self.may_write(marks, address, 1)?;
-        self.set_byte(address, value);
-        Ok(())
+        self.bytes.write_byte(marks, address, value)
     }
-
-    /// The word at an address, for a caller that has checked it.
-    #[inline(always)]
-    pub fn word(&self, address: Word) -> Word
-        requires { is_inside (length self.now) (word_span address) ≡ true }
-        ensures { result ≡ word_at self.now address }
-    {
-        Word::new(word_in(self.bytes.as_slice(), place(address)))
-    }
-
-    /// Sets the word at an address, for a caller that has checked it.
-    #[inline(always)]
-    pub fn set_word(&mut self, address: Word, value: Word)
-        requires { is_inside (length self.old) (word_span address) ≡ true }
-        ensures set { self.new ≡ with_word self.old address value }
-        ensures sized { length self.new ≡ length self.old }
-    {
-        put_word(self.bytes.as_mut_slice(), place(address), value.get());
-    }
-
-    /// The byte at an address, for a caller that has checked it.
-    #[inline(always)]
-    pub fn byte(&self, address: Word) -> u8
-        requires { is_inside (length self.now) (byte_span address) ≡ true }
-        ensures { byte_at self.now address ≡ Some result }
-    {
-        self.bytes[place(address)]
-    }
-
-    /// Sets the byte at an address, for a caller that has checked it.
-    #[inline(always)]
-    pub fn set_byte(&mut self, address: Word, value: u8)
-        requires { is_inside (length self.old) (byte_span address) ≡ true }
-        ensures set { self.new ≡ with_cells self.old address (as_cells (value ∷ [])) }
-        ensures sized { length self.new ≡ length self.old }
-    {
-        self.bytes[place(address)] = value;
-    }
-
-    /// Copies bytes as if all were read before the first is written, for a caller that has checked both spans.
-    pub fn copy(&mut self, from: Word, to: Word, size: u32)
-        requires source { is_inside (length self.old) (record { start = from; size = size }) ≡ true }
-        requires target { is_inside (length self.old) (record { start = to; size = size }) ≡ true }
-        ensures copied { self.new ≡ with_cells self.old to (cells self.old from size) }
-        ensures sized { length self.new ≡ length self.old }
-    {
-        if size == 0 {
-            return;
-        }
-        let count = size as usize;
-        let source = place(from);
-        self.bytes
-            .as_mut_slice()
-            .copy_within(source..source + count, place(to));
-    }
-
-    /// Puts bytes at an address, for a caller that has checked the span.
-    pub fn load(&mut self, start: Word, bytes: &[u8])
-        requires { is_inside (length self.old) (record { start = start; size = length bytes.now }) ≡ true }
-        ensures loaded { self.new ≡ with_cells self.old start (as_cells bytes.now) }
-        ensures sized { length self.new ≡ length self.old }
-    {
-        if bytes.is_empty() {
-            return;
-        }
-        let first = place(start);
-        put_bytes(self.bytes.as_mut_slice(), first, bytes);
-    }
-}
-
-/// How far an address lies above the least one, where it does not lie below.
-#[inline(always)]
-fn place(address: Word) -> usize
-    requires { most_neg ≤ address }
-    ensures { result ≡ the_place address }
-{
-    address.get().wrapping_sub(MOST_NEG) as usize
-}
-
-/// Writes bytes among bytes.
-fn put_bytes(all: &mut [u8], at: usize, bytes: &[u8])
-    requires { at + length bytes.now ≤ length all.old }
-    ensures { all.new ≡ take at all.old ++ bytes.now ++ drop (at + length bytes.now) all.old }
-{
-    all[at..at + bytes.len()].copy_from_slice(bytes);
-}
-
-/// The word that lies in bytes, the lowest byte first.
-#[inline(always)]
-fn word_in(bytes: &[u8], at: usize) -> u32
-    requires { at + 4 ≤ length bytes.now }
-    ensures { result ≡ from_le_bytes w32 (slice_range bytes.now at (at + 4)) }
-{
-    LittleEndian::read_u32(&bytes[at..at + 4])
-}
-
-/// Writes a word into bytes, the lowest byte first.
-#[inline(always)]
-fn put_word(bytes: &mut [u8], at: usize, value: u32)
-    requires { at + 4 ≤ length bytes.old }
-    ensures { bytes.new ≡ take at bytes.old ++ to_le_bytes w32 value ++ drop (at + 4) bytes.old }
-{
-    LittleEndian::write_u32(&mut bytes[at..at + 4], value);
 }

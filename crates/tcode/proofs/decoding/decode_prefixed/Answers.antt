@@ -9,11 +9,11 @@ use Rattle.tcode.proofs.decoding.decode_prefixed.Goals as goal
 pub returns-in_err-byte : goal.returns-in_err-byte
 returns-in_err-byte c =
     let step =
-    prefix-goes c.args.memory.now c.args.marks.now c.args.iptr c.args.prefix c.from.result c.prefixed-value.result
+    prefix-goes c.args.kind c.args.memory.now c.args.marks.now c.args.iptr c.args.prefix c.from.result c.prefixed-value.result
     c.requires.fetched c.requires.prefix c.from.ensures c.prefixed-value.type_inv c.prefixed-value.ensures
-    ∙ ap (λ (a : ℕ). run_from (fetch 15 1 a (pos c.prefixed-value.result)) c.args.memory.now c.args.marks.now
+    ∙ ap (λ (a : ℕ). run_from (fetch c.args.kind 15 1 a (pos c.prefixed-value.result)) c.args.memory.now c.args.marks.now
     c.args.memory.now) (sym (c.plus.ensures ∙ ap (plus c.args.iptr) c.new.ensures))
-    ∙ fetched-breaks c.args.memory.now c.args.marks.now c.args.memory.now 1 c.plus.result c.prefixed-value.result
+    ∙ fetched-breaks c.args.kind c.args.memory.now c.args.marks.now c.args.memory.now 1 c.plus.result c.prefixed-value.result
     (omega arith) c.in_err-byte.field-0.0 (sym c.read_byte.ensures ∙ c.in_err-byte.was) in
     rw step (search rules)
 
@@ -23,15 +23,15 @@ returns-in-Some c =
     let sum : d ≡ (c.prefixed-value.result + c.in_ok-byte.byte % 16) % 2 ^ 32 =
     ap (λ (n : ℕ). (c.prefixed-value.result + n) % 2 ^ 32) c.from-data.ensures in
     let step =
-    prefix-goes c.args.memory.now c.args.marks.now c.args.iptr c.args.prefix c.from.result c.prefixed-value.result
+    prefix-goes c.args.kind c.args.memory.now c.args.marks.now c.args.iptr c.args.prefix c.from.result c.prefixed-value.result
     c.requires.fetched c.requires.prefix c.from.ensures c.prefixed-value.type_inv c.prefixed-value.ensures
-    ∙ ap (λ (a : ℕ). run_from (fetch 15 1 a (pos c.prefixed-value.result)) c.args.memory.now c.args.marks.now
+    ∙ ap (λ (a : ℕ). run_from (fetch c.args.kind 15 1 a (pos c.prefixed-value.result)) c.args.memory.now c.args.marks.now
     c.args.memory.now) (sym (c.plus.ensures ∙ ap (plus c.args.iptr) c.new.ensures))
-    ∙ fetched-ends c.args.memory.now c.args.marks.now c.args.memory.now 1 c.plus.result
+    ∙ fetched-ends c.args.kind c.args.memory.now c.args.marks.now c.args.memory.now 1 c.plus.result
     c.prefixed-value.result (omega arith) c.in_ok-byte.byte d (omega arith) (sym c.read_byte.ensures ∙ c.in_ok-byte.was)
     sum
     c.in-Some.function (sym c.function_of.ensures ∙ c.in-Some.is) in
     c.ok_or.ensures.value
-    ∙ ended_at c.args.memory.now c.args.marks.now c.args.memory.now (λ _. breaks LongPrefix) c.in-Some.function d
+    ∙ ended_at c.args.kind c.args.memory.now c.args.marks.now c.args.memory.now (λ _. breaks LongPrefix) c.in-Some.function d
     2 c.ended.result c.ended.ensures
     ∙ sym (ap value_of step)
