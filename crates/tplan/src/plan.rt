@@ -4,7 +4,7 @@ ghost use Rattle.std.specs.Prelude.{◌≡◌};
 ghost use Rattle.tplan.specs.declared.plan.BuildFault.TheVariants.{OutOfMemory};
 
 use std::alloc::{AllocError, AllocFailed};
-use tword::{Break, Items, Word};
+use tword::{Break, Items, Kind, Word};
 
 /// The end of a wire: a node and one of its links.
 #[derive(Clone, Copy, Debug, PartialEq, Eq)]
@@ -41,10 +41,11 @@ pub struct Image {
     pub processes: Items<Process>,
 }
 
-/// One node of a plan.
+/// One node of a plan: the number of bytes of its memory, its kind, and what is loaded.
 #[derive(Drop)]
 pub struct NodePlan {
     pub memory: u32,
+    pub kind: Kind,
     pub image: Image,
 }
 
@@ -85,7 +86,7 @@ pub enum BuildFault {
     /// Over 64 nodes, sources and sinks together, over 128 wires, an image with over 4,096 segments or 512 processes, a
     /// source with over 256 messages, or a message that has not 1 to 4,096 bytes.
     TooMany,
-    /// The memory of this node has not 2,048 to 1,048,576 bytes, or no multiple of 4.
+    /// The memory of this node has not 2,048 to 1,048,576 bytes, of kind 2 to 16,777,216, or no multiple of 4.
     BadSize(usize),
     /// The timeslice is not 1 to 65,536 instructions.
     BadTimeslice,

@@ -4,7 +4,7 @@ use crate::event::Hold;
 use crate::plan::{SinkPlan, SourcePlan, Wire};
 use std::alloc::{AllocError, AllocFailed};
 use thiserror::Error;
-use tword::Items;
+use tword::{Items, Kind};
 
 /// Why a text is no wiring. Where several hold, the first in this order is told.
 #[derive(Clone, Copy, Debug, PartialEq, Eq, PartialOrd, Ord, Error)]
@@ -33,12 +33,16 @@ pub enum WiringFault {
     /// A message is not 1 to 4,096 bytes in pairs of hexadecimal digits.
     #[error("a message is not 1 to 4096 bytes in hexadecimal")]
     BadMessage,
+    /// The kind of a node is neither 1 nor 2.
+    #[error("the kind of a node is neither 1 nor 2")]
+    BadKind,
 }
 
-/// A node of a wiring: the size of its memory and the name of its image.
+/// A node of a wiring: the number of bytes of its memory, its kind and the name of its image.
 #[derive(Drop)]
 pub struct WiringNode {
     pub memory: u32,
+    pub kind: Kind,
     pub image: Items<u8>,
 }
 
