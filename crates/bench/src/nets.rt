@@ -106,31 +106,28 @@ fn plan(alloc: Global, ring: Ring) -> Result<Plan, AllocError> {
     wired(alloc, nodes)
 }
 
-/// One event, if it is enabled: whether it was done.
-#[inline]
-pub fn tried(net: &mut Net, node: u8, act: Act) -> bool {
-    !matches!(&net.step(Event { node, act }), Err(StepFault::NotEnabled))
+/// One event, if it is enabled: how many were done.
+#[inline(always)]
+pub fn tried(net: &mut Net, node: u8, act: Act) -> u32 {
+    match net.step(Event { node, act }) {
+        Err(StepFault::NotEnabled) => 0,
+        _ => 1,
+    }
 }
 
 /// One node does what comes and what it can: how many events that was.
-#[inline]
+#[inline(always)]
 pub fn turn(net: &mut Net, node: u8) -> u32 {
-    let mut done = 0u32;
-    for act in [Act::Ack(1), Act::Data(2), Act::Take(2)] {
-        if tried(net, node, act) {
-            done = done.wrapping_add(1);
-        }
-    }
+    let mut done = tried(net, node, Act::Ack(1));
+    done = done.wrapping_add(tried(net, node, Act::Data(2)));
+    done = done.wrapping_add(tried(net, node, Act::Take(2)));
     for _ in 0..SLICE {
-        if !tried(net, node, Act::Run) {
+        if tried(net, node, Act::Run) == 0 {
             break;
         }
         done = done.wrapping_add(1);
     }
-    if tried(net, node, Act::Send(1)) {
-        done = done.wrapping_add(1);
-    }
-    done
+    done.wrapping_add(tried(net, node, Act::Send(1)))
 }
 
 /// So many turns, one node after the other: how many events were done.

@@ -79,21 +79,13 @@ fn plan(alloc: Global) -> Result<Plan, AllocError> {
 /// The source, the nodes and the sink do what they can: how many events that was.
 #[inline]
 fn pass(net: &mut Net) -> u32 {
-    let mut done = 0u32;
-    for act in [Act::Ack(0), Act::Send(0)] {
-        if tried(net, NODES, act) {
-            done = done.wrapping_add(1);
-        }
-    }
+    let mut done = tried(net, NODES, Act::Ack(0));
+    done = done.wrapping_add(tried(net, NODES, Act::Send(0)));
     for node in 0..NODES {
         done = done.wrapping_add(turn(net, node));
     }
-    for act in [Act::Data(0), Act::Take(0)] {
-        if tried(net, NODES + 1, act) {
-            done = done.wrapping_add(1);
-        }
-    }
-    done
+    done = done.wrapping_add(tried(net, NODES + 1, Act::Data(0)));
+    done.wrapping_add(tried(net, NODES + 1, Act::Take(0)))
 }
 
 /// They do so until nothing is left: how many events were done.

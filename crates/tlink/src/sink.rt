@@ -1,6 +1,7 @@
 //! A sink: a script that keeps the messages that come at link 0.
 
-ghost use Rattle.std.specs.Prelude.{◌≡◌, ◌≤◌, IfOk};
+ghost use Rattle.std.specs.Prelude.{◌≡◌, ◌≤◌, IfOk, None, Some, Ok, Err, if◌then◌else◌, option_map};
+ghost use Rattle.std.specs.Option.{ok_or};
 ghost use Rattle.tlink.specs.Roles as roles;
 ghost use Rattle.tword.specs.Stores.{as_cells};
 ghost use Rattle.tlink.specs.Node.{counts_at, due_at, fresh_sink};
@@ -10,11 +11,12 @@ ghost use Rattle.tlink.specs.Answers.{DoesNode};
 ghost use Rattle.tlink.specs.Whole.{IsCounted};
 ghost use Rattle.tlink.specs.declared.event.NodeEvent.TheVariants.{Run, Data, Take};
 ghost use Rattle.tlink.specs.declared.event.Packet.TheVariants.{Ack};
+ghost use Rattle.tlink.specs.declared.event.Mark.TheVariants.{Nothing};
 ghost use Rattle.tlink.specs.declared.event.StepFault.TheVariants.{NotEnabled};
 
 use crate::counts::{Arrival, Counts};
 use crate::event::{Emitted, Mark, NodeEvent, Packet, StepFault};
-use crate::links::{NO_COUNTS, silently};
+use crate::links::{NO_COUNTS, heard};
 use crate::messages::Messages;
 use std::alloc::{AllocError, Global};
 use std::marker::Model;
@@ -49,13 +51,17 @@ impl Model for Sink {
     ghost invariant = { λ s. IsSinkWithin s.bytes.items s.lengths.items s.messages s.kept };
 }
 
-/// What a sink emits for a byte that it takes.
-fn acknowledged(mark: Mark) -> Emitted
-    ensures { result ≡ record { packet = Some (0, Ack); mark = mark } }
+/// The answer of a sink that was to take a byte.
+#[inline(always)]
+fn taken(mark: Option<Mark>) -> Result<Emitted, StepFault>
+    ensures { result ≡ ok_or (option_map (λ m. record { packet = Some (0, Ack); mark = m }) mark) NotEnabled }
 {
-    Emitted {
-        packet: Some((0, Packet::Ack)),
-        mark,
+    match mark {
+        Some(mark) => Ok(Emitted {
+            packet: Some((0, Packet::Ack)),
+            mark,
+        }),
+        None => Err(StepFault::NotEnabled),
     }
 }
 
@@ -160,8 +166,9 @@ impl Sink {
         let _counts = &self.counts;
     }
 
-    /// One event. It receives bytes, keeps them and acknowledges them, and does nothing else.
-    #[inline(never)]
+    /// One event. It receives bytes, keeps them and acknowledges them, and does nothing else. What it does stands out
+    /// of line, with small answers, as that of a source.
+    #[inline(always)]
     pub(crate) fn step(&mut self, event: NodeEvent) -> Result<Emitted, StepFault>
         ensures { DoesNode (happens event self.old) self.old result self.new }
     {
@@ -169,14 +176,14 @@ impl Sink {
         match event {
             NodeEvent::Data(link, byte, last) => {
                 if link == 0 {
-                    self.data(byte, last)
+                    heard(self.data(byte, last))
                 } else {
                     Err(StepFault::NotEnabled)
                 }
             }
             NodeEvent::Take(link) => {
                 if link == 0 {
-                    self.take()
+                    taken(self.take())
                 } else {
                     Err(StepFault::NotEnabled)
                 }
@@ -188,7 +195,7 @@ impl Sink {
     }
 
     /// Whether an event would be done.
-    #[inline(never)]
+    #[inline(always)]
     pub(crate) fn enabled(&self, event: NodeEvent) -> bool
         ensures { result ≡ is_node_enabled event self.now }
     {
@@ -211,41 +218,46 @@ impl Sink {
         }
     }
 
-    /// A byte comes.
-    fn data(&mut self, byte: u8, last: bool) -> Result<Emitted, StepFault>
-        ensures { DoesNode (happens (Data 0 byte last) self.old) self.old result self.new }
+    /// A byte comes: whether there was room for it.
+    #[inline(never)]
+    fn data(&mut self, byte: u8, last: bool) -> bool
+        ensures { DoesNode (happens (Data 0 byte last) self.old) self.old
+            (if result then Ok (record { packet = None; mark = Nothing }) else Err NotEnabled) self.new }
     {
         let is_full = self.counts.arrived.is_some();
         if is_full {
-            return Err(StepFault::NotEnabled);
+            return false;
         }
         self.counts.arrived = Some(Arrival { byte, last });
-        Ok(silently(Mark::Nothing))
+        true
     }
 
-    /// The byte that waits is kept, where there is room for it; the last one completes its message.
-    fn take(&mut self) -> Result<Emitted, StepFault>
-        ensures { DoesNode (happens (Take 0) self.old) self.old result self.new }
+    /// The byte that waits is kept, where there is room for it; the last one completes its message. The
+    /// mark of its acknowledge.
+    #[inline(never)]
+    fn take(&mut self) -> Option<Mark>
+        ensures { DoesNode (happens (Take 0) self.old) self.old
+            (ok_or (option_map (λ m. record { packet = Some (0, Ack); mark = m }) result) NotEnabled) self.new }
     {
         let Some(arrival) = self.counts.arrived else {
-            return Err(StepFault::NotEnabled);
+            return None;
         };
         let got = self.counts.got;
         let place = self.kept + got as usize;
         if place >= self.bytes.len() {
-            return Err(StepFault::NotEnabled);
+            return None;
         }
         self.bytes[place] = arrival.byte;
-        let taken = got + 1;
+        let length = got + 1;
         self.counts.arrived = None;
         if !arrival.last {
-            self.counts.got = taken;
-            return Ok(acknowledged(Mark::Nothing));
+            self.counts.got = length;
+            return Some(Mark::Nothing);
         }
-        self.lengths[self.messages] = taken;
+        self.lengths[self.messages] = length;
         self.messages += 1;
         self.kept = place + 1;
         self.counts.got = 0;
-        Ok(acknowledged(Mark::Completed(0)))
+        Some(Mark::Completed(0))
     }
 }

@@ -1,8 +1,8 @@
 -- An event of one node among others, and of a net.
-use Rattle.std.proofs.Common.{◌≡◌, ℕ, ◌<◌, refl, sym, ap, ◌∙◌, List, length, set, slice_index_or, Option, Some, None}
+use Rattle.std.proofs.Common.{◌≡◌, ℕ, ◌<◌, ◌≤◌, refl, sym, ap, ◌∙◌, List, length, set, slice_index_or, Option, Some, None}
 use Rattle.std.proofs.Common.{Result, Ok, Err}
 use Rattle.std.proofs.lemmas.List.{set-get_or}
-use Rattle.std.proofs.lemmas.Option.{slice_get_read, get_or_from_slice_get}
+use Rattle.std.proofs.lemmas.Option.{slice_get_read, slice_get_past, get_or_from_slice_get}
 use Rattle.tlink.specs.declared.event.NodeEvent.{NodeEvent}
 use Rattle.tlink.specs.declared.event.Emitted.{Emitted}
 use Rattle.tlink.specs.declared.event.StepFault.{StepFault}
@@ -89,6 +89,16 @@ event_refused e asked net net' f r is does err = by (node_at net e.node) refl do
         cc in
         rw (is, there) (record { told = ap Err q; left = d.1 })
     by (Some node) there d = rw (is, there, d.1) (refused_by e net node f (happens asked node) there (sym d.0 ∙ err))
+
+-- an event of a node that is not there
+pub nobody : (e : Event) (net : NetState) → length net.nodes ≤ e.node
+    → DoesNet e (net_happens e net) net (Err NotEnabled) net
+unfolding net_happens
+nobody e net past = rw (slice_get_past net.nodes e.node past) (by (node_event net e.node e.act))
+  where
+    by : (o : Option NodeEvent) → DoesNet e (answer_of e.node e.act net o None) net (Err NotEnabled) net
+    by None = record { told = refl; left = refl }
+    by (Some asked) = record { told = refl; left = refl }
 
 -- an event is enabled where its node does what it is asked for
 pub asked_at : (e : Event) (asked : NodeEvent) (net : NetState) (node : NodeState)

@@ -88,7 +88,7 @@ impl Net {
     /// # Errors
     /// `NotEnabled` where the machine does not enable the event: nothing has changed. `Frozen` where the event breaks a
     /// rule: its node is frozen with that break, and nothing else has changed.
-    #[inline]
+    #[inline(always)]
     pub fn step(&mut self, event: Event) -> Result<Emitted, StepFault>
         ensures told { result ≡ answered (net_happens event self.old) }
         ensures left { self.new ≡ net_left_by event self.old (net_happens event self.old) }

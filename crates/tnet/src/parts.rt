@@ -144,6 +144,7 @@ impl Parts {
     }
 
     /// The event that a node is asked for, if its packet lies there.
+    #[inline(always)]
     fn node_event(&self, event: Event) -> Option<NodeEvent>
         ensures { result ≡ node_event self.now event.node event.act }
     {
@@ -154,6 +155,7 @@ impl Parts {
     }
 
     /// The packet that an event takes is gone.
+    #[inline(always)]
     fn receive(&mut self, event: Event)
         ensures { self.new ≡ received event.node event.act self.old }
     {
@@ -200,6 +202,7 @@ impl Parts {
     }
 
     /// What was emitted lies at the far end.
+    #[inline(always)]
     fn send_off(&mut self, node: u8, packet: Option<(u8, Packet)>)
         ensures { self.new ≡ sent_off node packet self.old }
     {
@@ -266,6 +269,7 @@ impl Parts {
     }
 
     /// One event of the node with this number.
+    #[inline(always)]
     fn step_node(&mut self, node: u8, event: NodeEvent) -> Result<Emitted, StepFault>
         ensures { DoesAt node event (node_at self.old node) self.old result self.new }
     {
@@ -276,9 +280,34 @@ impl Parts {
         self.nodes[place].step(event)
     }
 
-    /// One event.
-    #[tactic(auto, using(crate::proofs::Stepping::event_done), unfolding(crate::specs::Packets::net_happens))]
+    /// One event. That of a script stands out of line, so that those of processors stay small.
+    #[inline(always)]
     pub fn step(&mut self, event: Event) -> Result<Emitted, StepFault>
+        ensures { DoesNet event (net_happens event self.old) self.old result self.new }
+    {
+        let place = usize::from(event.node);
+        if place >= self.nodes.len() {
+            return Err(StepFault::NotEnabled);
+        }
+        if self.nodes[place].processor().is_some() {
+            self.step_any(event)
+        } else {
+            self.step_script(event)
+        }
+    }
+
+    /// The same of a script.
+    #[inline(never)]
+    fn step_script(&mut self, event: Event) -> Result<Emitted, StepFault>
+        ensures { DoesNet event (net_happens event self.old) self.old result self.new }
+    {
+        self.step_any(event)
+    }
+
+    /// The same of any node.
+    #[inline(always)]
+    #[tactic(auto, using(crate::proofs::Stepping::event_done), unfolding(crate::specs::Packets::net_happens))]
+    fn step_any(&mut self, event: Event) -> Result<Emitted, StepFault>
         ensures { DoesNet event (net_happens event self.old) self.old result self.new }
     {
         let Some(asked) = self.node_event(event) else {

@@ -51,29 +51,6 @@ few_sendings (Data l) boxes e n far row node d is did = some_sendings row d.pack
 few_sendings (Take l) boxes e n far row node d is did = some_sendings row d.packet
 few_sendings (Ack l) boxes e n far row node d is did = some_sendings row d.packet
 
--- after a run that told something there is none
-pub run_rests : (p : Part) (a : Act) (boxes : List Inbox) (e : NodeEvent) (n : ℕ) (far : ℕ → Option End)
-    (node : NodeState) (d : Done)
-    → a ≡ Run → asked a boxes ≡ Some e → done_of n far e node ≡ Some d → is_none d.note ≡ false
-    → p.station.node ≡ node_left_by node (happens e node) → part_does Run p ≡ p
-run_rests p a boxes e n far node d run is did told left = by (run_ends n far node)
-  where
-    e_is : at_node.Run ≡ e
-    e_is = same_Some _ _ (rw run at is)
-
-    by : IfSome (done_of n far at_node.Run node) (λ (d : Done). d.note ≡ None)
-        ⊎ (happens at_node.Run (node_left_by node (happens at_node.Run node)) ≡ Err NotEnabled) → part_does Run p ≡ p
-    by (inl q) =
-        let h : d.note ≡ None =
-        rw did at (subst (λ (x : NodeEvent). IfSome (done_of n far x node) (λ (d : Done). d.note ≡ None)) e_is q) in
-        let z : true ≡ false = rw h at told in
-        cc
-    by (inr q) =
-        let h : happens at_node.Run p.station.node ≡ Err NotEnabled =
-        ap (happens at_node.Run) (left ∙ ap (λ (x : NodeEvent). node_left_by node (happens x node)) (sym e_is))
-        ∙ q in
-        rw h refl
-
 -- an act at this link that keeps its input takes no byte for one
 no_input : (a : Act) (boxes : List Inbox) (e : NodeEvent) (node : NodeState) (l : ℕ) → asked a boxes ≡ Some e
     → KeepsInput a l → l ≡ link_of a → input_of e node ≡ None

@@ -1,4 +1,4 @@
-use Rattle.std.proofs.Common.{sym, ap, ◌∙◌, refl, take, Ok}
+use Rattle.std.proofs.Common.{sym, ◌∙◌, refl, take}
 use Rattle.tlink.specs.declared.event.NodeEvent.TheVariants.{Data}
 use Rattle.tlink.proofs.Sources as source
 use Rattle.tlink.proofs.Sinks as sink
@@ -16,5 +16,4 @@ returns c =
     source.does (Data 0 _ _) (sink.this c.self.inside.bytes.items (take c.self.inside.messages
     c.self.inside.lengths.items) c.self.inside.kept c.self.inside.counts) c.args.self.now _ _ _ c.self.view_is
     (sink.data_comes c.self.inside.bytes.items (take c.self.inside.messages c.self.inside.lengths.items)
-    c.self.inside.kept c.self.inside.counts _ _ (sym c.is_some-is_full.ensures ∙ c.if-is_full.false)) (ap (λ e. Ok e)
-    c.silently.ensures) refl
+    c.self.inside.kept c.self.inside.counts _ _ (sym c.is_some-is_full.ensures ∙ c.if-is_full.false)) refl refl

@@ -1,4 +1,4 @@
-use Rattle.std.proofs.Common.{◌+◌, ◌<◌, ap, refl, arith, rules, take, length, Ok}
+use Rattle.std.proofs.Common.{◌+◌, ◌<◌, refl, arith, rules, take, length}
 use Rattle.tlink.specs.declared.event.NodeEvent.TheVariants.{Take}
 use Rattle.tlink.proofs.Sources as source
 use Rattle.tlink.proofs.Sinks as sink
@@ -24,7 +24,7 @@ returns-then-not-arrival c =
     c.self.inside.lengths.items) c.self.inside.kept c.self.inside.counts) c.args.self.now _ _ _ c.self.view_is
     (sink.take_byte c.self.inside.bytes.items (take c.self.inside.messages c.self.inside.lengths.items)
     c.self.inside.kept c.self.inside.counts c.in-Some.arrival c.in-Some.is (search rules) (sink.not_true _
-    c.if-not-arrival.true)) (ap (λ e. Ok e) c.acknowledged.ensures) refl
+    c.if-not-arrival.true)) refl refl
 
 pub returns : goal.returns
 returns c =
@@ -33,7 +33,7 @@ returns c =
     c.self.inside.lengths.items) c.self.inside.kept c.self.inside.counts) c.args.self.now _ _ _ c.self.view_is
     (sink.take_last c.self.inside.bytes.items (take c.self.inside.messages c.self.inside.lengths.items)
     c.self.inside.kept c.self.inside.counts c.in-Some.arrival c.in-Some.is more (sink.not_false _
-    c.if-not-arrival.false)) (ap (λ e. Ok e) c.acknowledged-2.ensures)
+    c.if-not-arrival.false)) refl
     (let few : c.self.inside.messages < length c.self.inside.lengths.items = omega (
       arith,
       c.self.invariant.each,

@@ -1,4 +1,4 @@
-use Rattle.std.proofs.Common.{ℕ, sym, ap, ◌∙◌, refl, arith, Ok, List}
+use Rattle.std.proofs.Common.{ℕ, sym, ap, ◌∙◌, refl, arith, List}
 use Rattle.std.specs.Prelude.{slice_get}
 use Rattle.tlink.specs.declared.event.NodeEvent.TheVariants.{Ack}
 use Rattle.tlink.proofs.Sources as source
@@ -34,7 +34,7 @@ returns-then-sent-length c =
     c.self.inside.start c.self.inside.counts) c.args.self.now _ _ _ c.self.view_is (source.ack_byte
     c.self.inside.bytes.items c.self.inside.lengths.items c.self.inside.done c.self.inside.start c.self.inside.counts
     c.in-Some.length (ap (λ (ls : List ℕ). slice_get ls c.self.inside.done) (sym c.deref.ensures.value) ∙ sym
-    c.length_at.ensures ∙ c.in-Some.is) (omega arith) c.if-sent-length.true) (ap (λ e. Ok e) c.silently.ensures) refl
+    c.length_at.ensures ∙ c.in-Some.is) (omega arith) c.if-sent-length.true) refl refl
 
 pub invariant_of-self-2 : goal.invariant_of-self-2
 invariant_of-self-2 c =
@@ -48,5 +48,5 @@ returns c =
     c.self.inside.start c.self.inside.counts) c.args.self.now _ _ _ c.self.view_is (source.ack_last
     c.self.inside.bytes.items c.self.inside.lengths.items c.self.inside.done c.self.inside.start c.self.inside.counts
     c.in-Some.length (ap (λ (ls : List ℕ). slice_get ls c.self.inside.done) (sym c.deref.ensures.value) ∙ sym
-    c.length_at.ensures ∙ c.in-Some.is) (omega arith) c.if-sent-length.false) (ap (λ e. Ok e) c.silently-2.ensures)
+    c.length_at.ensures ∙ c.in-Some.is) (omega arith) c.if-sent-length.false) refl
     refl

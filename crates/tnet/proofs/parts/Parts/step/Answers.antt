@@ -1,8 +1,14 @@
-use Rattle.std.proofs.Common.{sym, ◌∙◌}
-use Rattle.tnet.proofs.Stepping.{event_refused}
+use Rattle.std.proofs.Common.{arith}
+use Rattle.tnet.specs.Net.{NetState}
+use Rattle.tnet.proofs.Stepping.{nobody}
 use Rattle.tnet.proofs.parts.Parts.step.Goals as goal
 
-pub returns-in-Err : goal.returns-in-Err
-returns-in-Err c =
-    event_refused c.args.event c.in-Some.asked c.args.self.now _ c.in-Err.fault c.step_node.result
-    (sym c.node_event.ensures ∙ c.in-Some.is) c.step_node.ensures c.in-Err.is
+pub returns-then-place-len : goal.returns-then-place-len
+returns-then-place-len c =
+    let net : NetState =
+    record {
+      nodes = c.self.inside.nodes.items;
+      wires = c.self.inside.wires;
+      inboxes = c.self.inside.inboxes.items;
+    } in
+    rw (← c.self.view_is) (nobody c.args.event net (omega arith))
