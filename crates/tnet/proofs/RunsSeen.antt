@@ -14,7 +14,7 @@ use Rattle.tplan.specs.declared.event.Note.TheVariants.{Halt, Freeze}
 use Rattle.tplan.specs.declared.plan.End.{End}
 use Rattle.tnet.specs.declared.station.RunsDone.{RunsDone}
 use Rattle.tnet.specs.Stations.{answer_done, answer_note, last_told, runs_done, after_asked, one_more}
-use Rattle.tnet.proofs.AnswerKinds as roles
+use Rattle.tnet.proofs.AnswerKinds as answers
 use Rattle.tnet.proofs.AnswerKinds.{run_runs}
 
 -- what the answer of the last run was: nothing more was enabled, or it told something
@@ -45,7 +45,7 @@ unfolding runs_done row.runs
 runs-seen n far zero node = refl
 runs-seen n far (suc k) node = by (λ m. runs-seen n far k m) (happens Run node) (run_runs node)
   where
-    by : ((m : NodeState) → runs_done n far k m ≡ seen n (row.runs k m)) → (a : Answer) → roles.Runs a
+    by : ((m : NodeState) → runs_done n far k m ≡ seen n (row.runs k m)) → (a : Answer) → answers.Runs a
         → after_asked (λ m. runs_done n far k m)
         (answer_done (node_answered a) (answer_note n far None (node_answered a) (node_left_by node a)))
         (node_left_by node a)
@@ -63,7 +63,7 @@ runs-within zero node = tt
 runs-within (suc k) node = by (λ m. runs-within k m) (happens Run node) (run_runs node)
   where
     by : ((m : NodeState) → IfSome (row.runs k m).1.last (λ _. (row.runs k m).1.count < k)) → (a : Answer)
-        → roles.Runs a
+        → answers.Runs a
         → let x : NodeState × Runs = row.followed (λ m. row.runs k m) (node_answered a) (node_left_by node a) in
         IfSome x.1.last (λ _. x.1.count < suc k)
     by on (Ok (m, e)) (p, inl q) = rw q (more (row.runs k m).1.last (row.runs k m).1.count (on m))
@@ -98,7 +98,7 @@ unfolding runs_done
 done-within n far zero node = omega arith
 done-within n far (suc k) node = by (λ m. done-within n far k m) (happens Run node) (run_runs node)
   where
-    by : ((m : NodeState) → (runs_done n far k m).1.count ≤ k) → (a : Answer) → roles.Runs a
+    by : ((m : NodeState) → (runs_done n far k m).1.count ≤ k) → (a : Answer) → answers.Runs a
         → (after_asked (λ m. runs_done n far k m)
         (answer_done (node_answered a) (answer_note n far None (node_answered a) (node_left_by node a)))
         (node_left_by node a)).1.count
