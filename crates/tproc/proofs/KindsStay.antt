@@ -156,7 +156,8 @@ kinds_stay n p =
       bytes = λ l i byte h. of_byte l i byte (input_of n l) refl h;
       additions = λ process iptr n' w e. record {
         kind = added-kind n.control.kind process iptr n n' refl e;
-        size = added-gives (λ (m : Machine). IsAsLong n m.store) n process iptr n' (λ m t f. stays Control _ m t f) e;
+        size = added-gives (λ (m : Machine). IsAsLong n m.store) n process iptr n'
+            (λ m t f. stays Control (add_process process iptr n.control) m t f) e;
       };
       loads = λ start bytes inside clear. record { kind = refl; size = loaded-size start bytes n inside };
     }

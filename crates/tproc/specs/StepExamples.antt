@@ -1,10 +1,11 @@
 -- Rows that the definitions compute: single steps, and a byte that comes in.
 use Rattle.std.specs.Prelude.{◌≡◌, ◌+◌, ◌*◌, ◌++◌, replicate, ℕ, zero, suc, List, [], ◌∷◌, Ok, Err, Result, Some, None}
 use Rattle.std.specs.Prelude.{Option, refl}
-use Rattle.tword.specs.declared.kind.Kind.TheVariants.{One}
+use Rattle.tword.specs.declared.kind.Kind.{Kind}
+use Rattle.tword.specs.declared.kind.Kind.TheVariants.{One, Two}
 use Rattle.tword.specs.declared.breaks.Break.{Break}
 use Rattle.tword.specs.declared.breaks.Break.TheVariants.{Unaligned, InTransit, SavedWord, LinkBusy, ChannelMisuse}
-use Rattle.tword.specs.declared.breaks.Break.TheVariants.{AlreadyLive, TooManyProcesses}
+use Rattle.tword.specs.declared.breaks.Break.TheVariants.{AlreadyLive, TooManyProcesses, NoSuchOperation}
 use Rattle.tword.specs.Stores.{word_at, with_word}
 use Rattle.tproc.specs.declared.offer.Ran.TheVariants.{Instruction, LinkIn}
 use Rattle.tproc.specs.Machine.{Machine}
@@ -78,6 +79,27 @@ count_then n = current_of (machine_of (step n))
 
 abbrev low_then : Machine → Option (List ℕ)
 low_then n = low_of (machine_of (step n))
+
+-- A, B and C
+abbrev stack_then : Machine → Option (ℕ × ℕ × ℕ)
+stack_then n = stack_of (machine_of (step n))
+  where
+    stack_of : Result Machine Break → Option (ℕ × ℕ × ℕ)
+    stack_of (Ok m) = Some (m.control.registers.a, m.control.registers.b, m.control.registers.c)
+    stack_of (Err b) = None
+
+-- `dup` of 7, 8 and 9 on a node of a kind
+abbrev duplicating : Kind → Machine
+duplicating kind =
+    let n = running 0x8000_0100 7 8 9 (0x25 ∷ 0xfa ∷ []) in record n { control = record n.control { kind = kind } }
+
+dup_of_kind_2 : stack_then (duplicating Two) ≡ Some (7, 7, 8)
+unfolding computes notice
+dup_of_kind_2 = refl
+
+dup_of_kind_1 : step_answered (step (duplicating One)) ≡ Err NoSuchOperation
+unfolding computes notice
+dup_of_kind_1 = refl
 
 -- `endp` with a count of 1, and with a count of 2
 abbrev ending : ℕ → Machine

@@ -36,3 +36,12 @@ pub const MOST_WORKERS: usize = 64;
 
 /// How many steps a timeslice has at most (own choice).
 pub const LONGEST_TIMESLICE: u32 = 65_536;
+
+/// How many messages a source has at most (own choice).
+pub const MOST_MESSAGES: usize = 256;
+
+/// How many bytes a message of a source has at most (own choice).
+pub const LONGEST_MESSAGE: usize = 4_096;
+
+/// How many bytes a sink takes at most (own choice).
+pub const LARGEST_CAPACITY: u32 = 65_536;
