@@ -18,7 +18,8 @@ use Rattle.tproc.specs.declared.waiter.LinkEnd.{LinkEnd}
 use Rattle.tproc.specs.Machine.{Machine}
 use Rattle.tproc.specs.Placement.{IsBuffer, IsPlaced, WaitsFor}
 use Rattle.tproc.proofs.Opening.{same_at}
-use Rattle.tlink.specs.Roles.{is_bad_message, script_control, first_offer, offering}
+use Rattle.tword.specs.Limits.{is_bad_message}
+use Rattle.tlink.specs.Roles.{script_control, first_offer, offering}
 use Rattle.tlink.specs.Node.{counts_at, fresh_node, fresh_source, input_at, no_counts, output_at}
 use Rattle.tlink.proofs.Held.{script-else}
 use Rattle.tlink.specs.Whole.{HasNoticedNothing, IsCounted, IsWhole}

@@ -1,7 +1,8 @@
 -- What may stand behind the links of a node: a processor, or a script at link 0.
 -- Source: own choice: what a node's surroundings send to it and take from it.
-use Rattle.std.specs.Prelude.{ℕ, ◌+◌, Bool, true, false, ◌||◌, ◌==◌, nat_lt, List, [], ◌∷◌, ◌++◌, drop, length}
+use Rattle.std.specs.Prelude.{ℕ, ◌+◌, Bool, true, false, ◌==◌, nat_lt, List, [], ◌∷◌, ◌++◌, drop}
 use Rattle.std.specs.Prelude.{Option, Some, None}
+use Rattle.tword.specs.declared.kind.Kind.TheVariants.{One}
 use Rattle.tword.specs.Words.{most_neg}
 use Rattle.tword.specs.Stores.{as_cells}
 use Rattle.tproc.specs.declared.offer.Offer.{Offer}
@@ -22,13 +23,9 @@ pub data Role : Type 0 where
   Source : (done : ℕ) → (rest : List ℕ) → Role
   Sink : (kept : List ℕ) → Role
 
--- a message does not have 1 to 4,096 bytes
-abbrev pub is_bad_message : List ℕ → Bool
-is_bad_message m = nat_lt (length m) 1 || nat_lt 4096 (length m)
-
--- a control without a process, with this at link 0
+-- a control without a process, with this at link 0. It does no operation, so its kind is that of the T414
 abbrev pub script_control : LinkEnd → Control
-script_control e = record (no_processes 1) { links = e ∷ quiet_end ∷ quiet_end ∷ quiet_end ∷ [] }
+script_control e = record (no_processes 1 One) { links = e ∷ quiet_end ∷ quiet_end ∷ quiet_end ∷ [] }
 
 -- a machine without a process, with this at link 0 and these bytes in its memory
 abbrev pub script_machine : LinkEnd → List ℕ → Machine

@@ -2,7 +2,7 @@
 
 ghost use Rattle.std.specs.Prelude.{◌≡◌, ◌≤◌, false, All, IfOk, option_copied};
 ghost use Rattle.tword.specs.Stores.{as_cells};
-ghost use Rattle.tlink.specs.Roles.{is_bad_message};
+ghost use Rattle.tword.specs.Limits.{is_bad_message};
 ghost use Rattle.tlink.specs.Node.{counts_at, due_at, fresh_node, fresh_source, fresh_sink};
 ghost use Rattle.tlink.specs.Events.{happens, node_answered, node_left_by, is_node_enabled};
 ghost use Rattle.tlink.specs.Runs.{runs};
