@@ -14,7 +14,7 @@ use Rattle.tword.specs.declared.kind.Kind.TheVariants.{One, Two}
 use Rattle.twiring.specs.Messages.{message_of}
 use Rattle.twiring.specs.Wirings.{Names, has_unknown, tables_in, tables_of, is_integer, is_text, is_end, is_kind}
 use Rattle.twiring.specs.Wirings.{items_in, items_of, is_texts, are_tables, is_tables, fails, is_bad_number, is_version}
-use Rattle.twiring.specs.Wirings.{is_bad_message, is_node_kind, number_of, text_of, end_of, kind_of, node_kind_of}
+use Rattle.twiring.specs.Wirings.{is_no_message, is_node_kind, number_of, text_of, end_of, kind_of, node_kind_of}
 use Rattle.twiring.specs.Wirings.{message_at}
 use Rattle.twiring.specs.WiringParts.{Reading, both, made, known, value_or, number, number_in, text_in, end_in, kind_in}
 use Rattle.twiring.specs.WiringParts.{node_kind, node_kind_in, message, message_in, version, version_in, one_more, more_in, table_in, array_in}
@@ -431,7 +431,7 @@ message-judged None = refl
 message-judged (Some bytes) = refl
 
 pub message_in-judged : (d : Data)
-    → message_in d ≡ judged (record passed { wrong = not (is_text d); message = is_bad_message d }) (message_at d)
+    → message_in d ≡ judged (record passed { wrong = not (is_text d); message = is_no_message d }) (message_at d)
 unfolding judged
 message_in-judged (string s) = message-judged (message_of s)
 message_in-judged (integer z) = refl
@@ -445,7 +445,7 @@ more-messages : (w g : Bool) (xs : List (List ℕ)) (items : Items)
     → more_in message_in (judged (record passed { wrong = w; message = g }) xs) items
     ≡ judged (record passed {
       wrong = w || not (list_all is_text (items_in items));
-      message = g || list_any is_bad_message (items_in items);
+      message = g || list_any is_no_message (items_in items);
     }) (xs ++ map message_at (items_in items))
 more-messages w g xs no_items =
     same_judged _ _ _ refl refl (sym (or-false w)) refl refl (sym (or-false g)) refl
@@ -455,9 +455,9 @@ more-messages w g xs (item d rest) =
     ap (λ found. more_in message_in found rest)
     (ap (one_more (judged (record passed { wrong = w; message = g }) xs)) (message_in-judged d)
     ∙ ap (made (λ p. p.0 ++ p.1 ∷ [])) (both-judged _ _ _ _) ∙ made-judged (λ p. p.0 ++ p.1 ∷ []) _ _)
-    ∙ more-messages (w || not text) (g || is_bad_message d) (xs ++ message_at d ∷ []) rest
+    ∙ more-messages (w || not text) (g || is_no_message d) (xs ++ message_at d ∷ []) rest
     ∙ same_judged _ _ _ refl refl (wrong_text w text (list_all is_text (items_in rest))) refl refl
-    (or_assoc g (is_bad_message d) (list_any is_bad_message (items_in rest))) refl
+    (or_assoc g (is_no_message d) (list_any is_no_message (items_in rest))) refl
     ∙ ap (judged _) (append_assoc xs (message_at d ∷ []) (map message_at (items_in rest)))
   where
     wrong_text : (w a b : Bool) → ((w || not a) || not b) ≡ (w || not (a && b))
@@ -467,7 +467,7 @@ more-messages w g xs (item d rest) =
 
 pub messages_in-judged : (d : Data)
     → array_in message_in d
-    ≡ judged (record passed { wrong = not (is_texts d); message = list_any is_bad_message (items_of (Some d)) })
+    ≡ judged (record passed { wrong = not (is_texts d); message = list_any is_no_message (items_of (Some d)) })
     (map message_at (items_of (Some d)))
 unfolding judged
 messages_in-judged (array items) = more-messages false false [] items

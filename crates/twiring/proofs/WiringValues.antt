@@ -16,7 +16,7 @@ use Rattle.tword.specs.declared.kind.Kind.{Kind}
 use Rattle.twiring.specs.Wirings.{Names, has_unknown, is_first_in, root_keys, needed_node_keys, node_keys, wire_keys}
 use Rattle.twiring.specs.Wirings.{source_keys, sink_keys, has_bad_kind, node_kind_of}
 use Rattle.twiring.specs.Wirings.{hold_keys, lacks_one, has_wrong_type, tables_at, items_of, is_integer, is_text}
-use Rattle.twiring.specs.Wirings.{is_texts, is_end, is_kind, is_tables, is_wrong, is_bad, is_version, is_bad_message}
+use Rattle.twiring.specs.Wirings.{is_texts, is_end, is_kind, is_tables, is_wrong, is_bad, is_version, is_no_message}
 use Rattle.twiring.specs.Wirings.{has_bad_message, fails, number_of, number_at, text_of, end_of, kind_of, message_at}
 use Rattle.twiring.specs.Wirings.{default_timeslice, wiring_value, wiring_of}
 use Rattle.twiring.specs.WiringParts.{Reading, both, made, known, required, number_in, text_in, end_in, kind_in}
@@ -60,10 +60,10 @@ messages-judged : (key : List ℕ) (t : Members)
     → required (array_in message_in) key t
     ≡ judged
     (tested false (is_none (get_member key t)) (is_wrong is_texts key t) false
-    (list_any is_bad_message (items_of (get_member key t))) false)
+    (list_any is_no_message (items_of (get_member key t))) false)
     (map message_at (items_of (get_member key t)))
 messages-judged key t =
-    required-judged (array_in message_in) (fails is_texts) never never (λ o. list_any is_bad_message (items_of o))
+    required-judged (array_in message_in) (fails is_texts) never never (λ o. list_any is_no_message (items_of o))
     (λ o. map message_at (items_of o)) messages_in-judged (get_member key t)
 
 version-judged : (key : List ℕ) (t : Members)

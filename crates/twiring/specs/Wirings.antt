@@ -204,13 +204,13 @@ has_bad_number t =
     t
 
 -- a text is no message
-abbrev pub is_bad_message : Data → Bool
-is_bad_message (string s) = is_none (message_of s)
-is_bad_message _ = false
+abbrev pub is_no_message : Data → Bool
+is_no_message (string s) = is_none (message_of s)
+is_no_message _ = false
 
 -- a source has a text that is no message
 abbrev pub has_bad_message : Members → Bool
-has_bad_message t = list_any is_bad_message (items_of (get_member (codes "messages") t))
+has_bad_message t = list_any is_no_message (items_of (get_member (codes "messages") t))
 
 -- a value is the number of a kind of nodes
 abbrev pub is_node_kind : Data → Bool

@@ -12,6 +12,7 @@ use hex::FromHexError;
 use std::alloc::Global;
 use toml::{Table, Value};
 use tplan::{End, Hold, PacketKind, SinkPlan, SourcePlan, Wire, Wiring, WiringFault, WiringNode};
+use tword::limits::LONGEST_MESSAGE;
 use tword::{Items, Kind};
 
 /// The timeslice of a wiring that names none (own choice).
@@ -19,9 +20,6 @@ pub const DEFAULT_TIMESLICE: u32 = 1_024;
 
 /// What a part of a wiring stands for, or its lowest fault.
 type Reading<T> = Result<T, WiringFault>;
-
-/// The most bytes of a message.
-const LONGEST_MESSAGE: usize = 4_096;
 
 /// The wiring that a text stands for (own choice of format), as TOML: `version`, which is 1 or 2, `timeslice`, which
 /// may be absent, and the arrays `node` (`memory` in bytes, `image`), `wire` (its ends `a` and `b`, each a node and a

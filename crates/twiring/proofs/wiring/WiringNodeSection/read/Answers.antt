@@ -1,4 +1,4 @@
-use Rattle.std.proofs.Common.{codes, ap, ap₂, ◌∙◌, rules}
+use Rattle.std.proofs.Common.{codes, rules}
 use Rattle.toml.specs.View.{table_view}
 use Rattle.twiring.specs.Wirings.{node_keys}
 use Rattle.twiring.specs.WiringParts.{both, required, number_in, text_in, node_kind_at}
