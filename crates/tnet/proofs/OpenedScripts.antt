@@ -14,7 +14,8 @@ use Rattle.tproc.specs.declared.offer.Offer.{Offer}
 use Rattle.tproc.specs.declared.waiter.LinkEnd.{LinkEnd}
 use Rattle.tproc.specs.LinkChannels.{link_end, quiet_end}
 use Rattle.tproc.proofs.Opening.{same_at}
-use Rattle.tlink.specs.Roles.{script_control, first_offer, offering, asking, is_bad_message}
+use Rattle.tword.specs.Limits.{is_bad_message}
+use Rattle.tlink.specs.Roles.{script_control, first_offer, offering, asking}
 use Rattle.tlink.specs.Node.{NodeState, counts_at, no_counts, output_at, fresh_source, fresh_sink}
 use Rattle.tlink.specs.Whole.{IsCounted, IsWhole}
 use Rattle.tlink.proofs.Held.{script-else}

@@ -62,13 +62,13 @@ good_segments n h = no_position (λ s. is_bad_segment n.memory s) n.image.segmen
 -- a node's processor, in its three steps
 pub built_of : (timeslice : ℕ) (n : NodePlan) (ss : List Segment) (ps : List Process) (empty full : Machine)
     (x : Result Machine (ℕ × Break))
-    → empty ≡ empty_machine n.memory timeslice → ss ≡ n.image.segments
+    → empty ≡ empty_machine n.memory timeslice n.kind → ss ≡ n.image.segments
     → full ≡ fold (λ m s. loaded s.address s.bytes m) empty ss
     → ps ≡ n.image.processes → added_from 0 ps full ≡ x → built_machine timeslice n ≡ x
 built_of timeslice n ss ps empty full x is_empty segments is_full processes h =
     ap (λ (qs : List Process). added_from 0 qs (loaded_machine timeslice n)) (sym processes)
     ∙ ap (λ (ts : List Segment). added_from 0 ps
-    (fold (λ m s. loaded s.address s.bytes m) (empty_machine n.memory timeslice) ts)) (sym segments)
+    (fold (λ m s. loaded s.address s.bytes m) (empty_machine n.memory timeslice n.kind) ts)) (sym segments)
     ∙ ap (λ (m : Machine). added_from 0 ps (fold (λ m s. loaded s.address s.bytes m) m ss)) (sym is_empty)
     ∙ ap (added_from 0 ps) (sym is_full)
     ∙ h

@@ -3,7 +3,7 @@
 ghost use Rattle.std.specs.Prelude.{◌≡◌, ◌<◌, ◌≤◌, ◌+◌, ◌||◌, false, nat_lt, take, [], length, position};
 ghost use Rattle.std.specs.Prelude.{slice_index_or, MatchOption};
 ghost use Rattle.std.specs.List.{list_any};
-ghost use Rattle.tlink.specs.Roles.{is_bad_message};
+ghost use Rattle.tword.specs.Limits.{is_bad_message};
 ghost use Rattle.tnet.specs.Wires.{same_end, joins};
 ghost use Rattle.tnet.specs.Building.{is_too_large, has_too_many, too_many, is_bad_size};
 ghost use Rattle.tnet.specs.Building.{is_bad_timeslice, is_bad_end, named_ends, all_wires};
@@ -14,18 +14,9 @@ use crate::planned::{wire_at, wire_count};
 use tplan::{BuildFault, End, Image, NodePlan, Plan, Segment, SinkPlan, SourcePlan, Wire};
 use tword::Items;
 use tword::limits::{
-    LARGEST_MEMORY, LONGEST_TIMESLICE, MEM_START, MOST_NEG, MOST_NODES, MOST_PROCESSES,
-    MOST_SEGMENTS, MOST_WIRES, SMALLEST_MEMORY,
+    LARGEST_CAPACITY, LONGEST_MESSAGE, LONGEST_TIMESLICE, MEM_START, MOST_MESSAGES, MOST_NEG,
+    MOST_NODES, MOST_PROCESSES, MOST_SEGMENTS, MOST_WIRES, SMALLEST_MEMORY,
 };
-
-/// The most messages of a source.
-const MOST_MESSAGES: usize = 256;
-
-/// The most bytes of a message.
-const LONGEST_MESSAGE: usize = 4_096;
-
-/// The most bytes that a sink takes.
-const LARGEST_CAPACITY: u32 = 65_536;
 
 /// The lowest fault that shows before anything is built.
 #[tactic(auto, unfolding(crate::specs::Building::fault_of))]
@@ -121,11 +112,13 @@ fn any_too_large(nodes: &[NodePlan]) -> bool
     nodes.iter().any(|node| is_too_large(&node.image))
 }
 
-/// Whether a memory has a size that none may have.
+/// Whether a memory has a size that none of its node's kind may have.
 fn is_bad_size(node: &NodePlan) -> bool
     ensures { result ≡ is_bad_size node.now }
 {
-    node.memory < SMALLEST_MEMORY || node.memory > LARGEST_MEMORY || node.memory % 4 != 0
+    node.memory < SMALLEST_MEMORY
+        || node.memory > node.kind.largest_memory()
+        || node.memory % 4 != 0
 }
 
 /// The first node with such a memory.

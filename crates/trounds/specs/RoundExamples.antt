@@ -1,6 +1,7 @@
 -- Rounds that the definitions compute.
 use Rattle.std.specs.Prelude.{ℕ, ◌≡◌, List, [], ◌∷◌, length, refl, Some}
 use Rattle.tword.specs.declared.breaks.Break.TheVariants.{LengthMismatch}
+use Rattle.tword.specs.declared.kind.Kind.TheVariants.{One}
 use Rattle.tproc.specs.Steps.{computes}
 use Rattle.tproc.specs.Links.{notice, finish_input, finish_output}
 use Rattle.tlink.specs.Events.{happens}
@@ -49,6 +50,7 @@ loop =
       timeslice = 1024;
       nodes = record {
         memory = 2048;
+        kind = One;
         image = record {
           segments = record { address = 0x8000_0080; bytes = 0x24 ∷ 0xf2 ∷ 0x22 ∷ 0x4a ∷ 0xfe ∷ 0x21 ∷ 0xf5 ∷ [] }
               ∷ record { address = 0x8000_0090; bytes = 0x11 ∷ 0x24 ∷ 0xf2 ∷ 0x55 ∷ 0x41 ∷ 0xf7 ∷ 0x21 ∷ 0xf5 ∷ [] }
