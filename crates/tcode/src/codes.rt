@@ -60,8 +60,8 @@ pub(crate) fn code_of(function: Function) -> u8
 /// the T800.
 #[inline(always)]
 #[tactic(auto, unfolding(crate::specs::Table::operation_at))]
-pub fn operation_of(operand: Word, kind: &Kind) -> Option<Operation>
-    ensures { result ≡ operation_at kind.now operand }
+pub fn operation_of(operand: Word, kind: Kind) -> Option<Operation>
+    ensures { result ≡ operation_at kind operand }
 {
     match operand.get() {
         0x00 => Some(Operation::Rev),
@@ -139,9 +139,9 @@ pub fn operation_of(operand: Word, kind: &Kind) -> Option<Operation>
 #[cold]
 #[inline(never)]
 #[tactic(auto, unfolding(crate::specs::Table::operation_at))]
-fn further_operation_of(operand: Word, kind: &Kind) -> Option<Operation>
+fn further_operation_of(operand: Word, kind: Kind) -> Option<Operation>
     requires { operation_at One operand ≡ None }
-    ensures { result ≡ operation_at kind.now operand }
+    ensures { result ≡ operation_at kind operand }
 {
     match kind {
         Kind::Two if operand.get() == 0x5a => Some(Operation::Dup),

@@ -38,7 +38,7 @@ fn ended(kind: &Kind, function: Function, operand: u32, length: u8) -> Option<In
 {
     let operand = Word::new(operand);
     if let Function::Opr = function
-        && operation_of(operand, kind).is_none()
+        && operation_of(operand, *kind).is_none()
     {
         return None;
     }

@@ -116,7 +116,7 @@ impl fmt::Display for Instruction {
 
     fn fmt<W: fmt::Write>(&self, f: &mut fmt::Formatter<W>) -> fmt::Result {
         if let Function::Opr = self.function
-            && let Some(operation) = operation_of(self.operand, &Kind::Two)
+            && let Some(operation) = operation_of(self.operand, Kind::Two)
         {
             let name = operation_name(operation);
             return write!(f, "{name}");

@@ -103,7 +103,7 @@ fn act(
         Function::Eqc => Ok(registers.equals_constant(operand)),
         Function::Stl => registers.store_local(memory, marks, operand),
         Function::Stnl => registers.store_non_local(memory, marks, operand),
-        Function::Opr => match operation_of(operand, kind) {
+        Function::Opr => match operation_of(operand, *kind) {
             Some(operation) => operate(registers, memory, marks, start, operation),
             None => Err(Break::NoSuchOperation),
         },

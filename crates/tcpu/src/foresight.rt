@@ -64,7 +64,7 @@ pub fn jumps_for(
             memory.may_write_word(marks, word_address(registers.a, operand))?;
             Ok(false)
         }
-        Function::Opr => match operation_of(operand, kind) {
+        Function::Opr => match operation_of(operand, *kind) {
             Some(operation) => operation_jumps(registers, memory, marks, operation),
             None => Err(Break::NoSuchOperation),
         },
