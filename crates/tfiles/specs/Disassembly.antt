@@ -3,6 +3,7 @@
 use Rattle.std.specs.Prelude.{ℕ, zero, suc, List, [], ◌∷◌, ◌++◌, flat_map, length, drop, Result, Ok, Err, codes}
 use Rattle.std.specs.Int.{w32, to_be_bytes}
 use Rattle.hex.specs.Hex.{encode_lower}
+use Rattle.tword.specs.declared.kind.Kind.{Kind}
 use Rattle.tword.specs.Words.{plus}
 use Rattle.tcode.specs.declared.instruction.Instruction.{Instruction}
 use Rattle.tcode.specs.declared.instruction.DecodeFault.{DecodeFault}
@@ -30,19 +31,19 @@ abbrev pub head_size : Result Instruction DecodeFault → ℕ
 head_size (Ok i) = i.length
 head_size (Err fault) = 1
 
--- the lines of bytes from an address on, no more of them than the number
-unfoldable pub dis_lines : ℕ → ℕ → List ℕ → List ℕ
-dis_lines zero address bytes = []
-dis_lines (suc n) address [] = []
-dis_lines (suc n) address (byte ∷ bytes) =
-    let head = decode_bytes (byte ∷ bytes) in
-    at_address address (head_text head byte) ++ dis_lines n (plus address (head_size head))
+-- the lines of bytes from an address on, no more of them than the number, for a node of a kind
+unfoldable pub dis_lines : Kind → ℕ → ℕ → List ℕ → List ℕ
+dis_lines kind zero address bytes = []
+dis_lines kind (suc n) address [] = []
+dis_lines kind (suc n) address (byte ∷ bytes) =
+    let head = decode_bytes kind (byte ∷ bytes) in
+    at_address address (head_text head byte) ++ dis_lines kind n (plus address (head_size head))
     (drop (head_size head) (byte ∷ bytes))
 
 -- the lines of a segment
-abbrev pub segment_lines : Segment → List ℕ
-segment_lines s = dis_lines (length s.bytes) s.address s.bytes
+abbrev pub segment_lines : Kind → Segment → List ℕ
+segment_lines kind s = dis_lines kind (length s.bytes) s.address s.bytes
 
--- the lines of an image
-abbrev pub dis_text : Image → List ℕ
-dis_text image = flat_map segment_lines image.segments
+-- the lines of an image, for a node of a kind
+abbrev pub dis_text : Kind → Image → List ℕ
+dis_text kind image = flat_map (segment_lines kind) image.segments

@@ -1,7 +1,14 @@
 -- Rows that the definitions compute.
-use Rattle.std.specs.Prelude.{ℕ, ◌≡◌, List, [], ◌∷◌, ◌++◌, Ok, Err, refl, codes, take}
+use Rattle.std.specs.Prelude.{ℕ, ◌≡◌, List, [], ◌∷◌, ◌++◌, Ok, Err, refl, codes, replicate, take}
+use Rattle.hex.specs.Hex.{encode_with}
+use Rattle.tword.specs.declared.kind.Kind.TheVariants.{One, Two}
+use Rattle.tword.specs.Stores.{as_cells}
+use Rattle.tcode.specs.Table.{function_at, operation_at}
+use Rattle.tplan.specs.declared.plan.Segment.{Segment}
 use Rattle.tfiles.specs.declared.image.ImageFault.TheVariants.{TooMany, Truncated, Trailing}
+use Rattle.tfiles.specs.Disassembly.{dis_lines, segment_lines}
 use Rattle.tfiles.specs.Images.{image_of}
+use Rattle.tfiles.specs.Texts.{dump_line}
 
 abbrev first_image : List ℕ
 first_image =
@@ -32,3 +39,21 @@ too_many_segments = refl
 cut_in_a_count : image_of (codes "TEMUIMG1" ++ (0 ∷ 0x10 ∷ 0 ∷ 0 ∷ 1 ∷ 2 ∷ 0 ∷ [])) ≡ Err Truncated
 unfolding image_of
 cut_in_a_count = refl
+
+-- a segment of `dup`, for a node of either kind
+abbrev dup_segment : Segment
+dup_segment = record { address = 0x8000_0080; bytes = 0x25 ∷ 0xfa ∷ [] }
+
+no_dup_in_kind_1 : segment_lines One dup_segment ≡ codes "80000080: db 25" ++ 10 ∷ codes "80000081: wsub" ++ 10 ∷ []
+unfolding dis_lines function_at operation_at encode_with
+no_dup_in_kind_1 = refl
+
+dup_in_kind_2 : segment_lines Two dup_segment ≡ codes "80000080: dup" ++ 10 ∷ []
+unfolding dis_lines function_at operation_at encode_with
+dup_in_kind_2 = refl
+
+-- the last line of the largest memory, whose last word is 7
+last_line : dump_line 0x80ff_fff0 (as_cells (replicate 12 0 ++ 7 ∷ 0 ∷ 0 ∷ 0 ∷ []))
+    ≡ codes "80fffff0: 00 00 00 00 00 00 00 00 00 00 00 00 07 00 00 00" ++ 10 ∷ []
+unfolding encode_with
+last_line = refl

@@ -16,40 +16,40 @@ use tcode::{
     DecodeFault, Function, Instruction, decode_bytes, function_name, operation_name, operation_of,
 };
 use tplan::plan::{Image, Segment};
-use tword::Word;
+use tword::{Kind, Word};
 
-/// Writes the instructions of an image (own choice of format): for each segment, at each address, a line
-/// `80000080: ldc 4`. Where no instruction can be decoded within the segment, the line is `80000080: db 60`, and
-/// the next one is at the next byte. An address is taken modulo 2^32.
+/// Writes the instructions of an image, as those of a node of a kind (own choice of format): for each segment, at each
+/// address, a line `80000080: ldc 4`. Where no instruction of the kind can be decoded within the segment, the line is
+/// `80000080: db 60`, and the next one is at the next byte. An address is taken modulo 2^32.
 ///
 /// # Errors
 /// Where the writer fails or takes nothing. Just so many of the first bytes are written as the fault tells.
-pub fn dis_text<W: CountedWrite>(image: &Image, out: &mut W) -> Result<(), WriteFault>
-    ensures out { IsOut (W.contents out.old) (W.contents out.new) (disassembled image.now) result }
+pub fn dis_text<W: CountedWrite>(image: &Image, kind: Kind, out: &mut W) -> Result<(), WriteFault>
+    ensures out { IsOut (W.contents out.old) (W.contents out.new) (disassembled kind image.now) result }
     ensures cause { IfErr result (λ _. HasRisen (W.failures out.old) (W.failures out.new)) }
 {
     let mut output = Output::new(out);
-    put_image(&mut output, image);
+    put_image(&mut output, image, kind);
     output.finish()
 }
 
 /// The lines of an image.
-fn put_image<W: CountedWrite>(out: &mut Output<'_, W>, image: &Image)
-    ensures { Tells W.contents W.failures out.old out.new (disassembled image.now) }
+fn put_image<W: CountedWrite>(out: &mut Output<'_, W>, image: &Image, kind: Kind)
+    ensures { Tells W.contents W.failures out.old out.new (disassembled kind image.now) }
 {
     for segment in image.segments.as_slice() {
-        put_segment(out, segment);
+        put_segment(out, segment, kind);
     }
 }
 
 /// The lines of a segment.
-fn put_segment<W: CountedWrite>(out: &mut Output<'_, W>, segment: &Segment)
-    ensures { Tells W.contents W.failures out.old out.new (segment_lines segment.now) }
+fn put_segment<W: CountedWrite>(out: &mut Output<'_, W>, segment: &Segment, kind: Kind)
+    ensures { Tells W.contents W.failures out.old out.new (segment_lines kind segment.now) }
 {
     let mut address = segment.address;
     let mut rest = segment.bytes.as_slice();
     while let Some(byte) = rest.first() {
-        let head = decode_bytes(rest);
+        let head = decode_bytes(rest, kind);
         put_line(out, address, &head, *byte);
         let size = size_of_head(&head);
         address = address.plus(Word::new(size as u32));
@@ -96,12 +96,12 @@ fn put_head<W: CountedWrite>(
     }
 }
 
-/// An instruction.
+/// An instruction. Each operation has its name, whichever kind lists it.
 pub fn put_instruction<W: CountedWrite>(out: &mut Output<'_, W>, instruction: &Instruction)
     ensures { Tells W.contents W.failures out.old out.new (instruction_text instruction.now) }
 {
     if let Function::Opr = instruction.function
-        && let Some(operation) = operation_of(instruction.operand)
+        && let Some(operation) = operation_of(instruction.operand, Kind::Two)
     {
         out.put(operation_name(operation).as_bytes());
     } else {

@@ -42,6 +42,7 @@ wiring_words wiring.WrongType = codes "wiring L4 WrongType" ∷ []
 wiring_words wiring.BadVersion = codes "wiring L5 BadVersion" ∷ []
 wiring_words wiring.BadNumber = codes "wiring L6 BadNumber" ∷ []
 wiring_words wiring.BadMessage = codes "wiring L7 BadMessage" ∷ []
+wiring_words wiring.BadKind = codes "wiring L8 BadKind" ∷ []
 wiring_words wiring.OutOfMemory = memory_words
 
 -- a fault of a plan, with its places

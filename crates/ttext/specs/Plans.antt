@@ -12,9 +12,9 @@ use Rattle.tplan.specs.declared.wiring.WiringNode.{WiringNode}
 
 -- a node with its image
 abbrev pub node_of : WiringNode × Image → NodePlan
-node_of p = record { memory = p.0.memory; image = p.1 }
+node_of p = record { memory = p.0.memory; kind = p.0.kind; image = p.1 }
 
--- each node has its own memory and image, in the order of the wiring; wires, sources and sinks are the wiring's
+-- each node has its own memory, kind and image, in the order of the wiring; wires, sources and sinks are the wiring's
 unfoldable pub plan_of : Wiring → List Image → Plan
 plan_of w images =
     record {

@@ -96,6 +96,7 @@ fn wiring_text(fault: WiringFault) -> &'static [u8]
         WiringFault::BadVersion => b"wiring L5 BadVersion",
         WiringFault::BadNumber => b"wiring L6 BadNumber",
         WiringFault::BadMessage => b"wiring L7 BadMessage",
+        WiringFault::BadKind => b"wiring L8 BadKind",
         WiringFault::OutOfMemory => b"memory",
     }
 }

@@ -102,8 +102,12 @@ fn node_plans(
     for file in files.into_vec() {
         let node = plans.len();
         let image = image_of_node(alloc, node, file.as_slice())?;
-        let memory = nodes[node].memory;
-        plans.push(NodePlan { memory, image })?;
+        let planned = &nodes[node];
+        plans.push(NodePlan {
+            memory: planned.memory,
+            kind: planned.kind,
+            image,
+        })?;
     }
     Ok(Items::new(plans))
 }

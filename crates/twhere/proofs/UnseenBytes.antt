@@ -49,7 +49,7 @@ module _ (n : Machine) (claimed : IsClaimed n) (apart : AreApart (claims_of n.co
   fetched_same iptr =
       value_same (Agree (claims_of n.control).inputs) _ _
       (run_from-matches (IsKept (claims_of n.control).inputs) (Agree (claims_of n.control).inputs)
-      (is_masking (claims_of n.control).inputs) (decode iptr) (hidden n).store n.store (hidden n).store n.store
+      (is_masking (claims_of n.control).inputs) (decode n.control.kind iptr) (hidden n).store n.store (hidden n).store n.store
       (claims_of n.control) agree agree (kept n claimed apart))
     where
       agree : Agree (claims_of n.control).inputs (hidden n).store n.store

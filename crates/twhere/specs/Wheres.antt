@@ -50,9 +50,9 @@ abbrev pub fetched_text : Result Instruction Break → List ℕ
 fetched_text (Ok i) = instruction_text i
 fetched_text (Err b) = break_name b
 
--- what a fetch at an address answers
+-- what a fetch at an address answers, by the kind of the node
 abbrev pub fetched_at : Machine → ℕ → Result Instruction Break
-fetched_at n iptr = value_of (run (decode iptr) n.store (claims_of n.control))
+fetched_at n iptr = value_of (run (decode n.control.kind iptr) n.store (claims_of n.control))
 
 -- a byte of the store, 0 where there is none
 abbrev pub byte_there : Store → ℕ → ℕ

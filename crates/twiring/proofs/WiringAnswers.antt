@@ -9,7 +9,7 @@ use Rattle.toml.specs.View.{view, items_view, members_view}
 use Rattle.toml.specs.declared.value.Value.{Value}
 use Rattle.tplan.specs.declared.wiring.WiringFault.{WiringFault}
 use Rattle.tplan.specs.declared.wiring.WiringFault.TheVariants.{OutOfMemory, Syntax, UnknownKey, MissingKey, WrongType}
-use Rattle.tplan.specs.declared.wiring.WiringFault.TheVariants.{BadVersion, BadNumber, BadMessage}
+use Rattle.tplan.specs.declared.wiring.WiringFault.TheVariants.{BadVersion, BadNumber, BadMessage, BadKind}
 use Rattle.twiring.specs.Wirings.{Names, is_one_of, has_unknown, IsWiringAnswer}
 use Rattle.twiring.specs.WiringParts.{Reading, lower, both, made, known, one_more, more_in, end_in}
 
@@ -23,6 +23,7 @@ lower-memory WrongType = refl
 lower-memory BadVersion = refl
 lower-memory BadNumber = refl
 lower-memory BadMessage = refl
+lower-memory BadKind = refl
 
 memory-lower : (f : WiringFault) → lower f OutOfMemory ≡ OutOfMemory
 memory-lower OutOfMemory = refl
@@ -33,6 +34,7 @@ memory-lower WrongType = refl
 memory-lower BadVersion = refl
 memory-lower BadNumber = refl
 memory-lower BadMessage = refl
+memory-lower BadKind = refl
 
 both-memory : {A B : Type 0} (a : Reading A) → both {B = B} a (Err OutOfMemory) ≡ Err OutOfMemory
 both-memory (Ok a) = refl

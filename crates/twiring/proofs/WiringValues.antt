@@ -12,9 +12,11 @@ use Rattle.tplan.specs.declared.event.PacketKind.{PacketKind}
 use Rattle.tplan.specs.declared.event.Hold.{Hold}
 use Rattle.tplan.specs.declared.wiring.Wiring.{Wiring}
 use Rattle.tplan.specs.declared.wiring.WiringNode.{WiringNode}
-use Rattle.twiring.specs.Wirings.{Names, has_unknown, root_keys, node_keys, wire_keys, source_keys, sink_keys}
+use Rattle.tword.specs.declared.kind.Kind.{Kind}
+use Rattle.twiring.specs.Wirings.{Names, has_unknown, is_first_in, root_keys, needed_node_keys, node_keys, wire_keys}
+use Rattle.twiring.specs.Wirings.{source_keys, sink_keys, has_bad_kind, node_kind_of}
 use Rattle.twiring.specs.Wirings.{hold_keys, lacks_one, has_wrong_type, tables_at, items_of, is_integer, is_text}
-use Rattle.twiring.specs.Wirings.{is_texts, is_end, is_kind, is_tables, is_wrong, is_bad, is_version, is_bad_message}
+use Rattle.twiring.specs.Wirings.{is_texts, is_end, is_kind, is_tables, is_wrong, is_bad, is_version, is_no_message}
 use Rattle.twiring.specs.Wirings.{has_bad_message, fails, number_of, number_at, text_of, end_of, kind_of, message_at}
 use Rattle.twiring.specs.Wirings.{default_timeslice, wiring_value, wiring_of}
 use Rattle.twiring.specs.WiringParts.{Reading, both, made, known, required, number_in, text_in, end_in, kind_in}
@@ -22,13 +24,14 @@ use Rattle.twiring.specs.WiringParts.{message_in, version_in, node_in, wire_in, 
 use Rattle.twiring.specs.WiringParts.{array_in, array_at, head_in, ends_in, Arrays, arrays_in, wiring_in}
 use Rattle.twiring.proofs.WiringTests.{Tests, passed, either, tested, judged, same_judged, both-judged, made-judged}
 use Rattle.twiring.proofs.WiringTests.{known-judged, required-judged, timeslice-judged, never, is_good_number}
+use Rattle.twiring.proofs.WiringTests.{node_kind_or_one-judged}
 use Rattle.twiring.proofs.WiringTests.{number_in-judged, text_in-judged, end_in-judged, kind_in-judged}
 use Rattle.twiring.proofs.WiringTests.{messages_in-judged, version_in-judged, array-judged}
 
 -- a number, a text, an end, a kind, messages and a version that have to be there
 number-judged : (key : List ℕ) (t : Members)
     → required number_in key t
-    ≡ judged (tested false (is_none (get_member key t)) (is_wrong is_integer key t) (is_bad key t) false)
+    ≡ judged (tested false (is_none (get_member key t)) (is_wrong is_integer key t) (is_bad key t) false false)
     (number_at key t)
 number-judged key t =
     required-judged number_in (fails is_integer) never (fails is_good_number) never (λ o. number_of o 0)
@@ -36,20 +39,20 @@ number-judged key t =
 
 text-judged : (key : List ℕ) (t : Members)
     → required text_in key t
-    ≡ judged (tested false (is_none (get_member key t)) (is_wrong is_text key t) false false)
+    ≡ judged (tested false (is_none (get_member key t)) (is_wrong is_text key t) false false false)
     (text_of (get_member key t))
 text-judged key t = required-judged text_in (fails is_text) never never never text_of text_in-judged (get_member key t)
 
 end-judged : (key : List ℕ) (t : Members)
     → required end_in key t
-    ≡ judged (tested false (is_none (get_member key t)) (is_wrong is_end key t) (is_bad key t) false)
+    ≡ judged (tested false (is_none (get_member key t)) (is_wrong is_end key t) (is_bad key t) false false)
     (end_of (get_member key t))
 end-judged key t =
     required-judged end_in (fails is_end) never (fails is_good_number) never end_of end_in-judged (get_member key t)
 
 kind-judged : (key : List ℕ) (t : Members)
     → required kind_in key t
-    ≡ judged (tested false (is_none (get_member key t)) (is_wrong is_kind key t) false false)
+    ≡ judged (tested false (is_none (get_member key t)) (is_wrong is_kind key t) false false false)
     (kind_of (get_member key t))
 kind-judged key t = required-judged kind_in (fails is_kind) never never never kind_of kind_in-judged (get_member key t)
 
@@ -57,10 +60,10 @@ messages-judged : (key : List ℕ) (t : Members)
     → required (array_in message_in) key t
     ≡ judged
     (tested false (is_none (get_member key t)) (is_wrong is_texts key t) false
-    (list_any is_bad_message (items_of (get_member key t))))
+    (list_any is_no_message (items_of (get_member key t))) false)
     (map message_at (items_of (get_member key t)))
 messages-judged key t =
-    required-judged (array_in message_in) (fails is_texts) never never (λ o. list_any is_bad_message (items_of o))
+    required-judged (array_in message_in) (fails is_texts) never never (λ o. list_any is_no_message (items_of o))
     (λ o. map message_at (items_of o)) messages_in-judged (get_member key t)
 
 version-judged : (key : List ℕ) (t : Members)
@@ -74,48 +77,66 @@ version-judged key t =
     required-judged version_in (fails is_integer) (fails is_version) never never (λ o. tt) version_in-judged
     (get_member key t)
 
--- a table by its parts, where the parts lack a key where the table does
-abbrev table_tests : Names → (Members → Bool) → (Members → Bool) → (Members → Bool) → Members → Tests
-table_tests names wrong number message t =
-    tested (has_unknown names t) (lacks_one names t) (wrong t) (number t) (message t)
+-- a table by its parts, where the parts lack a key where the table lacks one that is needed
+abbrev table_tests : (names needed : Names) → (wrong number message kind : Members → Bool) → Members → Tests
+table_tests names needed wrong number message kind t =
+    tested (has_unknown names t) (lacks_one needed t) (wrong t) (number t) (message t) (kind t)
 
-table-judged : {A B : Type 0} (names : Names) (t : Members) (make : A → B) (parts : Reading A) (s : Tests)
-    (wrong number message : Members → Bool) (x : A)
-    → parts ≡ judged s x → s.unknown ≡ false → s.missing ≡ lacks_one names t → s.wrong ≡ wrong t → s.version ≡ false
-    → s.number ≡ number t → s.message ≡ message t
-    → known names t (made make parts) ≡ judged (table_tests names wrong number message t) (make x)
-table-judged names t make parts s wrong number message x h u m w v n g =
+table-judged : {A B : Type 0} (names needed : Names) (t : Members) (make : A → B) (parts : Reading A) (s : Tests)
+    (wrong number message kind : Members → Bool) (x : A)
+    → parts ≡ judged s x → s.unknown ≡ false → s.missing ≡ lacks_one needed t → s.wrong ≡ wrong t → s.version ≡ false
+    → s.number ≡ number t → s.message ≡ message t → s.kind ≡ kind t
+    → known names t (made make parts) ≡ judged (table_tests names needed wrong number message kind t) (make x)
+table-judged names needed t make parts s wrong number message kind x h u m w v n g k =
     ap (λ p. known names t (made make p)) h ∙ ap (known names t) (made-judged make s x)
     ∙ known-judged names t s (make x)
-    ∙ same_judged _ _ _ (ap (λ u. has_unknown names t || u) u ∙ or-false (has_unknown names t)) m w v n g
+    ∙ same_judged _ _ _ (ap (λ u. has_unknown names t || u) u ∙ or-false (has_unknown names t)) m w v n g k
 
 -- two keys
 two-missing : (a b : Bool) → (a || b) ≡ (a || (b || false))
 two-missing a b = ap (λ b. a || b) (sym (or-false b))
 
--- no message
-abbrev no_message : Members → Bool
-no_message t = false
+-- no message, and no kind
+abbrev none_in : Members → Bool
+none_in t = false
 
 -- nodes
 abbrev node_wrong : Members → Bool
-node_wrong t = is_wrong is_integer (codes "memory") t || is_wrong is_text (codes "image") t
+node_wrong t =
+    is_wrong is_integer (codes "memory") t || is_wrong is_integer (codes "kind") t || is_wrong is_text (codes "image") t
 
 abbrev node_bad : Members → Bool
-node_bad t = is_bad (codes "memory") t
+node_bad t = is_bad (codes "memory") t || is_bad (codes "kind") t
 
-abbrev node_from : ℕ × List ℕ → WiringNode
-node_from p = record { memory = p.0; image = p.1 }
+abbrev pub node_from : ℕ × (Kind × List ℕ) → WiringNode
+node_from p = record { memory = p.0; kind = p.1.0; image = p.1.1 }
 
 abbrev node_value : Members → WiringNode
-node_value t = node_from (number_at (codes "memory") t, text_of (get_member (codes "image") t))
+node_value t = node_from (
+  number_at (codes "memory") t,
+  (node_kind_of (get_member (codes "kind") t), text_of (get_member (codes "image") t)),
+)
 
-node_in-judged : (t : Members)
-    → node_in t ≡ judged (table_tests node_keys node_wrong node_bad no_message t) (node_value t)
-node_in-judged t =
-    table-judged node_keys t node_from _ _ node_wrong node_bad no_message _
-    (ap₂ both (number-judged (codes "memory") t) (text-judged (codes "image") t) ∙ both-judged _ _ _ _)
-    refl (two-missing _ _) refl refl (or-false (node_bad t)) refl
+node_wrong-parts : (a b c : Bool) → (a || (b || c)) ≡ (a || b || c)
+node_wrong-parts a b c = sym (or_assoc a b c)
+
+node_bad-parts : (a b : Bool) → (a || (b || false)) ≡ (a || b)
+node_bad-parts a b = ap (λ b. a || b) (or-false b)
+
+node_in-judged : (first : Bool) (t : Members)
+    → node_in first t
+    ≡ judged (table_tests (node_keys first) needed_node_keys node_wrong node_bad none_in has_bad_kind t) (node_value t)
+node_in-judged first t =
+    table-judged (node_keys first) needed_node_keys t node_from _ _ node_wrong node_bad none_in has_bad_kind _
+    (ap₂ both (number-judged (codes "memory") t)
+    (ap₂ both (node_kind_or_one-judged (get_member (codes "kind") t)) (text-judged (codes "image") t)
+    ∙ both-judged _ _ _ _)
+    ∙ both-judged _ _ _ _)
+    refl (two-missing _ _)
+    (node_wrong-parts (is_wrong is_integer (codes "memory") t) (is_wrong is_integer (codes "kind") t)
+    (is_wrong is_text (codes "image") t))
+    refl (node_bad-parts (is_bad (codes "memory") t) (is_bad (codes "kind") t)) refl
+    (or-false (has_bad_kind t))
 
 -- wires
 abbrev wire_wrong : Members → Bool
@@ -131,11 +152,11 @@ abbrev wire_value : Members → Wire
 wire_value t = wire_from (end_of (get_member (codes "a") t), end_of (get_member (codes "b") t))
 
 wire_in-judged : (t : Members)
-    → wire_in t ≡ judged (table_tests wire_keys wire_wrong wire_bad no_message t) (wire_value t)
+    → wire_in t ≡ judged (table_tests wire_keys wire_keys wire_wrong wire_bad none_in none_in t) (wire_value t)
 wire_in-judged t =
-    table-judged wire_keys t wire_from _ _ wire_wrong wire_bad no_message _
+    table-judged wire_keys wire_keys t wire_from _ _ wire_wrong wire_bad none_in none_in _
     (ap₂ both (end-judged (codes "a") t) (end-judged (codes "b") t) ∙ both-judged _ _ _ _)
-    refl (two-missing _ _) refl refl refl refl
+    refl (two-missing _ _) refl refl refl refl refl
 
 -- sources
 abbrev source_wrong : Members → Bool
@@ -152,11 +173,11 @@ source_value t =
     source_from (end_of (get_member (codes "end") t), map message_at (items_of (get_member (codes "messages") t)))
 
 source_in-judged : (t : Members)
-    → source_in t ≡ judged (table_tests source_keys source_wrong source_bad has_bad_message t) (source_value t)
+    → source_in t ≡ judged (table_tests source_keys source_keys source_wrong source_bad has_bad_message none_in t) (source_value t)
 source_in-judged t =
-    table-judged source_keys t source_from _ _ source_wrong source_bad has_bad_message _
+    table-judged source_keys source_keys t source_from _ _ source_wrong source_bad has_bad_message none_in _
     (ap₂ both (end-judged (codes "end") t) (messages-judged (codes "messages") t) ∙ both-judged _ _ _ _)
-    refl (two-missing _ _) refl refl (or-false (source_bad t)) refl
+    refl (two-missing _ _) refl refl (or-false (source_bad t)) refl refl
 
 -- sinks
 abbrev sink_wrong : Members → Bool
@@ -172,11 +193,11 @@ abbrev sink_value : Members → SinkPlan
 sink_value t = sink_from (end_of (get_member (codes "end") t), number_at (codes "capacity") t)
 
 sink_in-judged : (t : Members)
-    → sink_in t ≡ judged (table_tests sink_keys sink_wrong sink_bad no_message t) (sink_value t)
+    → sink_in t ≡ judged (table_tests sink_keys sink_keys sink_wrong sink_bad none_in none_in t) (sink_value t)
 sink_in-judged t =
-    table-judged sink_keys t sink_from _ _ sink_wrong sink_bad no_message _
+    table-judged sink_keys sink_keys t sink_from _ _ sink_wrong sink_bad none_in none_in _
     (ap₂ both (end-judged (codes "end") t) (number-judged (codes "capacity") t) ∙ both-judged _ _ _ _)
-    refl (two-missing _ _) refl refl refl refl
+    refl (two-missing _ _) refl refl refl refl refl
 
 -- holds
 abbrev hold_wrong : Members → Bool
@@ -205,10 +226,10 @@ pairs-bad : (a b c : Bool) → ((a || false) || (b || c)) ≡ (a || b || c)
 pairs-bad a b c = ap (λ a. a || (b || c)) (or-false a) ∙ sym (or_assoc a b c)
 
 hold_in-judged : (t : Members)
-    → hold_in t ≡ judged (table_tests hold_keys hold_wrong hold_bad no_message t) (hold_value t)
+    → hold_in t ≡ judged (table_tests hold_keys hold_keys hold_wrong hold_bad none_in none_in t) (hold_value t)
 hold_in-judged t =
     let missing : List ℕ → Bool = λ key. is_none (get_member key t) in
-    table-judged hold_keys t hold_from _ _ hold_wrong hold_bad no_message _
+    table-judged hold_keys hold_keys t hold_from _ _ hold_wrong hold_bad none_in none_in _
     (ap₂ both (ap₂ both (end-judged (codes "end") t) (kind-judged (codes "kind") t) ∙ both-judged _ _ _ _)
     (ap₂ both (number-judged (codes "from") t) (number-judged (codes "until") t) ∙ both-judged _ _ _ _)
     ∙ both-judged _ _ _ _)
@@ -216,7 +237,7 @@ hold_in-judged t =
     (pairs-missing (missing (codes "end")) (missing (codes "kind")) (missing (codes "from")) (missing (codes "until")))
     (pairs-wrong (is_wrong is_end (codes "end") t) (is_wrong is_kind (codes "kind") t)
     (is_wrong is_integer (codes "from") t) (is_wrong is_integer (codes "until") t))
-    refl (pairs-bad (is_bad (codes "end") t) (is_bad (codes "from") t) (is_bad (codes "until") t)) refl
+    refl (pairs-bad (is_bad (codes "end") t) (is_bad (codes "from") t) (is_bad (codes "until") t)) refl refl
 
 -- version and timeslice
 abbrev slice_of : Members → Option Data
@@ -237,40 +258,43 @@ head_in-judged t =
     (ap₂ both (version-judged (codes "version") t) (timeslice-judged default_timeslice (slice_of t))
     ∙ both-judged _ _ _ _)
     ∙ made-judged (λ (p : Unit {0} × ℕ). p.1) _ _
-    ∙ same_judged _ (head_tests t) _ refl refl refl (or-false (is_wrong is_version (codes "version") t)) refl refl
+    ∙ same_judged _ (head_tests t) _ refl refl refl (or-false (is_wrong is_version (codes "version") t)) refl refl refl
 
 -- the tests of an array
 abbrev pub any_at : (Members → Bool) → List ℕ → Members → Bool
 any_at test key t = list_any test (tables_at key t)
 
-abbrev array_tests : Names → (Members → Bool) → (Members → Bool) → (Members → Bool) → List ℕ → Members → Tests
-array_tests names wrong number message key t =
-    tested (any_at (has_unknown names) key t) (any_at (lacks_one names) key t)
-    (is_wrong is_tables key t || any_at wrong key t) (any_at number key t) (any_at message key t)
+abbrev array_tests : (names needed : Names) → (wrong number message kind : Members → Bool) → List ℕ → Members → Tests
+array_tests names needed wrong number message kind key t =
+    tested (any_at (has_unknown names) key t) (any_at (lacks_one needed) key t)
+    (is_wrong is_tables key t || any_at wrong key t) (any_at number key t) (any_at message key t) (any_at kind key t)
 
-arrays-judged : {A : Type 0} (part : Members → Reading A) (names : Names) (wrong number message : Members → Bool)
-    (value : Members → A)
-    → ((t : Members) → part t ≡ judged (table_tests names wrong number message t) (value t))
+arrays-judged : {A : Type 0} (part : Members → Reading A) (names needed : Names)
+    (wrong number message kind : Members → Bool) (value : Members → A)
+    → ((t : Members) → part t ≡ judged (table_tests names needed wrong number message kind t) (value t))
     → (key : List ℕ) (t : Members)
-    → array_at part key t ≡ judged (array_tests names wrong number message key t) (map value (tables_at key t))
-arrays-judged part names wrong number message value parts key t =
-    array-judged part (has_unknown names) (lacks_one names) wrong number message value parts (get_member key t)
+    → array_at part key t
+    ≡ judged (array_tests names needed wrong number message kind key t) (map value (tables_at key t))
+arrays-judged part names needed wrong number message kind value parts key t =
+    array-judged part (has_unknown names) (lacks_one needed) wrong number message kind value parts (get_member key t)
 
 -- the tests of the nodes, wires, sources, sinks and holds
 abbrev nodes_tests : Members → Tests
-nodes_tests t = array_tests node_keys node_wrong node_bad no_message (codes "node") t
+nodes_tests t =
+    array_tests (node_keys (is_first_in t)) needed_node_keys node_wrong node_bad none_in has_bad_kind (codes "node") t
 
 abbrev wires_tests : Members → Tests
-wires_tests t = array_tests wire_keys wire_wrong wire_bad no_message (codes "wire") t
+wires_tests t = array_tests wire_keys wire_keys wire_wrong wire_bad none_in none_in (codes "wire") t
 
 abbrev sources_tests : Members → Tests
-sources_tests t = array_tests source_keys source_wrong source_bad has_bad_message (codes "source") t
+sources_tests t =
+    array_tests source_keys source_keys source_wrong source_bad has_bad_message none_in (codes "source") t
 
 abbrev sinks_tests : Members → Tests
-sinks_tests t = array_tests sink_keys sink_wrong sink_bad no_message (codes "sink") t
+sinks_tests t = array_tests sink_keys sink_keys sink_wrong sink_bad none_in none_in (codes "sink") t
 
 abbrev holds_tests : Members → Tests
-holds_tests t = array_tests hold_keys hold_wrong hold_bad no_message (codes "hold") t
+holds_tests t = array_tests hold_keys hold_keys hold_wrong hold_bad none_in none_in (codes "hold") t
 
 abbrev arrays_value : Members → Arrays
 arrays_value t = (
@@ -285,9 +309,10 @@ ends_in-judged : (t : Members)
     → ends_in t ≡ judged (either (sources_tests t) (sinks_tests t)) (arrays_value t).1.0
 ends_in-judged t =
     ap₂ both
-    (arrays-judged source_in source_keys source_wrong source_bad has_bad_message source_value source_in-judged
-    (codes "source") t)
-    (arrays-judged sink_in sink_keys sink_wrong sink_bad no_message sink_value sink_in-judged (codes "sink") t)
+    (arrays-judged source_in source_keys source_keys source_wrong source_bad has_bad_message none_in source_value
+    source_in-judged (codes "source") t)
+    (arrays-judged sink_in sink_keys sink_keys sink_wrong sink_bad none_in none_in sink_value sink_in-judged
+    (codes "sink") t)
     ∙ both-judged _ _ _ _
 
 arrays_in-judged : (t : Members) → arrays_in t
@@ -297,11 +322,14 @@ arrays_in-judged : (t : Members) → arrays_in t
 arrays_in-judged t =
     ap₂ both
     (ap₂ both
-    (arrays-judged node_in node_keys node_wrong node_bad no_message node_value node_in-judged (codes "node") t)
-    (arrays-judged wire_in wire_keys wire_wrong wire_bad no_message wire_value wire_in-judged (codes "wire") t)
+    (arrays-judged (node_in (is_first_in t)) (node_keys (is_first_in t)) needed_node_keys node_wrong node_bad none_in
+    has_bad_kind node_value (node_in-judged (is_first_in t)) (codes "node") t)
+    (arrays-judged wire_in wire_keys wire_keys wire_wrong wire_bad none_in none_in wire_value wire_in-judged
+    (codes "wire") t)
     ∙ both-judged _ _ _ _)
     (ap₂ both (ends_in-judged t)
-    (arrays-judged hold_in hold_keys hold_wrong hold_bad no_message hold_value hold_in-judged (codes "hold") t)
+    (arrays-judged hold_in hold_keys hold_keys hold_wrong hold_bad none_in none_in hold_value hold_in-judged
+    (codes "hold") t)
     ∙ both-judged _ _ _ _)
     ∙ both-judged _ _ _ _
 
@@ -333,8 +361,8 @@ wrong_by_kind r a x b y c z d p e q =
     ∙ ap (λ k. k || ((x || y) || ((z || p) || q))) (one_by_one r a b c d e)
     ∙ one_by_one (r || a || b || c || d || e) x y z p q
 
--- only sources have messages
-none_of : (ts : List Members) → list_any no_message ts ≡ false
+-- only sources have messages, and only nodes kinds
+none_of : (ts : List Members) → list_any none_in ts ≡ false
 none_of [] = refl
 none_of (t ∷ ts) = none_of ts
 
@@ -342,6 +370,11 @@ sources_alone : (n w s k h : Bool) → n ≡ false → w ≡ false → k ≡ fal
     → ((n || w) || ((s || k) || h)) ≡ s
 sources_alone n w s k h a b c d =
     ap₂ (λ l m. l || m) (ap₂ (λ n w. n || w) a b) (ap₂ (λ l h. l || h) (ap (λ k. s || k) c ∙ or-false s) d ∙ or-false s)
+
+nodes_alone : (n w s k h : Bool) → w ≡ false → s ≡ false → k ≡ false → h ≡ false
+    → ((n || w) || ((s || k) || h)) ≡ n
+nodes_alone n w s k h a b c d =
+    ap₂ (λ l m. l || m) (ap (λ w. n || w) a ∙ or-false n) (ap₂ (λ l h. l || h) (ap₂ (λ s k. s || k) b c) d) ∙ or-false n
 
 abbrev pub wiring_from : ℕ × Arrays → Wiring
 wiring_from p =
@@ -366,14 +399,15 @@ anywhere root node wire source sink hold t =
 abbrev whole_tests : Members → Tests
 whole_tests t =
     record {
-      unknown = anywhere (has_unknown (root_keys t) t) (has_unknown node_keys) (has_unknown wire_keys)
-          (has_unknown source_keys) (has_unknown sink_keys) (has_unknown hold_keys) t;
-      missing = anywhere (lacks_one (codes "version" ∷ []) t) (lacks_one node_keys) (lacks_one wire_keys)
+      unknown = anywhere (has_unknown (root_keys t) t) (has_unknown (node_keys (is_first_in t)))
+          (has_unknown wire_keys) (has_unknown source_keys) (has_unknown sink_keys) (has_unknown hold_keys) t;
+      missing = anywhere (lacks_one (codes "version" ∷ []) t) (lacks_one needed_node_keys) (lacks_one wire_keys)
           (lacks_one source_keys) (lacks_one sink_keys) (lacks_one hold_keys) t;
       wrong = has_wrong_type t;
       version = is_wrong is_version (codes "version") t;
       number = anywhere (is_bad (codes "timeslice") t) node_bad wire_bad source_bad sink_bad hold_bad t;
       message = any_at has_bad_message (codes "source") t;
+      kind = any_at has_bad_kind (codes "node") t;
     }
 
 wiring_in-judged : (t : Members) → wiring_in t ≡ judged (whole_tests t) (wiring_value t)
@@ -400,6 +434,9 @@ wiring_in-judged t =
     (one_by_one (is_bad (codes "timeslice") t) n.number w.number s.number k.number h.number)
     (sources_alone n.message w.message s.message k.message h.message (none_of (tables_at (codes "node") t))
     (none_of (tables_at (codes "wire") t)) (none_of (tables_at (codes "sink") t))
+    (none_of (tables_at (codes "hold") t)))
+    (nodes_alone n.kind w.kind s.kind k.kind h.kind (none_of (tables_at (codes "wire") t))
+    (none_of (tables_at (codes "source") t)) (none_of (tables_at (codes "sink") t))
     (none_of (tables_at (codes "hold") t)))
 
 -- each wiring by its parts

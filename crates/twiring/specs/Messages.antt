@@ -1,8 +1,8 @@
 -- The bytes of a message of a wiring, which are written in hexadecimal.
 -- Source: own choice; RFC 4648, section 8, for pairs of digits.
-use Rattle.std.specs.Prelude.{ℕ, ◌+◌, ◌*◌, ◌&&◌, nat_lt, nat_le, List, [], ◌∷◌, length, Option, Some, None}
-use Rattle.std.specs.Prelude.{if◌then◌else◌}
+use Rattle.std.specs.Prelude.{ℕ, ◌+◌, ◌*◌, List, [], ◌∷◌, Option, Some, None, if◌then◌else◌}
 use Rattle.hex.specs.Hex.{hex_digit_value}
+use Rattle.tword.specs.Limits.{is_bad_message}
 
 -- the byte of two digits, the first of which counts sixteens
 abbrev pub byte_of : Option ℕ → Option ℕ → Option ℕ
@@ -22,7 +22,7 @@ bytes_of (high ∷ low ∷ rest) = before (byte_of (hex_digit_value high) (hex_d
 
 -- bytes that a message may have: 1 to 4,096
 abbrev pub of_a_message : Option (List ℕ) → Option (List ℕ)
-of_a_message (Some bytes) = if nat_lt 0 (length bytes) && nat_le (length bytes) 4096 then Some bytes else None
+of_a_message (Some bytes) = if is_bad_message bytes then None else Some bytes
 of_a_message None = None
 
 -- the bytes of a message

@@ -1,10 +1,11 @@
 -- Wirings that the definitions compute.
-use Rattle.std.specs.Prelude.{ℕ, ◌≡◌, pos, List, [], ◌∷◌, ◌++◌, Ok, Err, Some, None, refl, codes, replicate}
+use Rattle.std.specs.Prelude.{ℕ, ◌≡◌, pos, negsuc, List, [], ◌∷◌, ◌++◌, Ok, Err, Some, None, refl, codes, replicate}
 use Rattle.toml.specs.Data.{string, integer, array, table, no_items, item, Data, Members, no_members, member}
 use Rattle.toml.proofs.OnLiterals.{toml_on_literals}
 use Rattle.tplan.specs.declared.event.PacketKind.TheVariants as kind
 use Rattle.tplan.specs.declared.wiring.WiringFault.TheVariants.{Syntax, UnknownKey, MissingKey, WrongType, BadVersion}
-use Rattle.tplan.specs.declared.wiring.WiringFault.TheVariants.{BadNumber, BadMessage}
+use Rattle.tplan.specs.declared.wiring.WiringFault.TheVariants.{BadNumber, BadMessage, BadKind}
+use Rattle.tword.specs.declared.kind.Kind.TheVariants.{One, Two}
 use Rattle.twiring.specs.Messages.{message_of}
 use Rattle.twiring.specs.Wirings.{wiring_of, wiring_of_text}
 
@@ -23,7 +24,7 @@ whole =
 whole-read : wiring_of_text whole
     ≡ Ok (record {
       timeslice = 512;
-      nodes = record { memory = 2048; image = codes "a.img" } ∷ [];
+      nodes = record { memory = 2048; kind = One; image = codes "a.img" } ∷ [];
       wires = record { a = record { node = 0; link = 1 }; b = record { node = 1; link = 2 } } ∷ [];
       sources = [];
       sinks = [];
@@ -42,7 +43,7 @@ second =
 second-read : wiring_of_text second
     ≡ Ok (record {
       timeslice = 1024;
-      nodes = record { memory = 2048; image = codes "a.img" } ∷ [];
+      nodes = record { memory = 2048; kind = One; image = codes "a.img" } ∷ [];
       wires = [];
       sources = record {
         «end» = record { node = 0; link = 2 };
@@ -220,3 +221,71 @@ no_messages : wiring_of (one_of (codes "source") (source_of (array no_items)) (v
     })
 unfolding wiring_of
 no_messages = refl
+
+-- nodes of both kinds, the first of which names none
+abbrev kinds : List ℕ
+kinds =
+    lines (codes "version = 2" ∷ codes "[[node]]" ∷ codes "memory = 2048" ∷ codes "image = 'a.img'"
+    ∷ codes "[[node]]" ∷ codes "memory = 16777216" ∷ codes "kind = 2" ∷ codes "image = 'b.img'"
+    ∷ codes "[[node]]" ∷ codes "memory = 4096" ∷ codes "kind = 1" ∷ codes "image = 'c.img'" ∷ [])
+
+kinds-read : wiring_of_text kinds
+    ≡ Ok (record {
+      timeslice = 1024;
+      nodes = record { memory = 2048; kind = One; image = codes "a.img" }
+          ∷ record { memory = 16777216; kind = Two; image = codes "b.img" }
+          ∷ record { memory = 4096; kind = One; image = codes "c.img" }
+          ∷ [];
+      wires = [];
+      sources = [];
+      sinks = [];
+      holds = [];
+    })
+unfolding toml_on_literals wiring_of
+kinds-read = refl
+
+-- a wiring of a version with one node of a kind
+abbrev node_of : ℕ → Data → Members → Members
+node_of v kind rest =
+    one_of (codes "node")
+    (member (codes "memory") (integer (pos 2048))
+    (member (codes "image") (string (codes "a.img")) (member (codes "kind") kind no_members)))
+    (version_is v rest)
+
+-- version 1 has no kind of a node, whatever it is; under no version and under other ones keys are those of version 2
+no_kind_at_first : wiring_of (node_of 1 (integer (pos 1)) no_members) ≡ Err UnknownKey
+unfolding wiring_of
+no_kind_at_first = refl
+
+kind_at_third : wiring_of (node_of 3 (integer (pos 2)) no_members) ≡ Err BadVersion
+unfolding wiring_of
+kind_at_third = refl
+
+kind_without_version : wiring_of
+    (one_of (codes "node") (member (codes "kind") (integer (pos 2)) no_members) no_members) ≡ Err MissingKey
+unfolding wiring_of
+kind_without_version = refl
+
+-- faults of kinds
+kind_no_integer : wiring_of (node_of 2 (string (codes "2")) no_members) ≡ Err WrongType
+unfolding wiring_of
+kind_no_integer = refl
+
+kind_no_number : wiring_of (node_of 2 (integer (negsuc 0)) no_members) ≡ Err BadNumber
+unfolding wiring_of
+kind_no_number = refl
+
+third_kind : wiring_of (node_of 2 (integer (pos 3)) no_members) ≡ Err BadKind
+unfolding wiring_of
+third_kind = refl
+
+no_kind_zero : wiring_of (node_of 2 (integer (pos 0)) no_members) ≡ Err BadKind
+unfolding wiring_of
+no_kind_zero = refl
+
+-- a bad message is told before a bad kind
+bad_kind_last : wiring_of
+    (node_of 2 (integer (pos 3)) (one_of (codes "source") (source_of (array (item (string []) no_items))) no_members))
+    ≡ Err BadMessage
+unfolding wiring_of
+bad_kind_last = refl

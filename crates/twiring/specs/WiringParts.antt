@@ -1,6 +1,6 @@
 -- A wiring by its parts: what a key or a table stands for, or the lowest fault in it.
 -- Source: own choice.
-use Rattle.std.specs.Prelude.{ℕ, ℤ, pos, negsuc, ◌^◌, ◌==◌, ◌||◌, nat_lt, List, [], ◌∷◌, ◌++◌, Option, Some, None}
+use Rattle.std.specs.Prelude.{ℕ, ℤ, pos, negsuc, Bool, ◌^◌, ◌==◌, ◌||◌, nat_lt, List, [], ◌∷◌, ◌++◌, Option, Some, None}
 use Rattle.std.specs.Prelude.{Result, Ok, Err, codes, bytes_eq, if◌then◌else◌}
 use Rattle.toml.specs.Data.{Data, string, integer, array, table, Items, no_items, item, Members, get_member}
 use Rattle.tplan.specs.declared.plan.End.{End}
@@ -12,12 +12,14 @@ use Rattle.tplan.specs.declared.event.PacketKind.TheVariants as kind
 use Rattle.tplan.specs.declared.event.Hold.{Hold}
 use Rattle.tplan.specs.declared.wiring.WiringFault.{WiringFault}
 use Rattle.tplan.specs.declared.wiring.WiringFault.TheVariants.{OutOfMemory, Syntax, UnknownKey, MissingKey, WrongType}
-use Rattle.tplan.specs.declared.wiring.WiringFault.TheVariants.{BadVersion, BadNumber, BadMessage}
+use Rattle.tplan.specs.declared.wiring.WiringFault.TheVariants.{BadVersion, BadNumber, BadMessage, BadKind}
 use Rattle.tplan.specs.declared.wiring.Wiring.{Wiring}
 use Rattle.tplan.specs.declared.wiring.WiringNode.{WiringNode}
+use Rattle.tword.specs.declared.kind.Kind.{Kind}
+use Rattle.tword.specs.declared.kind.Kind.TheVariants.{One, Two}
 use Rattle.twiring.specs.Messages.{message_of}
-use Rattle.twiring.specs.Wirings.{Names, has_unknown, root_keys, node_keys, wire_keys, source_keys, sink_keys}
-use Rattle.twiring.specs.Wirings.{hold_keys, default_timeslice}
+use Rattle.twiring.specs.Wirings.{Names, has_unknown, is_first_in, root_keys, node_keys, wire_keys, source_keys}
+use Rattle.twiring.specs.Wirings.{sink_keys, hold_keys, default_timeslice}
 
 -- what a part stands for, or its lowest fault
 abbrev pub Reading : Type 0 → Type 0
@@ -33,6 +35,7 @@ rank WrongType = 4
 rank BadVersion = 5
 rank BadNumber = 6
 rank BadMessage = 7
+rank BadKind = 8
 
 -- the lower of two faults
 abbrev pub lower : WiringFault → WiringFault → WiringFault
@@ -82,6 +85,14 @@ abbrev pub end_in : Data → Reading End
 end_in (array (item n (item l no_items))) =
     made (λ p. record { node = p.0; link = p.1 }) (both (number_in n) (number_in l))
 end_in _ = Err WrongType
+
+-- the kind of nodes of a number
+abbrev pub node_kind : Reading ℕ → Reading Kind
+node_kind (Ok n) = if n == 2 then Ok Two else if n == 1 then Ok One else Err BadKind
+node_kind (Err f) = Err f
+
+abbrev pub node_kind_in : Data → Reading Kind
+node_kind_in d = node_kind (number_in d)
 
 -- a kind of packet
 abbrev pub kind_of_text : List ℕ → Reading PacketKind
@@ -133,11 +144,15 @@ array_in part _ = Err WrongType
 abbrev pub array_at : {A : Type 0} → (Members → Reading A) → List ℕ → Members → Reading (List A)
 array_at part key t = value_or (Ok []) (array_in (table_in part)) (get_member key t)
 
--- a node
-abbrev pub node_in : Members → Reading WiringNode
-node_in t =
-    known node_keys t (made (λ p. record { memory = p.0; image = p.1 })
-    (both (required number_in (codes "memory") t) (required text_in (codes "image") t)))
+-- the kind of a node, which is 1 where none is named
+abbrev pub node_kind_at : Members → Reading Kind
+node_kind_at t = value_or (Ok One) node_kind_in (get_member (codes "kind") t)
+
+-- a node, where the version is 1 and where not
+abbrev pub node_in : Bool → Members → Reading WiringNode
+node_in first t =
+    known (node_keys first) t (made (λ p. record { memory = p.0; kind = p.1.0; image = p.1.1 })
+    (both (required number_in (codes "memory") t) (both (node_kind_at t) (required text_in (codes "image") t))))
 
 -- a wire
 abbrev pub wire_in : Members → Reading Wire
@@ -186,7 +201,7 @@ Arrays = (List WiringNode × List Wire) × ((List SourcePlan × List SinkPlan) �
 
 abbrev pub arrays_in : Members → Reading Arrays
 arrays_in t =
-    both (both (array_at node_in (codes "node") t) (array_at wire_in (codes "wire") t))
+    both (both (array_at (node_in (is_first_in t)) (codes "node") t) (array_at wire_in (codes "wire") t))
     (both (ends_in t) (array_at hold_in (codes "hold") t))
 
 -- a wiring

@@ -12,8 +12,10 @@ use Rattle.tplan.specs.declared.event.PacketKind.{PacketKind}
 use Rattle.tplan.specs.declared.event.PacketKind.TheVariants as kind
 use Rattle.tplan.specs.declared.wiring.WiringFault.{WiringFault}
 use Rattle.tplan.specs.declared.wiring.WiringFault.TheVariants.{OutOfMemory, Syntax, UnknownKey, MissingKey, WrongType}
-use Rattle.tplan.specs.declared.wiring.WiringFault.TheVariants.{BadVersion, BadNumber, BadMessage}
+use Rattle.tplan.specs.declared.wiring.WiringFault.TheVariants.{BadVersion, BadNumber, BadMessage, BadKind}
 use Rattle.tplan.specs.declared.wiring.Wiring.{Wiring}
+use Rattle.tword.specs.declared.kind.Kind.{Kind}
+use Rattle.tword.specs.declared.kind.Kind.TheVariants.{One, Two}
 use Rattle.twiring.specs.Messages.{message_of}
 
 -- the names of some keys
@@ -36,13 +38,22 @@ root_keys_of false =
     codes "version" ∷ codes "timeslice" ∷ codes "node" ∷ codes "wire" ∷ codes "source" ∷ codes "sink" ∷ codes "hold"
     ∷ []
 
+-- the version of the whole is 1
+abbrev pub is_first_in : Members → Bool
+is_first_in t = is_first (get_member (codes "version") t)
+
 -- the keys of the whole
 abbrev pub root_keys : Members → Names
-root_keys t = root_keys_of (is_first (get_member (codes "version") t))
+root_keys t = root_keys_of (is_first_in t)
 
--- the keys of a node
-abbrev pub node_keys : Names
-node_keys = codes "memory" ∷ codes "image" ∷ []
+-- the keys that each node has
+abbrev pub needed_node_keys : Names
+needed_node_keys = codes "memory" ∷ codes "image" ∷ []
+
+-- the keys of a node, where the version is 1 and where not
+abbrev pub node_keys : Bool → Names
+node_keys true = needed_node_keys
+node_keys false = codes "memory" ∷ codes "kind" ∷ codes "image" ∷ []
 
 -- the keys of a wire
 abbrev pub wire_keys : Names
@@ -108,7 +119,7 @@ abbrev pub is_end : Data → Bool
 is_end (array (item (integer n) (item (integer l) no_items))) = true
 is_end _ = false
 
--- a value names one of the two kinds
+-- a value names one of the two kinds of packets
 abbrev pub is_kind : Data → Bool
 is_kind (string s) = bytes_eq s (codes "data") || bytes_eq s (codes "ack")
 is_kind _ = false
@@ -156,7 +167,8 @@ has_wrong_type t =
     (codes "node") t || is_wrong is_tables (codes "wire") t || is_wrong is_tables (codes "source") t
     || is_wrong is_tables (codes "sink") t
     || is_wrong is_tables (codes "hold") t)
-    (λ t. is_wrong is_integer (codes "memory") t || is_wrong is_text (codes "image") t)
+    (λ t. is_wrong is_integer (codes "memory") t || is_wrong is_integer (codes "kind") t || is_wrong is_text
+    (codes "image") t)
     (λ t. is_wrong is_end (codes "a") t || is_wrong is_end (codes "b") t)
     (λ t. is_wrong is_end (codes "end") t || is_wrong is_texts (codes "messages") t)
     (λ t. is_wrong is_end (codes "end") t || is_wrong is_integer (codes "capacity") t)
@@ -184,7 +196,7 @@ abbrev pub has_bad_number : Members → Bool
 has_bad_number t =
     somewhere
     (λ t. is_bad (codes "timeslice") t)
-    (λ t. is_bad (codes "memory") t)
+    (λ t. is_bad (codes "memory") t || is_bad (codes "kind") t)
     (λ t. is_bad (codes "a") t || is_bad (codes "b") t)
     (λ t. is_bad (codes "end") t)
     (λ t. is_bad (codes "end") t || is_bad (codes "capacity") t)
@@ -192,13 +204,22 @@ has_bad_number t =
     t
 
 -- a text is no message
-abbrev pub is_bad_message : Data → Bool
-is_bad_message (string s) = is_none (message_of s)
-is_bad_message _ = false
+abbrev pub is_no_message : Data → Bool
+is_no_message (string s) = is_none (message_of s)
+is_no_message _ = false
 
 -- a source has a text that is no message
 abbrev pub has_bad_message : Members → Bool
-has_bad_message t = list_any is_bad_message (items_of (get_member (codes "messages") t))
+has_bad_message t = list_any is_no_message (items_of (get_member (codes "messages") t))
+
+-- a value is the number of a kind of nodes
+abbrev pub is_node_kind : Data → Bool
+is_node_kind (integer (pos n)) = n == 1 || n == 2
+is_node_kind _ = false
+
+-- a node has a kind that there is not
+abbrev pub has_bad_kind : Members → Bool
+has_bad_kind t = is_wrong is_node_kind (codes "kind") t
 
 -- a value is a version of this format
 abbrev pub is_version : Data → Bool
@@ -220,9 +241,13 @@ abbrev pub end_of : Option Data → End
 end_of (Some (array (item (integer (pos n)) (item (integer (pos l)) no_items)))) = record { node = n; link = l }
 end_of _ = record { node = 0; link = 0 }
 
--- a kind, where the checks have passed
+-- a kind of packets, where the checks have passed
 abbrev pub kind_of : Option Data → PacketKind
 kind_of d = if bytes_eq (text_of d) (codes "ack") then kind.Ack else kind.Data
+
+-- the kind of a node, where the checks have passed: 1 where none is named
+abbrev pub node_kind_of : Option Data → Kind
+node_kind_of d = if number_of d 1 == 2 then Two else One
 
 -- a message, where the checks have passed
 abbrev pub message_at : Data → List ℕ
@@ -243,8 +268,11 @@ wiring_value t =
     record {
       timeslice = number_of (get_member (codes "timeslice") t) default_timeslice;
       nodes = map
-          (λ n. record { memory = number_at (codes "memory") n; image = text_of (get_member (codes "image") n) })
-          (tables_at (codes "node") t);
+          (λ n. record {
+            memory = number_at (codes "memory") n;
+            kind = node_kind_of (get_member (codes "kind") n);
+            image = text_of (get_member (codes "image") n);
+          }) (tables_at (codes "node") t);
       wires = map (λ w. record { a = end_of (get_member (codes "a") w); b = end_of (get_member (codes "b") w) })
           (tables_at (codes "wire") t);
       sources = map
@@ -267,14 +295,15 @@ wiring_value t =
 -- the wiring that a table stands for, or the lowest fault
 unfoldable pub wiring_of : Members → Result Wiring WiringFault
 wiring_of t =
-    if somewhere (has_unknown (root_keys t)) (has_unknown node_keys) (has_unknown wire_keys) (has_unknown source_keys)
-    (has_unknown sink_keys) (has_unknown hold_keys) t then Err UnknownKey
-    else if somewhere (lacks_one (codes "version" ∷ [])) (lacks_one node_keys) (lacks_one wire_keys)
+    if somewhere (has_unknown (root_keys t)) (has_unknown (node_keys (is_first_in t))) (has_unknown wire_keys)
+    (has_unknown source_keys) (has_unknown sink_keys) (has_unknown hold_keys) t then Err UnknownKey
+    else if somewhere (lacks_one (codes "version" ∷ [])) (lacks_one needed_node_keys) (lacks_one wire_keys)
     (lacks_one source_keys) (lacks_one sink_keys) (lacks_one hold_keys) t then Err MissingKey
     else if has_wrong_type t then Err WrongType
     else if is_wrong is_version (codes "version") t then Err BadVersion
     else if has_bad_number t then Err BadNumber
     else if list_any has_bad_message (tables_at (codes "source") t) then Err BadMessage
+    else if list_any has_bad_kind (tables_at (codes "node") t) then Err BadKind
     else Ok (wiring_value t)
 
 -- the wiring of a text that is TOML

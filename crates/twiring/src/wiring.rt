@@ -4,15 +4,16 @@ ghost use Rattle.std.specs.Prelude.{◌≡◌, Ok, Some, None, [], codes, map, o
 ghost use Rattle.toml.specs.Data.{get_member};
 ghost use Rattle.toml.specs.View.{view, items_view, table_view};
 ghost use Rattle.twiring.specs.Messages.{of_a_message};
-ghost use Rattle.twiring.specs.Wirings.{is_one_of, is_first, root_keys, default_timeslice, wiring_of_text};
-ghost use Rattle.twiring.specs.Wirings.{IsWiringAnswer};
+ghost use Rattle.twiring.specs.Wirings.{is_one_of, is_first_in, root_keys_of, node_keys, default_timeslice};
+ghost use Rattle.twiring.specs.Wirings.{wiring_of_text, IsWiringAnswer};
 ghost use Rattle.twiring.specs.WiringParts as spec;
 
 use hex::FromHexError;
 use std::alloc::Global;
 use toml::{Table, Value};
 use tplan::{End, Hold, PacketKind, SinkPlan, SourcePlan, Wire, Wiring, WiringFault, WiringNode};
-use tword::Items;
+use tword::limits::LONGEST_MESSAGE;
+use tword::{Items, Kind};
 
 /// The timeslice of a wiring that names none (own choice).
 pub const DEFAULT_TIMESLICE: u32 = 1_024;
@@ -20,19 +21,17 @@ pub const DEFAULT_TIMESLICE: u32 = 1_024;
 /// What a part of a wiring stands for, or its lowest fault.
 type Reading<T> = Result<T, WiringFault>;
 
-/// The most bytes of a message.
-const LONGEST_MESSAGE: usize = 4_096;
-
 /// The wiring that a text stands for (own choice of format), as TOML: `version`, which is 1 or 2, `timeslice`, which
 /// may be absent, and the arrays `node` (`memory` in bytes, `image`), `wire` (its ends `a` and `b`, each a node and a
-/// link) and `hold` (`end`, `kind`, and the rounds `from` and `until`); under version 2 also `source` (`end`, which it
-/// feeds, and `messages`, each 1 to 4,096 bytes in pairs of hexadecimal digits of either case) and `sink` (`end`, and
-/// `capacity` in bytes). Whether a net can be made of it is not judged here.
+/// link) and `hold` (`end`, `kind`, and the rounds `from` and `until`); under version 2 also `kind` of a node, which is
+/// 1 or 2 and may be absent, and `source` (`end`, which it feeds, and `messages`, each 1 to 4,096 bytes in pairs of
+/// hexadecimal digits of either case) and `sink` (`end`, and `capacity` in bytes). A node is of kind 1 where none is
+/// named. Whether a net can be made of it is not judged here.
 ///
 /// # Errors
 /// The first of these that holds: `Syntax`, `UnknownKey`, `MissingKey`, `WrongType`, `BadVersion`, `BadNumber` for
-/// an integer outside 0 to 4,294,967,295, `BadMessage`. Where the version is not 1, keys are judged as under version 2.
-/// `OutOfMemory` where the allocator refuses.
+/// an integer outside 0 to 4,294,967,295, `BadMessage`, `BadKind`. Where the version is not 1, keys are judged as under
+/// version 2. `OutOfMemory` where the allocator refuses.
 pub fn read_wiring(alloc: Global, text: &str) -> Result<Wiring, WiringFault>
     ensures { IsWiringAnswer (wiring_of_text text.now) result }
 {
@@ -47,12 +46,13 @@ pub fn read_wiring(alloc: Global, text: &str) -> Result<Wiring, WiringFault>
 fn wiring(alloc: Global, root: &Table) -> Reading<Wiring>
     ensures { IsWiringAnswer (spec.wiring_in (table_view root.now)) result }
 {
-    known_root_keys(root)?;
-    let nodes = array_at(alloc, root, "node");
-    let wires = array_at(alloc, root, "wire");
-    let sources = array_at(alloc, root, "source");
-    let sinks = array_at(alloc, root, "sink");
-    let holds = array_at(alloc, root, "hold");
+    let first = is_first(root);
+    known_root_keys(root, first)?;
+    let nodes = array_at(alloc, root, first, "node");
+    let wires = array_at(alloc, root, first, "wire");
+    let sources = array_at(alloc, root, first, "source");
+    let sinks = array_at(alloc, root, first, "sink");
+    let holds = array_at(alloc, root, first, "hold");
     let net = both(nodes, wires);
     let ends = both(sources, sinks);
     let arrays = both(net, both(ends, holds));
@@ -67,11 +67,11 @@ fn wiring(alloc: Global, root: &Table) -> Reading<Wiring>
     })
 }
 
-/// Each key of the whole is one of its version.
-fn known_root_keys(root: &Table) -> Reading<()>
-    ensures { result ≡ spec.known (root_keys (table_view root.now)) (table_view root.now) (Ok tt) }
+/// Each key of the whole is one of its version, which is 1 or is not.
+fn known_root_keys(root: &Table, first: bool) -> Reading<()>
+    ensures { result ≡ spec.known (root_keys_of first) (table_view root.now) (Ok tt) }
 {
-    if is_first(root) {
+    if first {
         known_keys(root, &["version", "timeslice", "node", "wire", "hold"])
     } else {
         let names = &[
@@ -89,7 +89,7 @@ fn known_root_keys(root: &Table) -> Reading<()>
 
 /// The version is 1.
 fn is_first(root: &Table) -> bool
-    ensures { result ≡ is_first (get_member (codes "version") (table_view root.now)) }
+    ensures { result ≡ is_first_in (table_view root.now) }
 {
     match value_at(root, "version") {
         Some(version) => version.as_integer() == Some(1),
@@ -107,31 +107,36 @@ fn head(root: &Table) -> Reading<u32>
 
 /// A table of an array.
 trait Section: Drop {
-    ghost use Rattle.std.specs.Prelude.{Result};
+    ghost use Rattle.std.specs.Prelude.{Bool, Result};
     ghost use Rattle.toml.specs.Data.{Members};
     ghost use Rattle.tplan.specs.declared.wiring.WiringFault.{WiringFault};
 
-    ghost told: { Members → Result Self WiringFault };
+    ghost told: { Bool → Members → Result Self WiringFault };
 
-    /// What a table stands for.
-    fn read(alloc: Global, table: &Table) -> Reading<Self>
-        ensures { IsWiringAnswer (told (table_view table.now)) result };
+    /// What a table stands for, where the version is 1 and where not.
+    fn read(alloc: Global, table: &Table, first: bool) -> Reading<Self>
+        ensures { IsWiringAnswer (told first (table_view table.now)) result };
 }
 
 impl Section for WiringNode {
     ghost told = { spec.node_in };
 
-    fn read(alloc: Global, table: &Table) -> Reading<WiringNode> {
-        known_keys(table, &["memory", "image"])?;
-        let (memory, image) = both(number_at(table, "memory"), text_at(alloc, table, "image"))?;
-        Ok(WiringNode { memory, image })
+    fn read(alloc: Global, table: &Table, first: bool) -> Reading<WiringNode> {
+        known_node_keys(table, first)?;
+        let rest = both(node_kind_at(table), text_at(alloc, table, "image"));
+        let (memory, (kind, image)) = both(number_at(table, "memory"), rest)?;
+        Ok(WiringNode {
+            memory,
+            kind,
+            image,
+        })
     }
 }
 
 impl Section for Wire {
-    ghost told = { spec.wire_in };
+    ghost told = { λ first. spec.wire_in };
 
-    fn read(_alloc: Global, table: &Table) -> Reading<Wire> {
+    fn read(_alloc: Global, table: &Table, _first: bool) -> Reading<Wire> {
         known_keys(table, &["a", "b"])?;
         let (a, b) = both(end_at(table, "a"), end_at(table, "b"))?;
         Ok(Wire { a, b })
@@ -139,9 +144,9 @@ impl Section for Wire {
 }
 
 impl Section for SourcePlan {
-    ghost told = { spec.source_in };
+    ghost told = { λ first. spec.source_in };
 
-    fn read(alloc: Global, table: &Table) -> Reading<SourcePlan> {
+    fn read(alloc: Global, table: &Table, _first: bool) -> Reading<SourcePlan> {
         known_keys(table, &["end", "messages"])?;
         let (end, messages) = both(end_at(table, "end"), messages_at(alloc, table, "messages"))?;
         Ok(SourcePlan { end, messages })
@@ -149,9 +154,9 @@ impl Section for SourcePlan {
 }
 
 impl Section for SinkPlan {
-    ghost told = { spec.sink_in };
+    ghost told = { λ first. spec.sink_in };
 
-    fn read(_alloc: Global, table: &Table) -> Reading<SinkPlan> {
+    fn read(_alloc: Global, table: &Table, _first: bool) -> Reading<SinkPlan> {
         known_keys(table, &["end", "capacity"])?;
         let (end, capacity) = both(end_at(table, "end"), number_at(table, "capacity"))?;
         Ok(SinkPlan { end, capacity })
@@ -159,9 +164,9 @@ impl Section for SinkPlan {
 }
 
 impl Section for Hold {
-    ghost told = { spec.hold_in };
+    ghost told = { λ first. spec.hold_in };
 
-    fn read(_alloc: Global, table: &Table) -> Reading<Hold> {
+    fn read(_alloc: Global, table: &Table, _first: bool) -> Reading<Hold> {
         known_keys(table, &["end", "kind", "from", "until"])?;
         let place = both(end_at(table, "end"), kind_at(table, "kind"));
         let rounds = both(number_at(table, "from"), number_at(table, "until"));
@@ -176,8 +181,8 @@ impl Section for Hold {
 }
 
 /// The tables of the array at a key, none where it is absent.
-fn array_at<T: Section>(alloc: Global, table: &Table, key: &str) -> Reading<Items<T>>
-    ensures { IsWiringAnswer (spec.array_at T.told key.now (table_view table.now)) result }
+fn array_at<T: Section>(alloc: Global, table: &Table, first: bool, key: &str) -> Reading<Items<T>>
+    ensures { IsWiringAnswer (spec.array_at (T.told first) key.now (table_view table.now)) result }
 {
     let Some(value) = value_at(table, key) else {
         return Ok(Items::new(Vec::new(alloc)));
@@ -185,26 +190,26 @@ fn array_at<T: Section>(alloc: Global, table: &Table, key: &str) -> Reading<Item
     let Some(array) = value.as_array() else {
         return Err(WiringFault::WrongType);
     };
-    tables(alloc, array.as_slice())
+    tables(alloc, array.as_slice(), first)
 }
 
 /// Each value as a table.
-fn tables<T: Section>(alloc: Global, array: &[Value]) -> Reading<Items<T>>
-    ensures { IsWiringAnswer (spec.more_in (spec.table_in T.told) (Ok []) (items_view array.now)) result }
+fn tables<T: Section>(alloc: Global, array: &[Value], first: bool) -> Reading<Items<T>>
+    ensures { IsWiringAnswer (spec.more_in (spec.table_in (T.told first)) (Ok []) (items_view array.now)) result }
 {
     let mut found = Ok(Items::new(Vec::new(alloc)));
     for value in array {
-        found = one_more(found, table(alloc, value));
+        found = one_more(found, table(alloc, value, first));
     }
     found
 }
 
 /// A table.
-fn table<T: Section>(alloc: Global, value: &Value) -> Reading<T>
-    ensures { IsWiringAnswer (spec.table_in T.told (view value.now)) result }
+fn table<T: Section>(alloc: Global, value: &Value, first: bool) -> Reading<T>
+    ensures { IsWiringAnswer (spec.table_in (T.told first) (view value.now)) result }
 {
     match value.as_table() {
-        Some(table) => T::read(alloc, table),
+        Some(table) => T::read(alloc, table, first),
         None => Err(WiringFault::WrongType),
     }
 }
@@ -232,6 +237,17 @@ fn both<A: Drop, B: Drop>(a: Reading<A>, b: Reading<B>) -> Reading<(A, B)>
             Ok(_) => Err(fault),
             Err(other) => Err(fault.min(other)),
         },
+    }
+}
+
+/// Each key of a node is one of its version, which is 1 or is not.
+fn known_node_keys(table: &Table, first: bool) -> Reading<()>
+    ensures { result ≡ spec.known (node_keys first) (table_view table.now) (Ok tt) }
+{
+    if first {
+        known_keys(table, &["memory", "image"])
+    } else {
+        known_keys(table, &["memory", "kind", "image"])
     }
 }
 
@@ -276,6 +292,16 @@ fn timeslice_at(root: &Table) -> Reading<u32>
     }
 }
 
+/// The kind of a node, which is 1 where none is named.
+fn node_kind_at(table: &Table) -> Reading<Kind>
+    ensures { result ≡ spec.node_kind_at (table_view table.now) }
+{
+    match value_at(table, "kind") {
+        Some(value) => node_kind(value),
+        None => Ok(Kind::One),
+    }
+}
+
 /// The number at a key.
 fn number_at(table: &Table, key: &str) -> Reading<u32>
     ensures { result ≡ spec.required spec.number_in key.now (table_view table.now) }
@@ -290,7 +316,7 @@ fn end_at(table: &Table, key: &str) -> Reading<End>
     end(required(table, key)?)
 }
 
-/// The kind at a key.
+/// The kind of packets at a key.
 fn kind_at(table: &Table, key: &str) -> Reading<PacketKind>
     ensures { result ≡ spec.required spec.kind_in key.now (table_view table.now) }
 {
@@ -340,6 +366,17 @@ fn end(value: &Value) -> Reading<End>
     };
     let (node, link) = both(number(node), number(link))?;
     Ok(End { node, link })
+}
+
+/// The kind of a node.
+fn node_kind(value: &Value) -> Reading<Kind>
+    ensures { result ≡ spec.node_kind_in (view value.now) }
+{
+    match number(value)? {
+        1 => Ok(Kind::One),
+        2 => Ok(Kind::Two),
+        _ => Err(WiringFault::BadKind),
+    }
 }
 
 /// A kind of packet.

@@ -112,7 +112,7 @@ where_fits = (
 )
 
 dis_fits : RulesFit (built_of dis_shape)
-dis_fits = (one_value _ _ refl refl refl, (asks_help _ _ refl refl, tt))
+dis_fits = (one_value _ _ refl refl refl, (one_value _ _ refl refl refl, (asks_help _ _ refl refl, tt)))
 
 top_fits : RulesFit (built program).top
 top_fits = (asks_help _ _ refl refl, tt)
@@ -228,8 +228,14 @@ dis_whole words e = record {
   free = other;
   replay = other;
   whereabouts = other;
-  dis = λ run free replay stands.
-      (refl, file_named (built_of dis_shape) words (file_built 1 (codes "image")) dis_fits e refl refl);
+  dis = λ run free replay stands. (
+    refl,
+    (
+      file_named (built_of dis_shape) words (file_built 1 (codes "image")) dis_fits e refl refl,
+      number_named (built_of dis_shape) words (number_built (codes "kind") (between 1 2) (codes "1")) 1 2 dis_fits e refl
+          (omega arith) refl,
+    ),
+  );
 }
 
 each_whole : Each (λ s. (words : List Text) → IsTaken s words → IsAnswered (Some (rows_at s words)))

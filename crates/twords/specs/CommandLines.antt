@@ -2,7 +2,7 @@
 -- Source: the forms of the commands, their defaults and their ranges are our own choice; `Rattle.clap.specs` says how
 -- `clap` reads words, and why it refuses them.
 use Rattle.std.specs.Prelude.{refl, ℕ, ◌≡◌, ◌≤◌, pos, true, false, List, [], ◌∷◌, Option, Some, None, is_some}
-use Rattle.std.specs.Prelude.{◌++◌, option_map, codes, bytes_eq, if◌then◌else◌}
+use Rattle.std.specs.Prelude.{◌++◌, ◌==◌, option_map, codes, bytes_eq, if◌then◌else◌}
 use Rattle.std.specs.Option.{option_map_or}
 use Rattle.std.specs.Str.Parse.{digits_value, without_leading_plus}
 use Rattle.clap.specs.Words.{Text, Rule, Row, Shape, App, Kinds, IsSignedIn, app_of, new_rule, first_of, one_of}
@@ -18,6 +18,8 @@ use Rattle.clap.specs.declared.builder.command.Command.TheViews.{out-Command as 
 use Rattle.clap.specs.declared.builder.value_parser.ValueParser.{ValueParser}
 use Rattle.clap.specs.declared.builder.value_parser.ValueParser.TheVariants.{Signed}
 use Rattle.tplan.specs.declared.options.Options.{Options}
+use Rattle.tword.specs.declared.kind.Kind.{Kind}
+use Rattle.tword.specs.declared.kind.Kind.TheVariants.{One, Two}
 use Rattle.twords.specs.declared.words.Command.{Command}
 use Rattle.twords.specs.declared.words.Command.TheVariants.{Run, Free, Replay, Where, Dis}
 
@@ -71,9 +73,11 @@ where_shape = record (new_shape (codes "where")) {
       ∷ [];
 }
 
--- `dis IMAGE`
+-- `dis IMAGE [--kind N]`
 abbrev pub dis_shape : Shape
-dis_shape = record (new_shape (codes "dis")) { rules = file_rule (codes "image") ∷ [] }
+dis_shape = record (new_shape (codes "dis")) {
+  rules = file_rule (codes "image") ∷ number_rule (codes "kind") (between 1 2) (codes "1") ∷ [];
+}
 
 -- the program without its commands, of which one has to be named
 abbrev pub top : App
@@ -101,14 +105,14 @@ pub data Asked : Type 0 where
   free : Text → Options → Option Text → Asked
   replay : Text → Text → Asked
   whereabouts : Text → Text → ℕ → Asked
-  dis : Text → Asked
+  dis : Text → Kind → Asked
 
 abbrev pub asked_of : Command → Asked
 asked_of (Run wiring options log) = run wiring.bytes.items options (option_map (λ s. s.bytes.items) log)
 asked_of (Free wiring options log) = free wiring.bytes.items options (option_map (λ s. s.bytes.items) log)
 asked_of (Replay wiring log) = replay wiring.bytes.items log.bytes.items
 asked_of (Where wiring log events) = whereabouts wiring.bytes.items log.bytes.items events
-asked_of (Dis image) = dis image.bytes.items
+asked_of (Dis image kind) = dis image.bytes.items kind
 
 -- the text of an argument
 abbrev pub text_at : Text → List Row → Text
@@ -141,8 +145,12 @@ abbrev pub where_in : List Row → Asked
 where_in rows =
     whereabouts (text_at (codes "wiring") rows) (text_at (codes "log") rows) (number_at (codes "events") rows)
 
+-- the kind of a node: 1 or 2
+abbrev pub kind_in : List Row → Kind
+kind_in rows = if number_at (codes "kind") rows == 2 then Two else One
+
 abbrev pub dis_in : List Row → Asked
-dis_in rows = dis (text_at (codes "image") rows)
+dis_in rows = dis (text_at (codes "image") rows) (kind_in rows)
 
 -- what the arguments of a command ask for
 abbrev pub command_in : Option (Text × List Row) → Option Asked
@@ -192,7 +200,7 @@ IsInRange (Run wiring options log) = AreOptions options
 IsInRange (Free wiring options log) = AreOptions options
 IsInRange (Replay wiring log) = Unit {0}
 IsInRange (Where wiring log events) = Unit {0}
-IsInRange (Dis image) = Unit {0}
+IsInRange (Dis image kind) = Unit {0}
 
 -- ---- what the private functions speak of
 
@@ -220,7 +228,7 @@ abbrev pub IsWhere : List Row → Type 0
 IsWhere rows = HasText (codes "wiring") rows × HasText (codes "log") rows × HasNumber 0 4294967295 (codes "events") rows
 
 abbrev pub IsDis : List Row → Type 0
-IsDis rows = HasText (codes "image") rows
+IsDis rows = HasText (codes "image") rows × HasNumber 1 2 (codes "kind") rows
 
 -- the command of this name is one of the five, and its arguments are there
 pub record IsWhole (name : Text) (rows : List Row) : Type 0 where
@@ -287,9 +295,20 @@ example_where_first : command_of (codes "temu" ∷ codes "where" ∷ codes "pair
 unfolding clap_on_literals
 example_where_first = refl
 
-example_dis : command_of (codes "temu" ∷ codes "dis" ∷ codes "first.img" ∷ []) ≡ Some (dis (codes "first.img"))
+-- of kind 1 by default
+example_dis : command_of (codes "temu" ∷ codes "dis" ∷ codes "first.img" ∷ []) ≡ Some (dis (codes "first.img") One)
 unfolding clap_on_literals
 example_dis = refl
+
+example_dis_second : command_of (codes "temu" ∷ codes "dis" ∷ codes "--kind" ∷ codes "2" ∷ codes "first.img" ∷ [])
+    ≡ Some (dis (codes "first.img") Two)
+unfolding clap_on_literals
+example_dis_second = refl
+
+example_dis_first : command_of (codes "temu" ∷ codes "dis" ∷ codes "first.img" ∷ codes "--kind=1" ∷ [])
+    ≡ Some (dis (codes "first.img") One)
+unfolding clap_on_literals
+example_dis_first = refl
 
 -- these words are taken
 example_taken : refusals words_of_run ≡ []
@@ -306,6 +325,16 @@ example_turns : refusals (codes "temu" ∷ codes "free" ∷ codes "pair.toml" �
     ≡ ValueValidation ∷ []
 unfolding clap_on_literals
 example_turns = refl
+
+example_kind : refusals (codes "temu" ∷ codes "dis" ∷ codes "--kind" ∷ codes "3" ∷ codes "first.img" ∷ [])
+    ≡ ValueValidation ∷ []
+unfolding clap_on_literals
+example_kind = refl
+
+example_no_kind : refusals (codes "temu" ∷ codes "dis" ∷ codes "--kind" ∷ codes "0" ∷ codes "first.img" ∷ [])
+    ≡ ValueValidation ∷ []
+unfolding clap_on_literals
+example_no_kind = refl
 
 example_unknown : refusals (codes "temu" ∷ codes "run" ∷ codes "pair.toml" ∷ codes "--turns" ∷ codes "5" ∷ [])
     ≡ UnknownArgument ∷ []
@@ -343,6 +372,6 @@ unfolding clap_on_literals
 example_help_of_free = refl
 
 -- a file may be called so
-example_help_file : command_of (codes "temu" ∷ codes "dis" ∷ codes "help" ∷ []) ≡ Some (dis (codes "help"))
+example_help_file : command_of (codes "temu" ∷ codes "dis" ∷ codes "help" ∷ []) ≡ Some (dis (codes "help") One)
 unfolding clap_on_literals
 example_help_file = refl

@@ -11,6 +11,7 @@ use crate::help_words::with_help_option;
 use clap::{Arg, ArgMatches, Command as Parser, value_parser};
 use std::alloc::{AllocError, Global};
 use tplan::Options;
+use tword::Kind;
 
 /// Why no command was read: help was asked for, or the words are a mistake, or there was no memory (`kind`).
 /// `print` writes its text where `use_stderr` says.
@@ -43,9 +44,10 @@ pub enum Command {
         log: String,
         events: u32,
     },
-    /// Writes the instructions of an image file.
+    /// Writes the instructions of an image file, as those of a node of this kind.
     Dis {
         image: String,
+        kind: Kind,
     },
 }
 
@@ -188,7 +190,20 @@ fn dis(alloc: Global, given: &ArgMatches) -> Result<Command, AllocError>
 {
     Ok(Command::Dis {
         image: file(alloc, given, "image")?,
+        kind: kind(given),
     })
+}
+
+/// The kind of a node.
+fn kind(given: &ArgMatches) -> Kind
+    requires { spec.HasNumber 1 2 (codes "kind") (rows_of (found_of given.now)) }
+    ensures { result ≡ spec.kind_in (rows_of (found_of given.now)) }
+{
+    if number(given, "kind") == 2 {
+        Kind::Two
+    } else {
+        Kind::One
+    }
 }
 
 /// The name of a file that had to be given.
@@ -330,7 +345,8 @@ fn dis_parser<'a>(alloc: Global) -> Result<Parser<'a>, AllocError>
     Parser::new(alloc, "dis")
         .about("Prints the instructions of a boot image")
         .after_help(help::DIS)
-        .arg(file_arg(alloc, "image", "IMAGE", "The boot image"))
+        .arg(file_arg(alloc, "image", "IMAGE", "The boot image"))?
+        .arg(kind_arg(alloc))
 }
 
 /// `WIRING` and its like: a file that has to be named.
@@ -385,6 +401,16 @@ fn events_arg<'a>(alloc: Global) -> Arg<'a>
         .value_parser(value_parser!(u32))
         .default_value("4294967295")
         .help("How many events of the log are done at most, from its first on: 0 to 4294967295")
+}
+
+/// `--kind N`.
+fn kind_arg<'a>(alloc: Global) -> Arg<'a>
+    ensures rule { rule_of result ≡ spec.number_rule (codes "kind") (spec.between 1 2) (codes "1") }
+    ensures local { spec.IsLocal result }
+{
+    let kind = number_arg(alloc, "kind").default_value("1");
+    kind.value_parser(value_parser!(u32).range(1..=2))
+        .help("The kind of the node that the image is for: 1 or 2")
 }
 
 /// `--slice N`.

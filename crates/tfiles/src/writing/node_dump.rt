@@ -29,7 +29,7 @@ pub(crate) fn put_node_dump<W: CountedWrite>(
     bytes: &[u8],
     pending: &[Option<Span>],
 )
-    requires { length bytes.now ≤ 2 ^ 20 }
+    requires { length bytes.now ≤ 2 ^ 24 }
     ensures { Tells W.contents W.failures out.old out.new
         (dump_of node broken halted (hiding (is_pending pending.now) (as_cells bytes.now))) }
 {
@@ -74,7 +74,7 @@ fn put_frozen<W: CountedWrite>(out: &mut Output<'_, W>, broken: Break)
 
 /// The lines of bytes.
 fn put_lines<W: CountedWrite>(out: &mut Output<'_, W>, bytes: &[u8], pending: &[Option<Span>])
-    requires { length bytes.now ≤ 2 ^ 20 }
+    requires { length bytes.now ≤ 2 ^ 24 }
     ensures { Tells W.contents W.failures out.old out.new
         (lines_of (hiding (is_pending pending.now) (as_cells bytes.now))) }
 {

@@ -6,7 +6,7 @@ use Rattle.tplan.specs.declared.plan.Segment.{Segment}
 use Rattle.tfiles.proofs.dis.put_image.Goals as goal
 
 pub loop-segment-init : goal.loop-segment-init
-loop-segment-init g c = goes_on-start c.args.out.now (dis_text c.args.image.now)
+loop-segment-init g c = goes_on-start c.args.out.now (dis_text c.args.kind c.args.image.now)
 
 pub loop-segment-preserved : goal.loop-segment-preserved
 loop-segment-preserved g c =
@@ -15,12 +15,12 @@ loop-segment-preserved g c =
     let is : c.segment-item.result ≡ get_or c.args.image.now.segments c.loop-segment.segment-index
     c.segment-item.result = rw c.as_slice-segment-items.ensures at c.segment-item.is in
     goes_on-next _ _ c.loop-segment.invariant
-    (flat_map-next segment_lines c.args.image.now.segments c.loop-segment.segment-index c.segment-item.result below)
-    (tells_as c.put_segment.ensures (ap (λ (s : Segment). segment_lines s) is))
+    (flat_map-next (segment_lines c.args.kind) c.args.image.now.segments c.loop-segment.segment-index c.segment-item.result below)
+    (tells_as c.put_segment.ensures (ap (λ (s : Segment). segment_lines c.args.kind s) is))
 
 pub returns : goal.returns
 returns g c =
     let over : length c.args.image.now.segments ≤ c.loop-segment.segment-index =
     rw c.as_slice-segment-items.ensures at c.loop-segment-test.false in
     goes_on-end c.loop-segment.invariant
-    (flat_map-end segment_lines c.args.image.now.segments c.loop-segment.segment-index over)
+    (flat_map-end (segment_lines c.args.kind) c.args.image.now.segments c.loop-segment.segment-index over)

@@ -7,5 +7,5 @@ use Rattle.tfiles.proofs.dis.put_image.Given as goal
 abbrev pub invariant-loop-segment : goal.invariant-loop-segment
 invariant-loop-segment g l =
     GoesOn g.W.Write.contents g.W.CountedWrite.failures l.initial.out l.out
-    (flat_map segment_lines (drop l.segment-index l.image.segments))
-    (dis_text l.image)
+    (flat_map (segment_lines l.kind) (drop l.segment-index l.image.segments))
+    (dis_text l.kind l.image)

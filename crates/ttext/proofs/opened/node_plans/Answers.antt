@@ -39,19 +39,6 @@ bounds-nodes-node c =
     let node : c.len-node.result ≡ length c.loop-file.yielded = omega (arith, c.len-node.ensures, count) in
     omega (arith, node, t.0)
 
-pub bounds-nodes-node-in_ok-image : goal.bounds-nodes-node-in_ok-image
-bounds-nodes-node-in_ok-image c =
-    let gives = c.into_iter-file-iterator.ensures.into_iter_gives in
-    let same = c.into_vec-file-items.ensures in
-    let all = YieldsList-from_vec {s = c.into_iter-file-iterator.result} c.args.files (gives.0 ∙ same)
-    (omega (arith, gives.1, ap (λ (fs : List (List ℕ)). length fs) same)) in
-    let t = YieldsList-turn all c.loop-file.yielded c.loop-file.file-iterator c.loop-file.yielded_by c.next.result
-    c.next.new.self c.in-Some.file c.in-Some.is c.next.ensures.steps in
-    let count = as_many_planned _ _ (length c.loop-file.yielded) _ c.requires (omega (arith, t.0))
-    c.loop-file.invariant in
-    let node : c.len-node.result ≡ length c.loop-file.yielded = omega (arith, c.len-node.ensures, count) in
-    omega (arith, node, t.0)
-
 pub returns-in_err-image : goal.returns-in_err-image
 returns-in_err-image c =
     let gives = c.into_iter-file-iterator.ensures.into_iter_gives in
@@ -87,7 +74,7 @@ loop-file-preserved c =
     t.0 (ap image_of (sym (c.as_slice.ensures ∙ t.1)) ∙ c.in_ok-image.ensures)
     (c.in_ok-push.ensures.items
     ∙ ap (λ (n : WiringNode). c.loop-file.plans.items ++ node_of (n, c.in_ok-image.image) ∷ [])
-    (ap (λ (k : ℕ). get_or c.args.nodes.now k c.index-nodes-node.result) node)))
+    (c.index-nodes-node.is ∙ ap (λ (k : ℕ). get_or c.args.nodes.now k c.index-nodes-node.result) node)))
 
 pub returns : goal.returns
 returns c =

@@ -8,7 +8,7 @@ use Rattle.twiring.proofs.wiring.tables.Goals as goal
 
 pub loop-value-preserved : goal.loop-value-preserved
 loop-value-preserved g c =
-    let part = table_in g.T.Section.told in
+    let part = table_in (g.T.Section.told c.args.first) in
     let i = c.loop-value.value-index in
     let xs = c.args.array.now in
     let x = c.value-item.result in

@@ -1,4 +1,4 @@
-use Rattle.std.proofs.Common.{◌≡◌, List, codes, sym, ap, ap₂, ◌∙◌, refl, rules}
+use Rattle.std.proofs.Common.{◌≡◌, Bool, List, codes, sym, ap, ap₂, ◌∙◌, refl, subst, rules}
 use Rattle.toml.specs.Data.{Members}
 use Rattle.toml.specs.View.{table_view}
 use Rattle.tplan.specs.declared.plan.Wire.{Wire}
@@ -7,7 +7,7 @@ use Rattle.tplan.specs.declared.plan.SinkPlan.{SinkPlan}
 use Rattle.tplan.specs.declared.event.Hold.{Hold}
 use Rattle.tplan.specs.declared.wiring.Wiring.{Wiring}
 use Rattle.tplan.specs.declared.wiring.WiringNode.{WiringNode}
-use Rattle.twiring.specs.Wirings.{root_keys, IsWiringAnswer}
+use Rattle.twiring.specs.Wirings.{is_first_in, root_keys, IsWiringAnswer}
 use Rattle.twiring.specs.WiringParts.{Reading, both, made, known, node_in, wire_in, source_in, sink_in, hold_in}
 use Rattle.twiring.specs.WiringParts.{array_at, head_in, ends_in, arrays_in, wiring_in}
 use Rattle.twiring.proofs.WiringAnswers.{done, answer-known, answer-told, answer-both}
@@ -15,16 +15,20 @@ use Rattle.twiring.proofs.WiringValues.{wiring_from}
 use Rattle.twiring.proofs.wiring.wiring.Goals as goal
 
 -- the whole, from what may be answered of its parts
-answer-wiring : (t : Members) (n : Reading (List WiringNode)) (w : Reading (List Wire)) (s : Reading (List SourcePlan))
+answer-wiring : (t : Members) (first : Bool) (n : Reading (List WiringNode)) (w : Reading (List Wire)) (s : Reading (List SourcePlan))
     (k : Reading (List SinkPlan)) (h : Reading (List Hold)) (answer : Reading Wiring)
-    → known (root_keys t) t done ≡ done → IsWiringAnswer (array_at node_in (codes "node") t) n
+    → first ≡ is_first_in t
+    → known (root_keys t) t done ≡ done → IsWiringAnswer (array_at (node_in first) (codes "node") t) n
     → IsWiringAnswer (array_at wire_in (codes "wire") t) w → IsWiringAnswer (array_at source_in (codes "source") t) s
     → IsWiringAnswer (array_at sink_in (codes "sink") t) k → IsWiringAnswer (array_at hold_in (codes "hold") t) h
     → made wiring_from (both (head_in t) (both (both n w) (both (both s k) h))) ≡ answer
     → IsWiringAnswer (wiring_in t) answer
-answer-wiring t n w s k h answer keys ns ws ss ks hs e =
-    let net : IsWiringAnswer (both (array_at node_in (codes "node") t) (array_at wire_in (codes "wire") t)) (both n w) =
-    answer-both _ n _ w _ ns ws refl in
+answer-wiring t first n w s k h answer own keys ns ws ss ks hs e =
+    let ns' : IsWiringAnswer (array_at (node_in (is_first_in t)) (codes "node") t) n =
+    subst (λ b. IsWiringAnswer (array_at (node_in b) (codes "node") t) n) own ns in
+    let net : IsWiringAnswer (both (array_at (node_in (is_first_in t)) (codes "node") t) (array_at wire_in (codes "wire") t))
+    (both n w) =
+    answer-both _ n _ w _ ns' ws refl in
     let ends : IsWiringAnswer (ends_in t) (both s k) = answer-both _ s _ k _ ss ks refl in
     let rest : IsWiringAnswer (both (ends_in t) (array_at hold_in (codes "hold") t)) (both (both s k) h) =
     answer-both _ (both s k) _ h _ ends hs refl in
@@ -40,8 +44,8 @@ returns c =
     let rest = c.both.ensures ∙ ap (λ ends. both ends c.array_at-holds.result) c.both-ends.ensures in
     let arrays = c.both-arrays.ensures ∙ ap₂ both c.both-net.ensures rest in
     let parts = c.both-2.ensures ∙ ap₂ both c.head.ensures arrays in
-    answer-wiring (table_view c.args.root.now) c.array_at-nodes.result c.array_at-wires.result
-    c.array_at-sources.result c.array_at-sinks.result c.array_at-holds.result _ (search rules) c.array_at-nodes.ensures
+    answer-wiring (table_view c.args.root.now) c.is_first-first.result c.array_at-nodes.result c.array_at-wires.result
+    c.array_at-sources.result c.array_at-sinks.result c.array_at-holds.result _ c.is_first-first.ensures (search rules) c.array_at-nodes.ensures
     c.array_at-wires.ensures c.array_at-sources.ensures c.array_at-sinks.ensures c.array_at-holds.ensures
     (ap (made wiring_from) (sym parts) ∙ ap (made wiring_from) c.in_ok-timeslice.was)
 
@@ -51,7 +55,7 @@ returns-in_err-timeslice c =
     let arrays = c.both-arrays.ensures ∙ ap₂ both c.both-net.ensures rest in
     let parts = c.both-2.ensures ∙ ap₂ both c.head.ensures arrays in
     let same : made wiring_from c.both-2.result ≡ c.from_residual-in_err-timeslice.result = search rules in
-    answer-wiring (table_view c.args.root.now) c.array_at-nodes.result c.array_at-wires.result
-    c.array_at-sources.result c.array_at-sinks.result c.array_at-holds.result _ (search rules) c.array_at-nodes.ensures
+    answer-wiring (table_view c.args.root.now) c.is_first-first.result c.array_at-nodes.result c.array_at-wires.result
+    c.array_at-sources.result c.array_at-sinks.result c.array_at-holds.result _ c.is_first-first.ensures (search rules) c.array_at-nodes.ensures
     c.array_at-wires.ensures c.array_at-sources.ensures c.array_at-sinks.ensures c.array_at-holds.ensures
     (ap (made wiring_from) (sym parts) ∙ same)
