@@ -56,15 +56,19 @@ In: a wiring file such as
   from = 1             # the first round in which they wait
   until = 5            # and the first in which they do not
 
-A wiring of version 2 may have nodes of kind 2, sources and sinks too. A node of kind 2 has the
-operation `dup` and up to 16777216 bytes of memory, one of kind 1 up to 1048576. Sources and sinks
-are numbered behind the nodes, the sources first, and each has the one link 0:
+In a wiring of version 2 a node may be of kind 2: it has the operation `dup` too, and may have up to
+16777216 bytes of memory, where one of kind 1 may have 1048576:
 
   version = 2
   [[node]]
   memory = 16777216
-  kind = 2             # 1 where it is left out
-  image = \"b.img\"
+  kind = 2             # may be left out: 1
+  image = \"a.img\"
+
+A wiring of version 2 may have sources and sinks too. They are numbered behind the nodes, the
+sources first, and each has the one link 0:
+
+  version = 2
   [[source]]           # sends messages to an end, one after another
   end = [0, 2]
   messages = [\"01020304\", \"05\"]  # in hexadecimal, 1 to 4096 bytes each
@@ -157,8 +161,9 @@ words, the address, the length and the bytes of each segment, and the workspace 
 instruction pointer of each process.
 
 Out: for each segment a line for each instruction, as `80000080: ldc 4`; a byte that begins none is
-shown as `80000080: db xx`. With `--kind 2` the bytes 25 fa are `dup`, else 25 begins none.
+shown as `80000080: db xx`.
 
-Examples:
-  temu dis first.img
-  temu dis first.img --kind 2";
+With `--kind 2` the bytes 25 fa are `dup`, which nodes of kind 1 do not have.
+
+Example:
+  temu dis first.img";
