@@ -6,7 +6,7 @@ use std::alloc::{AllocError, Global};
 use tlink::StepFault;
 use tnet::Net;
 use tplan::{Act, End, Event, Image, NodePlan, Plan, Process, Segment, Wire};
-use tword::{Items, Word};
+use tword::{Items, Kind, Word};
 
 const MEMORY: u32 = 16_384;
 
@@ -54,6 +54,7 @@ pub fn node(alloc: Global, code: &[u8], words: &[u32]) -> Result<NodePlan, Alloc
     };
     Ok(NodePlan {
         memory: MEMORY,
+        kind: Kind::One,
         image: Image {
             segments: Items::new(segments),
             processes: Items::new(Vec::from_slice(alloc, &[process])?),

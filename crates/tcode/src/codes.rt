@@ -1,6 +1,7 @@
 //! The codes of functions and operations.
 
-ghost use Rattle.std.specs.Prelude.{◌≡◌, ◌<◌};
+ghost use Rattle.std.specs.Prelude.{◌≡◌, ◌<◌, None};
+ghost use Rattle.tword.specs.declared.kind.Kind.TheVariants.{One};
 ghost use Rattle.tcode.specs.Table.{function_at, function_entry, operation_at};
 
 use crate::instruction::{Function, Operation};
@@ -130,7 +131,20 @@ pub fn operation_of(operand: Word, kind: Kind) -> Option<Operation>
         0x57 => Some(Operation::Clrhalterr),
         0x58 => Some(Operation::Sethalterr),
         0x59 => Some(Operation::Testhalterr),
-        0x5a if matches!(kind, Kind::Two) => Some(Operation::Dup),
+        _ => further_operation_of(operand, kind),
+    }
+}
+
+/// The same, of the operations that not every kind has.
+#[cold]
+#[inline(never)]
+#[tactic(auto, unfolding(crate::specs::Table::operation_at))]
+fn further_operation_of(operand: Word, kind: Kind) -> Option<Operation>
+    requires { operation_at One operand ≡ None }
+    ensures { result ≡ operation_at kind operand }
+{
+    match kind {
+        Kind::Two if operand.get() == 0x5a => Some(Operation::Dup),
         _ => None,
     }
 }

@@ -2,9 +2,9 @@
 
 ghost use Rattle.std.specs.Prelude.{◌≡◌, ◌==◌, ◌/◌, pos, negsuc, ◌-ℤ◌, ◌*ℤ◌, if◌then◌else◌, Some, None};
 ghost use Rattle.tcode.specs.Chains.{instruction, is_listed, pfix};
-ghost use Rattle.tcode.specs.Decoding.{IsFetched, decode as decoded, decode_bytes as decoded_bytes};
+ghost use Rattle.tcode.specs.Decoding.{IsFetched, decode as decoded, decode_bytes as decoded_bytes, fetch};
 ghost use Rattle.tcode.specs.Table.{function_at};
-ghost use Rattle.tword.specs.Actions.{run, value_of};
+ghost use Rattle.tword.specs.Actions.{run, run_from, value_of};
 ghost use Rattle.tword.specs.Words.{reduced};
 
 use crate::codes::{function_of, operation_of};
@@ -31,13 +31,14 @@ fn prefixed(code: u8, value: u32) -> u32
 
 /// The instruction that a function ends, unless its operation is not listed for the kind.
 #[inline(always)]
-fn ended(kind: Kind, function: Function, operand: u32, length: u8) -> Option<Instruction>
+fn ended(kind: &Kind, function: Function, operand: u32, length: u8) -> Option<Instruction>
     ensures { result
-        ≡ (if is_listed kind function (pos operand) then Some (instruction function (pos operand) length) else None) }
+        ≡ (if is_listed kind.now function (pos operand) then Some (instruction function (pos operand) length)
+        else None) }
 {
     let operand = Word::new(operand);
     if let Function::Opr = function
-        && operation_of(operand, kind).is_none()
+        && operation_of(operand, *kind).is_none()
     {
         return None;
     }
@@ -58,10 +59,11 @@ fn ended(kind: Kind, function: Function, operand: u32, length: u8) -> Option<Ins
 pub fn decode(memory: &Memory, marks: &Marks, iptr: Word) -> Result<Instruction, Break>
     ensures { result ≡ value_of (run (decoded memory.now.kind iptr) memory.now.bytes marks.now) }
 {
-    decode_for(memory.kind, &memory.bytes, marks, iptr)
+    decode_for(&memory.kind, &memory.bytes, marks, iptr)
 }
 
-/// The same, by the bytes of the memory and the kind apart.
+/// The same, by the kind and the bytes of the memory apart. The kind is looked at only where an operation is met that
+/// not every kind has.
 ///
 /// # Errors
 /// As `decode`.
@@ -69,12 +71,12 @@ pub fn decode(memory: &Memory, marks: &Marks, iptr: Word) -> Result<Instruction,
 #[inline(always)]
 #[tactic(auto, unfolding(crate::specs::Decoding::decode))]
 pub fn decode_for(
-    kind: Kind,
+    kind: &Kind,
     memory: &Bytes,
     marks: &Marks,
     iptr: Word,
 ) -> Result<Instruction, Break>
-    ensures { result ≡ value_of (run (decoded kind iptr) memory.now marks.now) }
+    ensures { result ≡ value_of (run (decoded kind.now iptr) memory.now marks.now) }
 {
     let byte = memory.read_byte(marks, iptr)?;
     match function_of(byte / 16) {
@@ -88,7 +90,7 @@ pub fn decode_for(
 /// The instruction at an address where a prefix was fetched: most end with the next byte.
 #[inline(always)]
 fn decode_prefixed(
-    kind: Kind,
+    kind: &Kind,
     memory: &Bytes,
     marks: &Marks,
     iptr: Word,
@@ -96,44 +98,45 @@ fn decode_prefixed(
 ) -> Result<Instruction, Break>
     requires fetched { IsFetched memory.now marks.now iptr prefix }
     requires prefix { function_at (prefix / 16) ≡ None }
-    ensures { result ≡ value_of (run (decoded kind iptr) memory.now marks.now) }
+    ensures { result ≡ value_of (run (decoded kind.now iptr) memory.now marks.now) }
 {
     let value = prefixed(prefix / 16, u32::from(prefix % 16));
-    let byte = memory.read_byte(marks, iptr.plus(Word::new(1)))?;
-    let data = u32::from(byte % 16);
+    let address = iptr.plus(Word::new(1));
+    let byte = memory.read_byte(marks, address)?;
+    let sum = value.wrapping_add(u32::from(byte % 16));
     match function_of(byte / 16) {
-        Some(function) => ended(kind, function, value.wrapping_add(data), 2).ok_or(
-            Break::NoSuchOperation,
-        ),
-        None => decode_chain(kind, memory, marks, iptr, prefix),
+        Some(function) => ended(kind, function, sum, 2).ok_or(Break::NoSuchOperation),
+        None => {
+            let longer = prefixed(byte / 16, sum);
+            let behind = address.plus(Word::new(1));
+            decode_chain(kind, memory, marks, behind, longer)
+        }
     }
 }
 
-/// The instruction at an address where a prefix was fetched.
+/// The instruction that goes on at an address, where two prefixes have led to this value.
 #[cold]
 #[inline(never)]
 fn decode_chain(
-    kind: Kind,
+    kind: &Kind,
     memory: &Bytes,
     marks: &Marks,
-    iptr: Word,
-    prefix: u8,
+    address: Word,
+    value: u32,
 ) -> Result<Instruction, Break>
-    requires fetched { IsFetched memory.now marks.now iptr prefix }
-    requires prefix { function_at (prefix / 16) ≡ None }
-    ensures { result ≡ value_of (run (decoded kind iptr) memory.now marks.now) }
+    ensures { result
+        ≡ value_of (run_from (fetch kind.now 14 2 address (pos value)) memory.now marks.now memory.now) }
 {
-    let mut value = prefixed(prefix / 16, u32::from(prefix % 16));
-    let mut address = iptr;
-    for had in 1..LONGEST {
-        address = address.plus(Word::new(1));
+    let mut address = address;
+    let mut value = value;
+    for had in 2..LONGEST {
         let byte = memory.read_byte(marks, address)?;
-        let data = u32::from(byte % 16);
-        let sum = value.wrapping_add(data);
+        let sum = value.wrapping_add(u32::from(byte % 16));
         if let Some(function) = function_of(byte / 16) {
             return ended(kind, function, sum, had + 1).ok_or(Break::NoSuchOperation);
         }
         value = prefixed(byte / 16, sum);
+        address = address.plus(Word::new(1));
     }
     Err(Break::LongPrefix)
 }
@@ -154,7 +157,7 @@ pub fn decode_bytes(bytes: &[u8], kind: Kind) -> Result<Instruction, DecodeFault
         let byte = bytes[had as usize];
         let sum = value.wrapping_add(u32::from(byte % 16));
         if let Some(function) = function_of(byte / 16) {
-            return ended(kind, function, sum, had + 1).ok_or(DecodeFault::NoSuchOperation);
+            return ended(&kind, function, sum, had + 1).ok_or(DecodeFault::NoSuchOperation);
         }
         value = prefixed(byte / 16, sum);
     }

@@ -222,7 +222,8 @@ selected-quiet : (o : Option Operation) (b r : Registers) → b.wptr ≡ r.wptr 
 selected-quiet None b r w = tt
 selected-quiet (Some o) b r w = local-quiet (operation_effect o r) o b (operations-quiet o b r w)
 
-effect_at-quiet : (kind : Kind) (f : Function) (n : ℕ) (b r : Registers) → b.wptr ≡ r.wptr → IsQuiet (IsStay b) (effect_at kind f n b r)
+effect_at-quiet : (kind : Kind) (f : Function) (n : ℕ) (b r : Registers) → b.wptr ≡ r.wptr
+    → IsQuiet (IsStay b) (effect_at kind f n b r)
 effect_at-quiet kind function.Opr n b r w = selected-quiet (operation_at kind n) b r w
 effect_at-quiet kind f n b r w = quiet_stays b (function_effect f n r) (functions-quiet f n b r w)
 
@@ -232,18 +233,22 @@ unfolding effect
 effect-quiet kind i r = effect_at-quiet kind i.function i.operand r (record r { iptr = plus r.iptr i.length }) refl
 
 -- what follows an effect goes on from the claims as they are and from the store that the effect left
-pub effect_then : {B : Type 0} (kind : Kind) (i : Instruction) (r : Registers) (f : Outcome → Action B) (s : Store) (c : Claims)
+pub effect_then : {B : Type 0} (kind : Kind) (i : Instruction) (r : Registers) (f : Outcome → Action B) (s : Store)
+    (c : Claims)
     → run_from (effect kind i r >>= f) s c s ≡ then_from (run (effect kind i r) s c) (λ o s'. run_from (f o) s c s')
 effect_then kind i r f s c = quiet_bind (IsStay r) (effect kind i r) f s s c (effect-quiet kind i r)
 
 -- so what was answered goes on as what follows says
-pub effect_answered : {B : Type 0} (kind : Kind) (i : Instruction) (r r' : Registers) (next : Next) (f : Outcome → Action B)
+pub effect_answered : {B : Type 0} (kind : Kind) (i : Instruction) (r r' : Registers) (next : Next)
+    (f : Outcome → Action B)
     (s s' : Store) (c : Claims)
-    → run (effect kind i r) s c ≡ Ok ((r', next), s') → run_from (effect kind i r >>= f) s c s ≡ run_from (f (r', next)) s c s'
+    → run (effect kind i r) s c ≡ Ok ((r', next), s') → run_from (effect kind i r >>= f) s c s
+    ≡ run_from (f (r', next)) s c s'
 effect_answered kind i r r' next f s s' c e = rw (effect_then kind i r f s c, e) refl
 
 -- and a break is one whatever follows
-pub effect_broke : {B : Type 0} (kind : Kind) (i : Instruction) (r : Registers) (b : Break) (f : Outcome → Action B) (s : Store)
+pub effect_broke : {B : Type 0} (kind : Kind) (i : Instruction) (r : Registers) (b : Break) (f : Outcome → Action B)
+    (s : Store)
     (c : Claims)
     → run (effect kind i r) s c ≡ Err b → run_from (effect kind i r >>= f) s c s ≡ Err b
 effect_broke kind i r b f s c e = rw (effect_then kind i r f s c, e) refl
@@ -263,9 +268,11 @@ break_foretold (Ok ((r', next), s')) b e = cc
 break_foretold (Err b') b e = cc
 
 -- a jump stays in its workspace
-pub stays_effect : (kind : Kind) (i : Instruction) (r r' : Registers) (c : Claims) (s s' : Store) (result : Result Next Break)
+pub stays_effect : (kind : Kind) (i : Instruction) (r r' : Registers) (c : Claims) (s s' : Store)
+    (result : Result Next Break)
     → run (effect kind i r) s c ≡ outcome_of result r' s' → IfOk result (λ next. StaysWhereJumped next r r')
-stays_effect kind i r r' c s s' (Ok next) e = quiet_run (IsStay r) (effect kind i r) s s c (r', next) s' (effect-quiet kind i r) e
+stays_effect kind i r r' c s s' (Ok next) e = quiet_run (IsStay r) (effect kind i r) s s c (r', next) s'
+    (effect-quiet kind i r) e
 stays_effect kind i r r' c s s' (Err b) e = tt
 
 -- what is left to the scheduler has changed nothing
@@ -291,7 +298,8 @@ effect_at-left kind function.Opr n p b r r' c s s' w e = selected-left (operatio
 effect_at-left kind f n p b r r' c s s' w e =
     absurd (quiet_run (IsEnd b) (function_effect f n r) s s c (r', Schedule p) s' (functions-quiet f n b r w) e)
 
-pub stands_at : (kind : Kind) (f : Function) (n : ℕ) (b r r' : Registers) (c : Claims) (s s' : Store) (next : Next) → b.wptr ≡ r.wptr
+pub stands_at : (kind : Kind) (f : Function) (n : ℕ) (b r r' : Registers) (c : Claims) (s s' : Store) (next : Next)
+    → b.wptr ≡ r.wptr
     → run (effect_at kind f n b r) s c ≡ Ok ((r', next), s') → StandsWhereLeft next s b s' r'
 stands_at kind f n b r r' c s s' (Schedule p) w e = effect_at-left kind f n p b r r' c s s' w e
 stands_at kind f n b r r' c s s' Go w e = tt

@@ -10,8 +10,8 @@ use crate::registers::{Next, Registers, Step};
 use tcode::{Function, Instruction, Operation, operation_of};
 use tword::{Break, Bytes, Kind, Marks, Memory, Word};
 
-/// Does an instruction, as the tables of the Compiler Writer's Guide say for the kind of node that the memory belongs to,
-/// or leaves an operation to the scheduler with nothing changed.
+/// Does an instruction, as the tables of the Compiler Writer's Guide say, of those that the kind of the memory's node
+/// has, or leaves an operation to the scheduler with nothing changed.
 ///
 /// # Errors
 /// The first check of the instruction that fails, in the order of its row: `Unaligned`, `BadAddress`, `Reserved`,
@@ -33,7 +33,7 @@ pub fn local(
     ensures kind { memory.new.kind ≡ memory.old.kind }
 {
     local_for(
-        memory.kind,
+        &memory.kind,
         registers,
         &mut memory.bytes,
         marks,
@@ -48,13 +48,13 @@ pub fn local(
 #[inline(always)]
 #[tactic(auto, unfolding(crate::specs::Effects::effect))]
 pub fn local_for(
-    kind: Kind,
+    kind: &Kind,
     registers: &mut Registers,
     memory: &mut Bytes,
     marks: &Marks,
     instruction: Instruction,
 ) -> Result<Next, Break>
-    ensures done { run (effect kind instruction registers.old) memory.old marks.now
+    ensures done { run (effect kind.now instruction registers.old) memory.old marks.now
         ≡ outcome_of result registers.new memory.new }
     ensures kept { OnErr result ((memory.new ≡ memory.old) × (registers.new ≡ registers.old)) }
     ensures left { IfOk result (λ next. StandsWhereLeft next memory.old registers.old memory.new registers.new) }
@@ -76,7 +76,7 @@ pub fn local_for(
 /// Does an instruction that began at `start`. Iptr is behind it already.
 #[inline(always)]
 fn act(
-    kind: Kind,
+    kind: &Kind,
     registers: &mut Registers,
     memory: &mut Bytes,
     marks: &Marks,
@@ -84,8 +84,8 @@ fn act(
     function: Function,
     operand: Word,
 ) -> Step
-    ensures done { run (effect_at kind function operand (record registers.old { iptr = start }) registers.old) memory.old
-        marks.now ≡ outcome_of result registers.new memory.new }
+    ensures done { run (effect_at kind.now function operand (record registers.old { iptr = start }) registers.old)
+        memory.old marks.now ≡ outcome_of result registers.new memory.new }
     ensures kept { OnErr result ((memory.new ≡ memory.old) × (registers.new ≡ registers.old)) }
     ensures sized { length memory.new ≡ length memory.old }
 {
@@ -103,7 +103,7 @@ fn act(
         Function::Eqc => Ok(registers.equals_constant(operand)),
         Function::Stl => registers.store_local(memory, marks, operand),
         Function::Stnl => registers.store_non_local(memory, marks, operand),
-        Function::Opr => match operation_of(operand, kind) {
+        Function::Opr => match operation_of(operand, *kind) {
             Some(operation) => operate(registers, memory, marks, start, operation),
             None => Err(Break::NoSuchOperation),
         },

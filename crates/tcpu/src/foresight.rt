@@ -24,7 +24,7 @@ pub fn jumps(
     ensures { result ≡ would_jump
         (run (effect memory.now.kind instruction registers.now) memory.now.bytes marks.now) }
 {
-    jumps_for(memory.kind, registers, &memory.bytes, marks, instruction)
+    jumps_for(&memory.kind, registers, &memory.bytes, marks, instruction)
 }
 
 /// The same, by the bytes of the memory and the kind apart.
@@ -33,13 +33,13 @@ pub fn jumps(
 /// As `jumps`.
 #[tactic(auto, unfolding(crate::specs::Effects::effect, crate::specs::Functions::function_effect))]
 pub fn jumps_for(
-    kind: Kind,
+    kind: &Kind,
     registers: &Registers,
     memory: &Bytes,
     marks: &Marks,
     instruction: Instruction,
 ) -> Result<bool, Break>
-    ensures { result ≡ would_jump (run (effect kind instruction registers.now) memory.now marks.now) }
+    ensures { result ≡ would_jump (run (effect kind.now instruction registers.now) memory.now marks.now) }
 {
     let operand = instruction.operand;
     match instruction.function {
@@ -64,7 +64,7 @@ pub fn jumps_for(
             memory.may_write_word(marks, word_address(registers.a, operand))?;
             Ok(false)
         }
-        Function::Opr => match operation_of(operand, kind) {
+        Function::Opr => match operation_of(operand, *kind) {
             Some(operation) => operation_jumps(registers, memory, marks, operation),
             None => Err(Break::NoSuchOperation),
         },

@@ -44,7 +44,8 @@ kinds_kept : (n : ℕ) (k : Kind) → RowsKeep n (λ kind high low waiting links
 kinds_kept n k =
     record {
       waits = λ process reason m c h f own d. h;
-      released = λ process p reason m h waits unlinked. appended-kind (workspace_of process) p (without_waiter process m)
+      released = λ process p reason m h waits unlinked. appended-kind (workspace_of process) p
+          (without_waiter process m)
           ∙ h;
       released_waits = λ other p awaited process reason m c h f own d waits unlinked.
           appended-kind (workspace_of other) p (without_waiter other m) ∙ h;

@@ -26,7 +26,8 @@ use Rattle.tcpu.proofs.Quiet.{effect_answered, effect_broke, stays_effect}
 use Rattle.tproc.specs.Doing.{Begins, Foresees, jumps_as, onward, with_registers}
 
 -- what an instruction did tells how a step begins
-pub begins_effect : (kind : Kind) (i : Instruction) (r r' : Registers) (c : Claims) (s s' : Store) (result : Result Next Break)
+pub begins_effect : (kind : Kind) (i : Instruction) (r r' : Registers) (c : Claims) (s s' : Store)
+    (result : Result Next Break)
     → run (effect kind i r) s c ≡ outcome_of result r' s' → Begins (effect kind i r) c s (with_registers result r') s'
 begins_effect kind i r r' c s s' (Ok next) e = λ f. effect_answered kind i r r' next f s s' c e
 begins_effect kind i r r' c s s' (Err b) e = λ f. effect_broke kind i r b f s c e
@@ -40,7 +41,12 @@ foresees kind i r c s result e = by (run (effect kind i r) s c) refl e
         → Foresees (effect kind i r) c s r result
     by (Err b) k h = rw h (λ f. effect_broke kind i r b f s c k)
     by (Ok ((r', Jumped), s')) k h =
-        rw h (r', s', stays_effect kind i r r' c s s' (Ok Jumped) k, (λ f. effect_answered kind i r r' Jumped f s s' c k))
+        rw h (
+          r',
+          s',
+          stays_effect kind i r r' c s s' (Ok Jumped) k,
+          (λ f. effect_answered kind i r r' Jumped f s s' c k),
+        )
     by (Ok ((r', _), s')) k h = rw h tt
 
 -- no store is written
@@ -75,7 +81,8 @@ reading_bind (reading_saved w k next) f old new c q = absurd q
 reading_bind (setting_saved w k v next) f old new c q = absurd q
 
 -- the bytes of an instruction
-complete-reading : (kind : Kind) (rest : ℤ → Action Instruction) (length : ℕ) (p : Chained) → ((w : ℤ) → IsReading (rest w))
+complete-reading : (kind : Kind) (rest : ℤ → Action Instruction) (length : ℕ) (p : Chained)
+    → ((w : ℤ) → IsReading (rest w))
     → IsReading (complete kind rest length p)
 complete-reading kind rest length (More w) h = h w
 complete-reading kind rest length (Last f w) h = by (is_listed kind f w)
@@ -98,7 +105,8 @@ begins_decode kind iptr c s result e =
     λ f. rw e (reading_bind (fetch kind longest 0 iptr (pos 0)) f s s c (fetch-reading kind longest 0 iptr (pos 0)))
 
 -- whether it jumped
-pub told_effect : (kind : Kind) (i : Instruction) (r r' : Registers) (c : Claims) (s s' : Store) (result : Result Next Break)
+pub told_effect : (kind : Kind) (i : Instruction) (r r' : Registers) (c : Claims) (s s' : Store)
+    (result : Result Next Break)
     → run (effect kind i r) s c ≡ outcome_of result r' s' → would_jump (run (effect kind i r) s c) ≡ jumps_as result
 told_effect kind i r r' c s s' (Ok next) e = rw e refl
 told_effect kind i r r' c s s' (Err b) e = rw e refl

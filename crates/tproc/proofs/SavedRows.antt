@@ -242,7 +242,8 @@ module _ (D : List ℕ) where
       sets_bind D (λ l _. l ≡ None) (StepTurns m) (decode m.kind m.registers.iptr)
       (λ i. effect m.kind i m.registers >>= (λ r. after i.length p m r.0 r.1)) None
       (sets_none D (decode m.kind m.registers.iptr) None (decode-none m.kind m.registers.iptr)) (λ l i h.
-      rw h (sets_bind D (λ l _. l ≡ None) (StepTurns m) (effect m.kind i m.registers) (λ r. after i.length p m r.0 r.1) None
+      rw h (sets_bind D (λ l _. l ≡ None) (StepTurns m) (effect m.kind i m.registers)
+      (λ r. after i.length p m r.0 r.1) None
       (sets_none D (effect m.kind i m.registers) None (effect-none m.kind i m.registers)) (λ l r k.
       rw k (after-turns i.length p m r.0 r.1 b))))
 

@@ -36,7 +36,8 @@ use Rattle.tproc.proofs.Quiet.{begins_decode}
 use Rattle.tproc.proofs.Disabling.{IsSelected, Selects, selects-ends, disables-ends, awaits-ends}
 
 -- an operation that is none of the local ones is left to the scheduler
-scheduled : (kind : Kind) (i : Decoded) (r : Registers) (o : Operation) → operation_of kind i.function i.operand ≡ Some o
+scheduled : (kind : Kind) (i : Decoded) (r : Registers) (o : Operation) → operation_of kind i.function i.operand
+    ≡ Some o
     → ((r' : Registers) → operation_effect o r' ≡ None) → effect kind i r ≡ answer (r, Schedule o)
 unfolding effect
 scheduled kind i r o e h = by i.function e
@@ -44,7 +45,8 @@ scheduled kind i r o e h = by i.function e
     after_it : Registers
     after_it = record r { iptr = plus r.iptr i.length }
 
-    by : (f : Function) → operation_of kind f i.operand ≡ Some o → effect_at kind f i.operand r after_it ≡ answer (r, Schedule o)
+    by : (f : Function) → operation_of kind f i.operand ≡ Some o → effect_at kind f i.operand r after_it
+        ≡ answer (r, Schedule o)
     by function.Opr e = rw (e, h _) refl
     by function.J e = cc
     by function.Ldlp e = cc
@@ -127,7 +129,8 @@ module _ (n n' : Machine) (x : Ran) (o : Operation) (left : (r : Registers) → 
           → acted n.store (run (control_step b n.control) n.store (claims_of n.control)) ≡ Ok (n', x) → IsStepOf
       by true e f = cc
       by false e f =
-          runs_next n.control.current (value_of (run (decode n.control.kind n.control.registers.iptr) n.store (claims_of n.control)))
+          runs_next n.control.current (value_of (run (decode n.control.kind n.control.registers.iptr) n.store
+          (claims_of n.control)))
           refl e (what_ran (running_step n.control.current n.control) f)
 
 -- a step that disables a guard

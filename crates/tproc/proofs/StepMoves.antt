@@ -73,5 +73,6 @@ StepObeys K d r = Obeys K r.0
 abbrev pub PartObeys : (Kind → List ℕ → List ℕ → List Waiter → List LinkEnd → Type 0) → Claims → Control → Type 0
 PartObeys K d m = Obeys K m
 
-abbrev pub AnswerObeys : (Kind → List ℕ → List ℕ → List Waiter → List LinkEnd → Type 0) → Claims → Control × Bool → Type 0
+abbrev pub AnswerObeys : (Kind → List ℕ → List ℕ → List Waiter → List LinkEnd → Type 0) → Claims → Control × Bool
+    → Type 0
 AnswerObeys K d r = Obeys K r.0

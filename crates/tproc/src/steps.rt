@@ -30,8 +30,8 @@ use tword::{Break, Kind, Word};
 
 /// The instruction with which a step begins.
 #[inline(always)]
-fn fetch(claimed: &ClaimedMemory, kind: Kind, iptr: Word) -> Result<Instruction, Break>
-    ensures { Begins (decoding kind iptr) claimed.now.marks claimed.now.memory result claimed.now.memory }
+fn fetch(claimed: &ClaimedMemory, kind: &Kind, iptr: Word) -> Result<Instruction, Break>
+    ensures { Begins (decoding kind.now iptr) claimed.now.marks claimed.now.memory result claimed.now.memory }
 {
     decode_for(kind, &claimed.memory, &claimed.marks, iptr)
 }
@@ -40,12 +40,13 @@ fn fetch(claimed: &ClaimedMemory, kind: Kind, iptr: Word) -> Result<Instruction,
 #[inline(always)]
 fn jumps(
     claimed: &ClaimedMemory,
-    kind: Kind,
+    kind: &Kind,
     i: Instruction,
     registers: &Registers,
 ) -> Result<bool, Break>
-    ensures told { result ≡ would_jump (run (effect kind i registers.now) claimed.now.memory claimed.now.marks) }
-    ensures foreseen { Foresees (effect kind i registers.now) claimed.now.marks claimed.now.memory registers.now result }
+    ensures told { result ≡ would_jump (run (effect kind.now i registers.now) claimed.now.memory claimed.now.marks) }
+    ensures foreseen { Foresees (effect kind.now i registers.now) claimed.now.marks claimed.now.memory registers.now
+        result }
 {
     match i.function {
         Function::J => Ok(true),
@@ -58,11 +59,11 @@ fn jumps(
 #[inline(never)]
 fn jumps_otherwise(
     claimed: &ClaimedMemory,
-    kind: Kind,
+    kind: &Kind,
     i: Instruction,
     registers: &Registers,
 ) -> Result<bool, Break>
-    ensures { result ≡ would_jump (run (effect kind i registers.now) claimed.now.memory claimed.now.marks) }
+    ensures { result ≡ would_jump (run (effect kind.now i registers.now) claimed.now.memory claimed.now.marks) }
 {
     jumps_for(kind, registers, &claimed.memory, &claimed.marks, i)
 }
@@ -71,16 +72,16 @@ fn jumps_otherwise(
 #[inline(always)]
 fn perform(
     claimed: &mut ClaimedMemory,
-    kind: Kind,
+    kind: &Kind,
     i: &Instruction,
     registers: &mut Registers,
 ) -> Result<Next, Break>
-    ensures begins { Begins (effect kind i.now registers.old) claimed.old.marks claimed.old.memory
+    ensures begins { Begins (effect kind.now i.now registers.old) claimed.old.marks claimed.old.memory
         (with_registers result registers.new) claimed.new.memory }
     ensures kept { OnErr result ((claimed.new.memory ≡ claimed.old.memory) × (registers.new ≡ registers.old)) }
     ensures left { IfOk result
         (λ next. StandsWhereLeft next claimed.old.memory registers.old claimed.new.memory registers.new) }
-    ensures told { would_jump (run (effect kind i.now registers.old) claimed.old.memory claimed.old.marks)
+    ensures told { would_jump (run (effect kind.now i.now registers.old) claimed.old.memory claimed.old.marks)
         ≡ jumps_as result }
     ensures stays { IfOk result (λ next. StaysWhereJumped next registers.old registers.new) }
     ensures size { length claimed.new.memory ≡ length claimed.old.memory }
@@ -174,10 +175,11 @@ fn foresee(
     ensures ends { IfErr result (λ b. run (rest_of i.now priority state.now) claimed.now.memory claimed.now.marks
         ≡ Err b) }
     ensures free { IfOk result (λ _. is_over priority (counted priority state.now) ≡ true
-        → would_jump (run (effect state.now.kind i.now state.now.registers) claimed.now.memory claimed.now.marks) ≡ Ok true
+        → would_jump (run (effect state.now.kind i.now state.now.registers) claimed.now.memory claimed.now.marks)
+        ≡ Ok true
         → deschedule_break (length claimed.now.memory) claimed.now.marks state.now.registers.wptr ≡ None) }
 {
-    if state.will_be_over(priority) && jumps(claimed, state.kind, *i, &state.registers)? {
+    if state.will_be_over(priority) && jumps(claimed, &state.kind, *i, &state.registers)? {
         claimed.may_deschedule(state.registers.wptr)?;
     }
     Ok(())
@@ -193,9 +195,9 @@ fn instruction(state: &mut State, claimed: &mut ClaimedMemory, priority: u8) -> 
         claimed.old.memory result state.new claimed.new.memory }
     ensures agrees { Agrees claimed.new.marks state.new }
 {
-    let i = fetch(claimed, state.kind, state.registers.iptr)?;
+    let i = fetch(claimed, &state.kind, state.registers.iptr)?;
     foresee(state, claimed, &i, priority)?;
-    match perform(claimed, state.kind, &i, &mut state.registers)? {
+    match perform(claimed, &state.kind, &i, &mut state.registers)? {
         Next::Go => {
             state.count_one(priority);
             Ok(Ran::Instruction)
@@ -231,11 +233,11 @@ pub fn instruction_alone(
     ensures goes_on { IfNone result
         (state.new ≡ counted priority (record state.old { registers = state.new.registers })) }
 {
-    let i = match fetch(claimed, state.kind, state.registers.iptr) {
+    let i = match fetch(claimed, &state.kind, state.registers.iptr) {
         Ok(i) => i,
         Err(broken) => return Some(Err(broken)),
     };
-    match perform(claimed, state.kind, &i, &mut state.registers) {
+    match perform(claimed, &state.kind, &i, &mut state.registers) {
         Ok(Next::Go | Next::Jumped) => {
             state.count_alone(priority);
             None

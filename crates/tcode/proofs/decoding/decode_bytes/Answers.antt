@@ -17,7 +17,8 @@ returns-in-Some c =
     ∙ ended_in c.args.kind (λ _. Err LongPrefix) c.in-Some.function ((v + c.from.result) % 2 ^ 32) (c.loop-had.had + 1)
     c.ended.result c.ended.ensures
     ∙ sym (c.loop-had.invariant
-    ∙ step-ends c.args.kind c.args.bytes.now c.loop-had.had v _ (omega arith) (omega arith) (omega arith) sum c.in-Some.function
+    ∙ step-ends c.args.kind c.args.bytes.now c.loop-had.had v _ (omega arith) (omega arith)
+    (omega arith) sum c.in-Some.function
     (sym c.function_of.ensures ∙ c.in-Some.is))
 
 pub loop-had-preserved : goal.loop-had-preserved
