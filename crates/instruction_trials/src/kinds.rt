@@ -50,7 +50,10 @@ fn dup_pushes_a(rt: HostRuntime) -> Result<(), Fail> {
     let mut registers = before(7, 8, 9);
     assert_eq!(rt; decode(&memory, &marks, registers.iptr), Ok(dup()));
     assert_eq!(rt; jumps(&registers, &memory, &marks, dup()), Ok(false));
-    assert_eq!(rt; local(&mut registers, &mut memory, &marks, dup()), Ok(Next::Go));
+    assert_eq!(rt;
+        local(&mut registers, &mut memory, &marks, dup()),
+        Ok(Next::Go)
+    );
     let mut after = before(7, 7, 8);
     after.iptr = Word::new(CODE + 2);
     assert!(rt; registers == after);
@@ -65,7 +68,10 @@ fn kind_1_has_no_dup(rt: HostRuntime) -> Result<(), Fail> {
     let refused = Break::NoSuchOperation;
     assert_eq!(rt; decode(&memory, &marks, registers.iptr), Err(refused));
     assert_eq!(rt; jumps(&registers, &memory, &marks, dup()), Err(refused));
-    assert_eq!(rt; local(&mut registers, &mut memory, &marks, dup()), Err(refused));
+    assert_eq!(rt;
+        local(&mut registers, &mut memory, &marks, dup()),
+        Err(refused)
+    );
     assert!(rt; registers == before(7, 8, 9));
     Ok(())
 }
@@ -73,11 +79,17 @@ fn kind_1_has_no_dup(rt: HostRuntime) -> Result<(), Fail> {
 #[test]
 fn bytes_are_decoded_by_kind(rt: HostRuntime) {
     assert_eq!(rt; decode_bytes(&DUP, Kind::Two), Ok(dup()));
-    assert_eq!(rt; decode_bytes(&DUP, Kind::One), Err(DecodeFault::NoSuchOperation));
+    assert_eq!(rt;
+        decode_bytes(&DUP, Kind::One),
+        Err(DecodeFault::NoSuchOperation)
+    );
     // `wsub` is of both kinds, and what follows 5A of neither.
     for kind in [Kind::One, Kind::Two] {
         assert!(rt; decode_bytes(&[0xfa], kind).is_ok());
-        assert_eq!(rt; decode_bytes(&[0x25, 0xfb], kind), Err(DecodeFault::NoSuchOperation));
+        assert_eq!(rt;
+            decode_bytes(&[0x25, 0xfb], kind),
+            Err(DecodeFault::NoSuchOperation)
+        );
     }
 }
 
@@ -85,7 +97,7 @@ fn bytes_are_decoded_by_kind(rt: HostRuntime) {
 fn dup_is_encoded_and_named(rt: HostRuntime) -> Result<(), Fail> {
     let mut buffer = [0xaa; 8];
     let length = encode(Function::Opr, 0x5a, &mut buffer);
-    assert_eq!(rt; &buffer[0..length], &DUP);
+    assert_eq!(rt; &buffer[0..length], DUP.as_slice());
     let text = format!(in rt.alloc(); "{}", dup())?;
     assert_eq!(rt; text.as_str(), "dup");
     Ok(())
@@ -101,14 +113,20 @@ fn the_last_word_of_kind_2_is_there(rt: HostRuntime) -> Result<(), Fail> {
     assert_eq!(rt; memory.write_word(&marks, last, Word::new(7)), Ok(()));
     assert_eq!(rt; memory.read_word(&marks, last), Ok(Word::new(7)));
     assert_eq!(rt; memory.read_word(&marks, behind), Err(Break::BadAddress));
-    assert_eq!(rt; memory.write_word(&marks, behind, Word::new(7)), Err(Break::BadAddress));
+    assert_eq!(rt;
+        memory.write_word(&marks, behind, Word::new(7)),
+        Err(Break::BadAddress)
+    );
     Ok(())
 }
 
 /// Whether this size is refused for a memory and for a processor of a kind.
 fn is_bad_size(alloc: Global, size: u32, kind: Kind) -> bool {
     matches!(Memory::new(alloc, size, kind), Err(MemoryFault::BadSize))
-        && matches!(Processor::new(alloc, size, 1, kind), Err(MemoryFault::BadSize))
+        && matches!(
+            Processor::new(alloc, size, 1, kind),
+            Err(MemoryFault::BadSize)
+        )
 }
 
 /// Whether a memory of a kind is made with this size.
