@@ -1,6 +1,6 @@
 //! A node, whose parts fit one another at all times.
 
-ghost use Rattle.std.specs.Prelude.{◌≡◌, ◌≤◌, false, All, IfOk, option_copied};
+ghost use Rattle.std.specs.Prelude.{◌≡◌, ◌≤◌, false, All, IfErr, IfOk, option_copied};
 ghost use Rattle.tword.specs.Stores.{as_cells};
 ghost use Rattle.tword.specs.Limits.{is_bad_message};
 ghost use Rattle.tlink.specs.Node.{counts_at, due_at, fresh_node, fresh_source, fresh_sink};
@@ -17,7 +17,7 @@ use crate::source::Source;
 use std::alloc::{AllocError, Global};
 use std::marker::Model;
 use tproc::{Offer, Processor};
-use tword::{Break, Items};
+use tword::{Break, Items, MemoryFault};
 
 /// What stands behind the links of a node: a processor, or a script at link 0.
 #[derive(Drop)]
@@ -92,9 +92,10 @@ impl Node {
     /// A node in the same state. It takes memory: that of a processor, or of what a script holds.
     ///
     /// # Errors
-    /// Where the allocator refuses.
-    pub fn try_copy(&self, alloc: Global) -> Result<Node, AllocError>
-        ensures { IfOk result (λ n. n ≡ self.now) }
+    /// `OutOfMemory` where the allocator refuses.
+    pub fn try_copy(&self, alloc: Global) -> Result<Node, MemoryFault>
+        ensures same { IfOk result (λ n. n ≡ self.now) }
+        ensures fault { IfErr result (λ fault. fault ≡ MemoryFault.OutOfMemory) }
     {
         let body = match &self.body {
             Body::Processor(links) => Body::Processor(links.try_copy(alloc)?),

@@ -1,6 +1,6 @@
 //! A net of nodes and wires, with the packets that lie at the ends of its wires.
 
-ghost use Rattle.std.specs.Prelude.{◌≡◌, ◌≢◌, ◌≤◌, ℕ, length, IsTrue, IfOk, ◌↔◌};
+ghost use Rattle.std.specs.Prelude.{◌≡◌, ◌≢◌, ◌≤◌, ℕ, length, IsTrue, IfErr, IfOk, ◌↔◌};
 ghost use Rattle.tlink.specs.Node.{NodeState};
 ghost use Rattle.tnet.specs.Net.{NetState, inbox_at, sources_in, sinks_in};
 ghost use Rattle.tnet.specs.Packets.{net_happens, answered, net_left_by, after_event, applied_from, is_enabled};
@@ -22,10 +22,11 @@ use crate::opening::open;
 use crate::parts::Parts;
 use crate::scripts::{Sinks, Sources};
 use crate::wires::{NetParts, Wires};
-use std::alloc::{AllocError, Global};
+use std::alloc::Global;
 use std::marker::Model;
 use tlink::{Emitted, Node, StepFault};
 use tplan::{BuildFault, End, Event, Plan};
+use tword::MemoryFault;
 
 /// A net of nodes and wires, with the packets that lie at the ends of its wires.
 ///
@@ -74,9 +75,10 @@ impl Net {
     /// A net in the same state. It takes memory: as much as the net has.
     ///
     /// # Errors
-    /// Where the allocator refuses.
-    pub fn try_copy(&self, alloc: Global) -> Result<Net, AllocError>
-        ensures { IfOk result (λ net. net ≡ self.now) }
+    /// `OutOfMemory` where the allocator refuses.
+    pub fn try_copy(&self, alloc: Global) -> Result<Net, MemoryFault>
+        ensures same { IfOk result (λ net. net ≡ self.now) }
+        ensures fault { IfErr result (λ fault. fault ≡ MemoryFault.OutOfMemory) }
     {
         Ok(Net {
             parts: self.parts.try_copy(alloc)?,

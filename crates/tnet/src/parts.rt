@@ -1,6 +1,6 @@
 //! The parts of a net, and an event of one of its nodes.
 
-ghost use Rattle.std.specs.Prelude.{◌≡◌, ◌<◌, ℕ, not, [], slice_index_or, slice_set, Option, None, IfOk};
+ghost use Rattle.std.specs.Prelude.{◌≡◌, ◌<◌, ℕ, not, [], slice_index_or, slice_set, Option, None, IfErr, IfOk};
 ghost use Rattle.std.specs.List.{list_all};
 ghost use Rattle.tlink.specs.Node.{NodeState};
 ghost use Rattle.tnet.specs.Quiet.{node_events, is_quiet, is_quiet_from};
@@ -14,11 +14,11 @@ ghost use Rattle.tnet.specs.Stations.{asked};
 
 use crate::inbox::Inbox;
 use crate::station::{self, empty, put};
-use std::alloc::{AllocError, Global};
+use std::alloc::Global;
 use std::marker::Model;
 use tlink::{Emitted, Node, NodeEvent, Packet, StepFault};
 use tplan::{Act, End, Event, Wire};
-use tword::Items;
+use tword::{Items, MemoryFault};
 
 /// The parts of a net, with no claim that they fit.
 #[derive(Drop)]
@@ -74,12 +74,16 @@ fn end_of(node: u8, link: u8) -> End
 }
 
 /// Nodes in the same states.
-fn copies(alloc: Global, nodes: &[Node]) -> Result<Vec<Node>, AllocError>
-    ensures { IfOk result (λ copies. copies.items ≡ nodes.now) }
+fn copies(alloc: Global, nodes: &[Node]) -> Result<Vec<Node>, MemoryFault>
+    ensures same { IfOk result (λ copies. copies.items ≡ nodes.now) }
+    ensures fault { IfErr result (λ fault. fault ≡ MemoryFault.OutOfMemory) }
 {
     let mut copies = Vec::with_capacity(alloc, nodes.len())?;
     for node in nodes {
-        copies.push(node.try_copy(alloc)?)?;
+        let copy = node.try_copy(alloc)?;
+        if let Err(_refused) = copies.push(copy) {
+            return Err(MemoryFault::OutOfMemory);
+        }
     }
     Ok(copies)
 }
@@ -127,9 +131,10 @@ impl Parts {
     /// Parts in the same state.
     ///
     /// # Errors
-    /// Where the allocator refuses.
-    pub fn try_copy(&self, alloc: Global) -> Result<Parts, AllocError>
-        ensures { IfOk result (λ n. n ≡ self.now) }
+    /// `OutOfMemory` where the allocator refuses.
+    pub fn try_copy(&self, alloc: Global) -> Result<Parts, MemoryFault>
+        ensures same { IfOk result (λ n. n ≡ self.now) }
+        ensures fault { IfErr result (λ fault. fault ≡ MemoryFault.OutOfMemory) }
     {
         let nodes = copies(alloc, self.nodes.as_slice())?;
         let wires = Vec::from_slice(alloc, self.wires.as_slice())?;

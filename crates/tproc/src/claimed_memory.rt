@@ -1,6 +1,6 @@
 //! The bytes of a node's memory with the claims on it.
 
-ghost use Rattle.std.specs.Prelude.{ℕ, [], ◌∷◌, ◌≡◌, ◌<◌, ◌≤◌, ◌+◌, ◌↔◌, length, not, true, None, IfOk, OnOk, Some};
+ghost use Rattle.std.specs.Prelude.{ℕ, [], ◌∷◌, ◌≡◌, ◌<◌, ◌≤◌, ◌+◌, ◌↔◌, length, not, true, None, IfErr, IfOk, OnOk, Some};
 ghost use Rattle.std.specs.Prelude.{is_some, replicate, IsErrOf};
 ghost use Rattle.tword.specs.Accesses.{Changing, Frees, IsMemorySize, no_claims, with_output, with_input};
 ghost use Rattle.tword.specs.Accesses.{without_output, without_input};
@@ -14,7 +14,7 @@ ghost use Rattle.tword.specs.Actions.{or_break, is_slot, unmet};
 ghost use Rattle.tproc.specs.Requests.{may_touch};
 
 use crate::workspace::below;
-use std::alloc::{AllocError, Global};
+use std::alloc::Global;
 use tword::limits::MOST_NEG;
 use tword::{Break, Bytes, Kind, Marks, MemoryFault, Span, Word};
 
@@ -72,10 +72,11 @@ impl ClaimedMemory {
     /// The same memory with the same claims.
     ///
     /// # Errors
-    /// Where the allocator refuses.
-    pub fn try_copy(&self, alloc: Global) -> Result<ClaimedMemory, AllocError>
+    /// `OutOfMemory` where the allocator refuses.
+    pub fn try_copy(&self, alloc: Global) -> Result<ClaimedMemory, MemoryFault>
         ensures memory { IfOk result (λ claimed. claimed.memory ≡ self.now.memory) }
         ensures marks { IfOk result (λ claimed. claimed.marks ≡ self.now.marks) }
+        ensures fault { IfErr result (λ fault. fault ≡ MemoryFault.OutOfMemory) }
     {
         let memory = self.memory.try_copy(alloc)?;
         let marks = self.marks.try_copy(alloc)?;

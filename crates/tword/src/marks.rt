@@ -16,7 +16,7 @@ use crate::link_buffers::LinkBuffers;
 use crate::saved::{Saved, saved_words_of, words_below};
 use crate::span::Span;
 use crate::word::Word;
-use std::alloc::{AllocError, Global};
+use std::alloc::Global;
 use std::marker::Model;
 
 /// The most words of a touch that are looked up in the table. Where fewer workspaces are saved than a sixteenth of
@@ -67,9 +67,10 @@ impl Marks {
     /// The same claims, with the same room.
     ///
     /// # Errors
-    /// Where the allocator refuses.
-    pub fn try_copy(&self, alloc: Global) -> Result<Marks, AllocError>
-        ensures { IfOk result (λ m. m ≡ self.now) }
+    /// `OutOfMemory` where the allocator refuses.
+    pub fn try_copy(&self, alloc: Global) -> Result<Marks, MemoryFault>
+        ensures same { IfOk result (λ m. m ≡ self.now) }
+        ensures fault { IfErr result (λ fault. fault ≡ MemoryFault.OutOfMemory) }
     {
         Ok(Marks {
             inputs: self.inputs.copied(),

@@ -1,17 +1,18 @@
 //! The memory of a node.
 
-ghost use Rattle.std.specs.Prelude.{◌≡◌, ◌↔◌, ◌∷◌, [], Some, IfOk, OnOk, IsErrOf, length, replicate, unwrap_or};
+ghost use Rattle.std.specs.Prelude.{◌≡◌, ◌↔◌, ◌∷◌, [], Some, IfErr, IfOk, OnOk, IsErrOf, length, replicate, unwrap_or};
+ghost use Rattle.std.specs.Prelude.{true};
 ghost use Rattle.tword.specs.Accesses.{Changing, IsMemorySize};
 ghost use Rattle.tword.specs.Actions.{or_break};
-ghost use Rattle.tword.specs.Stores.{as_cells, word_at, with_word, with_cells, byte_at};
-ghost use Rattle.tword.specs.Touches.{Reads, Writes, span_break, word_break, byte_span};
+ghost use Rattle.tword.specs.Stores.{as_cells, cells, word_at, with_word, with_cells, byte_at};
+ghost use Rattle.tword.specs.Touches.{Reads, Writes, span_break, word_break, byte_span, is_inside};
 
 use crate::breaks::{Break, MemoryFault};
 use crate::bytes::Bytes;
 use crate::kind::Kind;
 use crate::marks::Marks;
 use crate::word::Word;
-use std::alloc::{AllocError, Global};
+use std::alloc::Global;
 use std::marker::Model;
 
 /// The memory of a node: its bytes, and what kind of node it belongs to. Contracts see both.
@@ -51,9 +52,10 @@ impl Memory {
     /// A memory of the same kind with the same bytes.
     ///
     /// # Errors
-    /// Where the allocator refuses.
-    pub fn try_copy(&self, alloc: Global) -> Result<Memory, AllocError>
-        ensures { IfOk result (λ m. m ≡ self.now) }
+    /// `OutOfMemory` where the allocator refuses.
+    pub fn try_copy(&self, alloc: Global) -> Result<Memory, MemoryFault>
+        ensures same { IfOk result (λ m. m ≡ self.now) }
+        ensures fault { IfErr result (λ fault. fault ≡ MemoryFault.OutOfMemory) }
     {
         let bytes = self.bytes.try_copy(alloc)?;
         Ok(Memory {
@@ -128,5 +130,14 @@ impl Memory {
             (record self.old { bytes = with_cells self.old.bytes address (as_cells (value ∷ [])) }) result self.new }
     {
         self.bytes.write_byte(marks, address, value)
+    }
+
+    /// Copies bytes as if all were read before the first is written, for a caller that has checked both spans.
+    pub fn copy(&mut self, from: Word, to: Word, size: u32)
+        requires source { is_inside (length self.old.bytes) (record { start = from; size = size }) ≡ true }
+        requires target { is_inside (length self.old.bytes) (record { start = to; size = size }) ≡ true }
+        ensures { self.new ≡ record self.old { bytes = with_cells self.old.bytes to (cells self.old.bytes from size) } }
+    {
+        self.bytes.copy(from, to, size);
     }
 }
