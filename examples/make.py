@@ -6,8 +6,12 @@
                                                   instructions that a listing names are not those that PROGRAM shows
     examples/make.py image LISTING IMAGE          makes one image
     examples/make.py names LISTING                prints the names of a listing, each behind its address
-    examples/make.py label NAMES                  puts such names into what `temu dis` prints (standard input)
-    examples/make.py words NODE ADDRESS [COUNT]   prints words of a node from what `temu run` prints (standard input)
+    examples/make.py label NAMES [NODE]           puts such names into what `temu dis` prints, or `temu where` of all
+                                                  nodes or of one (standard input)
+    examples/make.py words NODE ADDRESS [COUNT] [--memory BYTES]
+                                                  prints words of a node from what `temu run` prints (standard input);
+                                                  an address behind so many bytes, 16777216 where they are not told,
+                                                  is refused
     examples/make.py ring IMAGE..                 prints a wiring: link 1 of each node to link 2 of the next, round
     examples/make.py pipeline IMAGE..             the same, where the last node is not joined to the first
     examples/make.py grid WIDTH IMAGE..           links 0 to 3 are up, right, down, left; row by row
@@ -16,9 +20,14 @@ The wirings take --memory BYTES, 2048 where it is absent. A listing has one of t
 
     at 80000080               a segment begins at this address
     24 f2    mint    remark   its next bytes; behind two blanks the instructions that they are, or `data`
+    j loop    remark          instructions without bytes, which are made: the shortest ones
     loop:                     a name of the address that is reached
     process 80000101 80000080 a process: its descriptor, and the address or the name of its first instruction
     # remark
+
+Instructions stand with `, ` between them. An operand is a number (`-4`, `#80000300`), a name, or a sum of such
+(`end-start`, `loop+4`): behind j, cj and call a name stands for the distance to it, behind ldc for its address. Bytes
+that are not the instructions beside them are refused; each fault has the file and the line before it.
 """
 import argparse
 import collections
@@ -29,8 +38,35 @@ import subprocess
 import sys
 
 EXAMPLES = pathlib.Path(__file__).resolve().parent
-# What a listing tells: segments and processes as pairs, addresses by name, and instructions as (address, texts).
+FUNCTIONS = "j ldlp pfix ldnl ldc ldnlp nfix ldl adc call cj ajw eqc stl stnl opr".split()
+PREFIX, NEGATIVE_PREFIX, OPERATE = 2, 6, 15
+# The functions whose operand is the distance from the next instruction.
+JUMPS = ("j", "cj", "call")
+# The operations by their codes, in rows of sixteen; `-` where there is none.
+OPERATIONS = dict(
+    (name, code)
+    for code, name in enumerate(
+        """
+        rev lb bsub endp diff add gcall in prod gt wsub out sub startp outbyte outword
+        seterr - - csub0 - stopp ladd - - norm ldiv ldpi - xdble ldpri rem
+        ret lend - - - - - - - testerr testpranal - div - - disc
+        diss lmul not xor bcnt lshr lshl lsum lsub runp xword sb gajw - - wcnt
+        shr shl mint alt altwt altend and - enbc enbs move or csngl ccnt1 - ldiff
+        - - sum mul - stoperr cword clrhalterr sethalterr testhalterr dup
+        """.split()
+    )
+    if name != "-"
+)
+OPERATION_NAMES = {code: name for name, code in OPERATIONS.items()}
+# The first address of a memory, the first one that a program may use, and the bytes of the largest memory.
+LOWEST, FIRST, LARGEST = 0x80000000, 0x80000048, 1 << 24
+# What a listing tells: segments and processes as pairs, addresses by name, and instructions as (address, text).
 Listing = collections.namedtuple("Listing", "segments processes names instructions")
+# The parts of a segment, each with the number of its line: a name, bytes with the instructions that stand beside them,
+# and an instruction whose bytes are made.
+Name = collections.namedtuple("Name", "number name")
+Given = collections.namedtuple("Given", "number code texts")
+Made = collections.namedtuple("Made", "number function operand")
 
 
 class Wrong(Exception):
@@ -51,38 +87,224 @@ def process(workspace, start, high=False):
     return workspace | (0 if high else 1), start
 
 
-def read_listing(text):
-    """Returns what the text of a listing tells."""
-    listing, processes = Listing([], [], {}, []), []
-    for number, line in enumerate(text.split("\n"), 1):
-        words = line.split()
+def address_of(word):
+    """Returns the address that a word of eight hexadecimal digits is, which a program may use."""
+    if not re.fullmatch(r"[0-9a-fA-F]{8}", word):
+        raise Wrong(f"no address of eight hexadecimal digits: {word}")
+    address = int(word, 16)
+    if not FIRST <= address < LOWEST + LARGEST:
+        raise Wrong(f"no address that a program may use, from {FIRST:08x} on: {word}")
+    return address
+
+
+def signed(number):
+    """Returns the word that a number is modulo 2^32, read as a signed one."""
+    return (number + (1 << 31)) % (1 << 32) - (1 << 31)
+
+
+def chain(function, operand):
+    """Returns the shortest bytes of a function with a signed operand."""
+    if 0 <= operand < 16:
+        return bytes([function << 4 | operand])
+    above = chain(PREFIX, operand >> 4) if operand >= 16 else chain(NEGATIVE_PREFIX, ~operand >> 4)
+    return above + bytes([function << 4 | operand & 15])
+
+
+def decoded(code):
+    """Returns the instructions that bytes are, as (offset, function, operand, offset behind it)."""
+    found, start, operand = [], 0, 0
+    for at, byte in enumerate(code):
+        function, operand = byte >> 4, operand + (byte & 15)
+        if function == PREFIX:
+            operand *= 16
+        elif function == NEGATIVE_PREFIX:
+            operand = 16 * ~operand
+        else:
+            found.append((start, function, signed(operand), at + 1))
+            start, operand = at + 1, 0
+    if start < len(code):
+        raise Wrong(f"the bytes end within an instruction: {code[start:].hex(' ')}")
+    return found
+
+
+def text_of(function, operand):
+    """Returns the text of an instruction, as `temu dis` shows it."""
+    if function == OPERATE:
+        return OPERATION_NAMES.get(operand, f"operation {operand}")
+    return f"{FUNCTIONS[function]} {operand}"
+
+
+def parts_of(text):
+    """Returns the function of an instruction's text and its operand: a number where the text has one, else a text."""
+    word, _, operand = text.partition(" ")
+    if word in OPERATIONS and not operand:
+        return OPERATE, OPERATIONS[word]
+    if word not in FUNCTIONS or not operand or FUNCTIONS.index(word) in (PREFIX, NEGATIVE_PREFIX, OPERATE):
+        raise Wrong(f"no instruction: {text}")
+    return FUNCTIONS.index(word), operand
+
+
+def operand_of(function, operand, behind, names):
+    """Returns the number that an operand stands for; `behind` is the address of the next instruction."""
+    if isinstance(operand, int):
+        return operand
+    total, addresses = 0, 0
+    if not re.fullmatch(r"[+-]?[#\w]+([+-][#\w]+)*", operand):
+        raise Wrong(f"no operand: {operand}")
+    for sign, word in re.findall(r"([+-]?)([#\w]+)", operand):
+        factor = -1 if sign == "-" else 1
+        if word in names:
+            total, addresses = total + factor * names[word], addresses + factor
+        elif re.fullmatch(r"\d+|#[0-9a-fA-F]+", word):
+            total += factor * (int(word[1:], 16) if word[0] == "#" else int(word))
+        else:
+            raise Wrong(f"no number and no name: {word}")
+    if addresses and (addresses != 1 or FUNCTIONS[function] not in (*JUMPS, "ldc")):
+        raise Wrong(f"a name stands for an operand behind {', '.join(JUMPS)} and ldc; else write two, as end-start")
+    if not -(1 << 31) <= total < 1 << 32:
+        raise Wrong(f"no operand of 32 bits: {operand}")
+    return signed(total - behind if addresses and FUNCTIONS[function] in JUMPS else total)
+
+
+class Reader:
+    """Reads a listing: first its lines, and then, with the address of each name, the bytes that they stand for."""
+
+    def __init__(self):
+        # Segments are (address, parts), processes and faults have the number of their line before them.
+        self.segments, self.processes, self.faults = [], [], []
+        # The length of each instruction that is made, by its segment and its place there.
+        self.names, self.lengths = {}, {}
+
+    def try_to(self, number, call, *given):
+        """Returns what a call for a line returns, or None where the line has a fault, which is kept."""
         try:
-            if words and words[0] == "process":
-                processes.append(words[1:3])
-            elif words and not words[0].startswith("#"):
-                add_line(listing, line.strip(), words)
-        except (ValueError, IndexError):
-            raise Wrong(f"line {number} is no line of a listing: {line.strip()}") from None
-    for descriptor, start in processes:
-        start = listing.names[start] if start in listing.names else int(start, 16)
-        listing.processes.append((int(descriptor, 16), start))
+            return call(*given)
+        except Wrong as fault:
+            if (number, str(fault)) not in self.faults:
+                self.faults.append((number, str(fault)))
+            return None
+
+    def read_line(self, number, line):
+        """Reads a line that is neither empty nor a remark."""
+        words = line.split()
+        if words[0] in ("at", "process"):
+            if len(words) != (2 if words[0] == "at" else 3):
+                raise Wrong(f"`{words[0]}` has {'one word' if words[0] == 'at' else 'two words'} behind it")
+            if words[0] == "at":
+                self.segments.append((address_of(words[1]), []))
+            else:
+                self.processes.append((number, *words[1:]))
+        elif not self.segments:
+            raise Wrong("no segment has begun: its address comes first, as `at 80000080`")
+        elif re.fullmatch(r"[A-Za-z_]\w*:", words[0]):
+            if len(words) > 1:
+                raise Wrong("a name stands alone on its line")
+            if words[0][:-1] in self.names:
+                raise Wrong(f"the name {words[0][:-1]} is given twice")
+            self.names[words[0][:-1]] = 0
+            self.segments[-1][1].append(Name(number, words[0][:-1]))
+        else:
+            self.segments[-1][1].extend(parts_in(number, line))
+
+    def places(self):
+        """Yields each part with its address and, of an instruction that is made, the key of its length."""
+        for segment, (address, parts) in enumerate(self.segments):
+            for place, part in enumerate(parts):
+                yield part, address, (segment, place)
+                if isinstance(part, Given):
+                    address += len(part.code)
+                elif isinstance(part, Made):
+                    address += self.lengths.setdefault((segment, place), 1)
+
+    def settle(self):
+        """Finds the address of each name: the instructions that are made grow until all are long enough."""
+        grown = True
+        while grown:
+            grown = False
+            self.names.update({part.name: address for part, address, _ in self.places() if isinstance(part, Name)})
+            for part, address, key in self.places():
+                if isinstance(part, Made):
+                    needed = len(self.try_to(part.number, self.code_of, part, address, self.lengths[key]) or b"")
+                    if needed > self.lengths[key]:
+                        self.lengths[key], grown = needed, True
+
+    def code_of(self, part, address, length):
+        """Returns the bytes of an instruction at an address, if it has this length at least."""
+        code = chain(part.function, operand_of(part.function, part.operand, address + length, self.names))
+        return bytes([PREFIX << 4]) * (length - len(code)) + code
+
+    def shortest(self, part, address):
+        """Returns the shortest bytes of an instruction at an address."""
+        codes = (self.code_of(part, address, length) for length in range(1, 9))
+        return next(code for length, code in enumerate(codes, 1) if len(code) == length)
+
+    def compare(self, part, address):
+        """Returns the instructions (address, text) of bytes that are given: those that stand beside them, or a fault."""
+        if not part.texts:
+            return []
+        found, told = decoded(part.code), []
+        if len(found) != len(part.texts):
+            texts = ", ".join(text_of(function, operand) for _, function, operand, _ in found)
+            raise Wrong(f"the bytes are {texts}, and not {', '.join(part.texts)}")
+        for text, (start, function, operand, behind) in zip(part.texts, found):
+            wanted = Made(part.number, *parts_of(text))
+            number = operand_of(wanted.function, wanted.operand, address + behind, self.names)
+            if (function, operand) != (wanted.function, number):
+                code, right = part.code[start:behind], self.shortest(wanted, address + start)
+                raise Wrong(f"{code.hex(' ')} is {text_of(function, operand)}, and {text} is {right.hex(' ')}")
+            told.append((address + start, text_of(function, operand)))
+        return told
+
+    def process(self, descriptor, start):
+        """Returns a process: its descriptor and the address of its first instruction."""
+        if address_of(descriptor) & 2:
+            raise Wrong(f"no workspace at a multiple of 4, with 1 added for low priority: {descriptor}")
+        if start in self.names:
+            return int(descriptor, 16), self.names[start]
+        if not re.fullmatch(r"[0-9a-fA-F]{8}", start):
+            raise Wrong(f"no name of the listing, and no address of eight hexadecimal digits: {start}")
+        return int(descriptor, 16), address_of(start)
+
+    def listing(self):
+        """Returns what the lines tell."""
+        self.settle()
+        segments, instructions = [(address, bytearray()) for address, _ in self.segments], []
+        for part, address, (segment, place) in self.places():
+            if isinstance(part, Given):
+                segments[segment][1].extend(part.code)
+                instructions += self.try_to(part.number, self.compare, part, address) or []
+            elif isinstance(part, Made):
+                length = self.lengths[segment, place]
+                code = self.try_to(part.number, self.code_of, part, address, length) or b""
+                segments[segment][1].extend(code)
+                instructions += [(address, text_of(*it[1:3])) for it in decoded(code)]
+        processes = [self.try_to(number, self.process, *words) for number, *words in self.processes]
+        return Listing(segments, processes, self.names, instructions)
+
+
+def parts_in(number, line):
+    """Returns the parts that a line of bytes or of instructions is."""
+    first, *others = re.split(r"\s{2,}", line)
+    if re.fullmatch(r"([0-9a-fA-F]{2} ?)+", first):
+        texts = others[0].split(", ") if others and others[0] != "data" else []
+        return [Given(number, bytes.fromhex(first), texts)]
+    if re.match(r"[0-9a-fA-F]{2}( |$)", first):
+        raise Wrong(f"no bytes with two blanks behind them: {first}")
+    return [Made(number, *parts_of(text)) for text in first.split(", ")]
+
+
+def read_listing(file):
+    """Returns what the file of a listing tells."""
+    reader, lines = Reader(), file.read_text(encoding="utf-8").split("\n")
+    for number, line in enumerate(lines, 1):
+        if line.strip() and not line.strip().startswith("#"):
+            reader.try_to(number, reader.read_line, number, line.strip())
+    if not reader.processes:
+        reader.faults.append((len(lines), "no process: a line as `process 80000101 80000080` is wanted"))
+    listing = reader.listing()
+    if reader.faults:
+        raise Wrong("\n".join(f"{file}:{number}: {fault}" for number, fault in sorted(reader.faults)))
     return listing
-
-
-def add_line(listing, line, words):
-    """Adds a line of a listing that begins a segment, names an address, or has bytes."""
-    if words[0] == "at":
-        listing.segments.append((int(words[1], 16), bytearray()))
-        return
-    address, code = listing.segments[-1]
-    here = address + len(code)
-    if re.fullmatch(r"\w+:", words[0]):
-        listing.names[words[0][:-1]] = here
-        return
-    columns = re.split(r"\s{2,}", line)
-    code += bytes.fromhex(columns[0])
-    if len(columns) > 1 and columns[1] != "data":
-        listing.instructions.append((here, columns[1].split(", ")))
 
 
 def image_of(listing):
@@ -121,12 +343,12 @@ def memories(output):
     """Returns for each node that temu printed its bytes by their address; None is a byte that is hidden."""
     nodes = []
     for line in output.split("\n"):
-        shown = re.fullmatch(r"([0-9a-f]{8}):((?: (?:[0-9a-f]{2}|--))+)", line)
+        row = re.fullmatch(r"([0-9a-f]{8}):((?: (?:[0-9a-f]{2}|--))+)", line)
         if re.match(r"node \d+ ", line):
             nodes.append({})
-        elif shown and nodes:
-            for at, byte in enumerate(shown[2].split()):
-                nodes[-1][int(shown[1], 16) + at] = None if byte == "--" else int(byte, 16)
+        elif row and nodes:
+            for at, byte in enumerate(row[2].split()):
+                nodes[-1][int(row[1], 16) + at] = None if byte == "--" else int(byte, 16)
     return nodes
 
 
@@ -136,11 +358,16 @@ def word_at(memory, address):
     return None if None in parts else int.from_bytes(parts, "little")
 
 
-def shown_words(output, node, address, count):
+def shown_words(output, node, address, count, memory):
     """Returns lines that tell words of a node: address, the word in hexadecimal and as a signed number."""
     nodes = memories(output)
-    if node >= len(nodes):
+    if not 0 <= node < len(nodes):
         raise Wrong(f"there is no node {node} in the input")
+    behind = LOWEST + memory
+    if not LOWEST <= address <= behind - 4 * max(1, count):
+        raise Wrong(f"{count} words from {address:08x} on do not lie in a memory from {LOWEST:08x} to {behind - 1:08x}")
+    if any(it >= behind for it in nodes[node]):
+        raise Wrong(f"the memory of node {node} is larger than {memory} bytes")
     lines = []
     for at in range(address, address + 4 * count, 4):
         word = word_at(nodes[node], at)
@@ -149,28 +376,50 @@ def shown_words(output, node, address, count):
     return lines
 
 
-def read_names(text):
-    """Returns the addresses of a table of names, of which each line is an address and a name, by address."""
+def read_names(file):
+    """Returns the names of a file by address; each line of it is an address and a name."""
     names = {}
-    for line in text.split("\n"):
-        if line.strip():
-            address, name = line.split()[:2]
-            names[int(address, 16)] = name
+    for number, line in enumerate(file.read_text(encoding="utf-8").split("\n"), 1):
+        words = line.split()
+        if words and (len(words) != 2 or not re.fullmatch(r"[0-9a-fA-F]{8}", words[0])):
+            raise Wrong(f"{file}:{number}: no address of eight hexadecimal digits with a name: {line.strip()}")
+        if words:
+            names[int(words[0], 16)] = words[1]
     return names
 
 
-def length_of(operand):
-    """Returns how many bytes the shortest instruction with a signed operand has."""
-    length = 1
-    while not 0 <= operand < 16:
-        operand = operand >> 4 if operand >= 16 else ~operand >> 4
-        length += 1
-    return length
+def labelled(printed, names, node=None):
+    """Returns the lines that `temu dis` or `temu where` printed with names put into them."""
+    lines = [it for it in printed.split("\n") if it]
+    if any(re.match(r"node \d+ ", it) for it in lines):
+        return placed(lines, names, node)
+    if not all(re.match(r"[0-9a-f]{8}: ", it) for it in lines):
+        raise Wrong("the input is neither what `temu dis` nor what `temu where` prints")
+    return listed(lines, names)
 
 
-def labelled(shown, names):
-    """Returns the lines that `temu dis` showed, with names at their addresses and behind jumps and calls to them."""
-    lines = [it for it in shown.split("\n") if it]
+def placed(lines, names, node):
+    """Returns the lines of `temu where` with names behind the addresses of one node, or of all nodes."""
+    told, mine = [], node is None
+    for line in lines:
+        head = re.match(r"(?:node|source|sink) (\d+) ", line)
+        mine = node in (None, int(head[1])) if head else mine
+        told.append(re.sub(r"(Iptr +)?#([0-9a-f]{8})", lambda it: named(it, names), line) if mine else line)
+    return told
+
+
+def named(found, names):
+    """Returns an address with its name; one of an instruction may stand so many bytes behind the name."""
+    address = int(found[2], 16)
+    nearest = max((it for it in names if it <= address), default=None) if found[1] else address
+    if nearest not in names:
+        return found[0]
+    distance = f"+{address - nearest}" if address != nearest else ""
+    return f"{found[0]} ({names[nearest]}{distance})"
+
+
+def listed(lines, names):
+    """Returns the lines of `temu dis` with names at their addresses, and behind jumps and calls to them."""
     starts = [int(it[:8], 16) for it in lines]
     told = []
     for at, line in enumerate(lines):
@@ -178,7 +427,7 @@ def labelled(shown, names):
         jump = re.fullmatch(r"[0-9a-f]{8}: (?:j|cj|call) (-?\d+)", line)
         if jump:
             operand = int(jump[1])
-            after = starts[at] + length_of(operand)
+            after = starts[at] + len(chain(0, operand))
             # A longer spelling than the shortest is seen by where the next instruction begins.
             after = starts[at + 1] if at + 1 < len(lines) and after < starts[at + 1] <= after + 15 else after
             name = names.get(after + operand & 0xFFFFFFFF)
@@ -187,36 +436,37 @@ def labelled(shown, names):
     return told
 
 
-def differences(listing, shown):
+def differences(listing, lines):
     """Returns the instructions of a listing that are not those that `temu dis` showed."""
-    found = {int(line[:8], 16): (at, line[10:]) for at, line in enumerate(shown)}
-    wrong = []
-    for address, texts in listing.instructions:
-        at = found.get(address, (len(shown), ""))[0]
-        if [it[10:] for it in shown[at : at + len(texts)]] != texts:
-            wrong.append(f"{address:08x}: {', '.join(texts)}")
-    return wrong
+    found = {int(line[:8], 16): line[10:] for line in lines}
+    return [f"{address:08x}: {text}" for address, text in listing.instructions if found.get(address) != text]
+
+
+def faults_of(file, program):
+    """Yields what is wrong with the image of an example's listing, or with what a program shows of it."""
+    try:
+        listing = read_listing(file)
+    except Wrong as fault:
+        yield str(fault)
+        return
+    made = file.with_suffix(".img")
+    if not made.is_file() or made.read_bytes() != image_of(listing):
+        yield f"{made.relative_to(EXAMPLES.parent)}: differs from its listing"
+    elif program:
+        printed = subprocess.run([program, "dis", made], stdout=subprocess.PIPE, check=True, text=True).stdout
+        for it in differences(listing, printed.splitlines()):
+            yield f"{file.relative_to(EXAMPLES.parent)}: the program does not show {it}"
 
 
 def check(program):
     """Tells which images of the examples differ from their listings, and returns the status."""
-    failed = False
-    for file in listings():
-        listing = read_listing(file.read_text(encoding="utf-8"))
-        made = file.with_suffix(".img")
-        if not made.is_file() or made.read_bytes() != image_of(listing):
-            failed = True
-            print(f"{made.relative_to(EXAMPLES.parent)}: differs from its listing")
-        elif program:
-            shown = subprocess.run([program, "dis", made], stdout=subprocess.PIPE, check=True, text=True).stdout
-            for it in differences(listing, shown.splitlines()):
-                failed = True
-                print(f"{file.relative_to(EXAMPLES.parent)}: the bytes are no {it}")
+    faults = [fault for file in listings() for fault in faults_of(file, program)]
     for stray in sorted(EXAMPLES.glob("*/*.img")):
         if not stray.with_suffix(".txt").is_file():
-            failed = True
-            print(f"{stray.relative_to(EXAMPLES.parent)}: has no listing")
-    return 1 if failed else 0
+            faults.append(f"{stray.relative_to(EXAMPLES.parent)}: has no listing")
+    for fault in faults:
+        print(fault)
+    return 1 if faults else 0
 
 
 def listings():
@@ -226,7 +476,7 @@ def listings():
 
 def make(listing, to):
     """Makes the image of a listing's file."""
-    to.write_bytes(image_of(read_listing(listing.read_text(encoding="utf-8"))))
+    to.write_bytes(image_of(read_listing(listing)))
 
 
 def arguments():
@@ -238,11 +488,14 @@ def arguments():
     one.add_argument("listing", type=pathlib.Path)
     one.add_argument("image", type=pathlib.Path)
     commands.add_parser("names").add_argument("listing", type=pathlib.Path)
-    commands.add_parser("label").add_argument("names", type=pathlib.Path)
+    label = commands.add_parser("label")
+    label.add_argument("names", type=pathlib.Path)
+    label.add_argument("node", type=int, nargs="?")
     words = commands.add_parser("words")
     words.add_argument("node", type=int)
     words.add_argument("address", type=lambda it: int(it, 16))
     words.add_argument("count", type=int, nargs="?", default=1)
+    words.add_argument("--memory", type=int, default=LARGEST)
     for name in ("ring", "pipeline", "grid"):
         net = commands.add_parser(name)
         net.add_argument("--memory", type=int, default=2048)
@@ -258,12 +511,12 @@ def do(given):
         make(given.listing, given.image)
         return []
     if given.command == "names":
-        names = read_listing(given.listing.read_text(encoding="utf-8")).names
+        names = read_listing(given.listing).names
         return [f"{address:08x} {name}" for name, address in names.items()]
     if given.command == "label":
-        return labelled(sys.stdin.read(), read_names(given.names.read_text(encoding="utf-8")))
+        return labelled(sys.stdin.read(), read_names(given.names), given.node)
     if given.command == "words":
-        return shown_words(sys.stdin.read(), given.node, given.address, given.count)
+        return shown_words(sys.stdin.read(), given.node, given.address, given.count, given.memory)
     if given.command == "grid":
         return [grid(given.images, given.width, given.memory)[:-1]]
     if given.command:
@@ -281,7 +534,8 @@ def main():
         for line in do(given):
             print(line)
     except (Wrong, OSError, ValueError) as fault:
-        print(f"make.py: {fault}", file=sys.stderr)
+        for line in str(fault).split("\n"):
+            print(f"make.py: {line}", file=sys.stderr)
         return 2
     return 0
 
