@@ -124,7 +124,7 @@ sink_dump n kept = sink_line n (length kept) ++ flat_map kept_line kept
 -- the dump of what stands behind the links: a processor, a source or a sink
 abbrev pub role_dump : Role → ℕ → Option Break → Machine → List ℕ
 role_dump Processor n broken m = dump_of n broken m.control.halted m.store
-role_dump (Source done rest) n broken m = source_line n done (done + length rest)
+role_dump (Source over rest) n broken m = source_line n (length over) (length over + length rest)
 role_dump (Sink kept) n broken m = sink_dump n (cut kept (shown m.store))
 
 -- the dump of a node

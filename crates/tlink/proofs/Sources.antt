@@ -1,6 +1,6 @@
 -- What a source does at each event.
 use Rattle.std.proofs.Common.{◌≡◌, ◌∙◌, ℕ, zero, suc, ◌+◌, ◌-◌, ◌<◌, ◌≤◌, refl, sym, ap, subst, cond, List, [], ◌∷◌}
-use Rattle.std.proofs.Common.{length, drop}
+use Rattle.std.proofs.Common.{length, drop, take, ◌++◌, length-take, length-drop}
 use Rattle.std.proofs.Common.{get_or, Bool, true, false, ◌&&◌, not, Option, Some, None, Result, Ok, Err, ◌⊎◌, inl, inr}
 use Rattle.std.proofs.Common.{arith}
 use Rattle.std.specs.Prelude.{sum, slice_get, unwrap_or, option_map, nat_lt, ◌==◌}
@@ -47,17 +47,31 @@ pub tells : (e : NodeEvent) (n old : NodeState) (known : Answer) (b : Bool) → 
 tells e n old known b same is told = told ∙ ap is_node_done (sym is ∙ ap (happens e) same)
 
 -- the lengths of the messages that are not over, by the first of them
-rest_none : (lengths : List ℕ) (done : ℕ) → slice_get lengths done ≡ None → drop done lengths ≡ []
+pub rest_none : (lengths : List ℕ) (done : ℕ) → slice_get lengths done ≡ None → drop done lengths ≡ []
 rest_none [] zero h = refl
 rest_none [] (suc d) h = refl
 rest_none (x ∷ xs) zero h = cc
 rest_none (x ∷ xs) (suc d) h = rest_none xs d h
 
-rest_some : (lengths : List ℕ) (done n : ℕ) → slice_get lengths done ≡ Some n
+pub rest_some : (lengths : List ℕ) (done n : ℕ) → slice_get lengths done ≡ Some n
     → drop done lengths ≡ n ∷ drop (suc done) lengths
 rest_some [] done n h = cc
 rest_some (x ∷ xs) zero n h = ap (λ y. y ∷ xs) (same_Some _ _ h)
 rest_some (x ∷ xs) (suc d) n h = rest_some xs d n h
+
+-- the lengths of the messages that are over, with one more
+over_more : (lengths : List ℕ) (done n : ℕ) → slice_get lengths done ≡ Some n
+    → take (suc done) lengths ≡ take done lengths ++ n ∷ []
+over_more [] done n h = cc
+over_more (x ∷ xs) zero n h = ap (λ y. y ∷ []) (same_Some _ _ h)
+over_more (x ∷ xs) (suc d) n h = ap (λ (ys : List ℕ). x ∷ ys) (over_more xs d n h)
+
+-- how many messages are over, and how many there are
+pub over_count : (lengths : List ℕ) (done : ℕ) → done ≤ length lengths → done ≡ length (take done lengths)
+over_count lengths done h = omega (arith, length-take done lengths)
+
+pub all_count : (lengths : List ℕ) (done : ℕ) → length lengths ≡ length (take done lengths) + length (drop done lengths)
+all_count lengths done = omega (arith, length-take done lengths, length-drop done lengths)
 
 -- a byte of those that became cells
 pub byte_read : (bytes : List ℕ) (start k : ℕ) → start + k < length bytes
@@ -141,8 +155,8 @@ module _ (bytes lengths : List ℕ) (done start : ℕ) (c : Counts) where
         ap sum (rest_some lengths done n h) ∙ sum_by-cons (λ x. x) n (drop (suc done) lengths) in
         let there : done < length lengths = slice_get_within lengths done n h in
         let one : done + 1 ≡ suc done = omega arith in
-        let s : start + n + sum (drop (done + 1) lengths) ≤ length bytes = rw one (omega (arith, within.1)) in
-        (omega (arith, there), s)
+        let s : start + n + sum (drop (done + 1) lengths) ≤ length bytes = rw one (omega (arith, within.within)) in
+        record { all = within.all; few = omega (arith, there); within = s }
 
     -- the answer to Ack, by its tests
     ack_is : happens (Ack 0) this
@@ -152,9 +166,8 @@ module _ (bytes lengths : List ℕ) (done start : ℕ) (c : Counts) where
         (silently Nothing (source_state bytes lengths done start (record c { acked = c.acked + 1 }))))
     unfolding happens
     ack_is =
-        let one : done + 1 ≡ suc done = omega arith in
         let at : most_neg + start + n ≡ most_neg + (start + n) = omega arith in
-        rw (rest_some lengths done n h, one, at) refl
+        rw (rest_some lengths done n h, over_more lengths done n h, at) refl
 
     -- the test of Ack
     pub ack_told : c.acked < c.sent → (c.sent - c.acked == 1) ≡ is_node_done (happens (Ack 0) this)

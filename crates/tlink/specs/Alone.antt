@@ -12,7 +12,7 @@ use Rattle.tlink.specs.Whole.{IsWhole}
 -- a source sends at link 0 and hears of acknowledges there; no other event of it is enabled
 abbrev pub SourcesSendAlone : Type 0
 SourcesSendAlone =
-    (n : NodeState) (done : ℕ) (rest : List ℕ) (e : NodeEvent) → IsWhole n → n.role ≡ Source done rest → e ≢ Send 0
+    (n : NodeState) (over rest : List ℕ) (e : NodeEvent) → IsWhole n → n.role ≡ Source over rest → e ≢ Send 0
     → e ≢ Ack 0 → happens e n ≡ Err NotEnabled
 
 -- a sink receives bytes at link 0 and takes them; no other event of it is enabled

@@ -10,7 +10,7 @@ use Rattle.tlink.specs.declared.event.StepFault.TheVariants.{NotEnabled}
 use Rattle.tlink.specs.Roles.{Source}
 use Rattle.tlink.specs.Node.{NodeState, fresh_source, fresh_sink}
 use Rattle.tlink.specs.Events.{happens, node_answered, node_left_by}
-use Rattle.tlink.specs.Scripts.{kept_messages, kept_part}
+use Rattle.tlink.specs.Scripts.{kept_messages, kept_part, source_messages}
 
 -- what a node tells at events, one after another, and the node behind them
 abbrev told_at : List NodeEvent → NodeState → List (Result Emitted StepFault)
@@ -51,11 +51,16 @@ source-tells : told_at all_sent two_messages
 unfolding happens
 source-tells = refl
 
-source-over : (left_behind all_sent two_messages).role ≡ Source 2 []
+source-over : (left_behind all_sent two_messages).role ≡ Source (2 ∷ 1 ∷ []) []
 unfolding happens
 source-over = refl
 
-source-between : (left_behind (Send 0 ∷ Ack 0 ∷ Send 0 ∷ []) two_messages).role ≡ Source 0 (2 ∷ 1 ∷ [])
+-- all of its messages are shown, however many are over
+source-shows : source_messages (left_behind all_sent two_messages) ≡ (7 ∷ 8 ∷ []) ∷ (9 ∷ []) ∷ []
+unfolding happens
+source-shows = refl
+
+source-between : (left_behind (Send 0 ∷ Ack 0 ∷ Send 0 ∷ []) two_messages).role ≡ Source [] (2 ∷ 1 ∷ [])
 unfolding happens
 source-between = refl
 

@@ -1,6 +1,6 @@
 -- What may stand behind the links of a node: a processor, or a script at link 0.
 -- Source: own choice: what a node's surroundings send to it and take from it.
-use Rattle.std.specs.Prelude.{ℕ, ◌+◌, Bool, true, false, ◌==◌, nat_lt, List, [], ◌∷◌, ◌++◌, drop}
+use Rattle.std.specs.Prelude.{ℕ, ◌+◌, Bool, true, false, ◌==◌, nat_lt, List, [], ◌∷◌, ◌++◌, drop, take}
 use Rattle.std.specs.Prelude.{Option, Some, None}
 use Rattle.tword.specs.declared.kind.Kind.TheVariants.{One}
 use Rattle.tword.specs.Words.{most_neg}
@@ -15,12 +15,12 @@ use Rattle.tproc.specs.Scripts.{input_moved, output_set}
 use Rattle.tlink.specs.declared.counts.Arrival.{Arrival}
 use Rattle.tlink.specs.declared.counts.Counts.{Counts}
 
--- a processor; a source, with the number of its messages that are over and the lengths of the others; a sink, with the
--- lengths of the messages that it has kept. The memory of a source holds its messages one behind another, and that of
--- a sink what it was sent, one behind another
+-- a processor; a source, with the lengths of its messages that are over and of the others; a sink, with the lengths of
+-- the messages that it has kept. The memory of a source holds all its messages one behind another, and that of a sink
+-- what it was sent, one behind another
 pub data Role : Type 0 where
   Processor : Role
-  Source : (done : ℕ) → (rest : List ℕ) → Role
+  Source : (over rest : List ℕ) → Role
   Sink : (kept : List ℕ) → Role
 
 -- a control without a process, with this at link 0. It does no operation, so its kind is that of the T414
@@ -51,7 +51,7 @@ behind (Some o) = o.buffer + o.length
 
 -- a source receives no byte
 abbrev pub receives : Role → Bool
-receives (Source done rest) = false
+receives (Source over rest) = false
 receives _ = true
 
 -- a sink takes a byte where it has room for it; an input of a processor has room for all of its own
@@ -66,12 +66,12 @@ is_full _ a o c = c.got + 1 == o.length
 
 -- an output is over: one more message of a source
 abbrev pub role_woken : Role → Role
-role_woken (Source done rest) = Source (done + 1) (drop 1 rest)
+role_woken (Source over rest) = Source (over ++ take 1 rest) (drop 1 rest)
 role_woken role = role
 
 -- an output is over: its process is queued, or the source offers its next message
 abbrev pub woken : Role → ℕ → Machine → Machine
-woken (Source done rest) l m =
+woken (Source over rest) l m =
     record m {
       control = output_set l (first_offer (behind (link_end m.control l).output) (drop 1 rest)) m.control;
     }

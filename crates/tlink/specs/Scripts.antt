@@ -1,6 +1,6 @@
 -- Scripted ends as a program holds them.
 -- Source: own choice, words for contracts.
-use Rattle.std.specs.Prelude.{◌≡◌, ℕ, ◌+◌, ◌-◌, ◌<◌, ◌≤◌, List, [], ◌∷◌, drop, take, length, sum, Option}
+use Rattle.std.specs.Prelude.{◌≡◌, ℕ, ◌+◌, ◌-◌, ◌<◌, ◌≤◌, List, [], ◌∷◌, ◌++◌, drop, take, length, sum, Option}
 use Rattle.std.specs.Prelude.{Some, None}
 use Rattle.tword.specs.Words.{most_neg}
 use Rattle.tword.specs.Stores.{shown}
@@ -17,7 +17,7 @@ only_counts c = c ∷ no_counts ∷ no_counts ∷ no_counts ∷ []
 abbrev pub source_state : (bytes lengths : List ℕ) → (done start : ℕ) → Counts → NodeState
 source_state bytes lengths done start c =
     record {
-      role = Source done (drop done lengths);
+      role = Source (take done lengths) (drop done lengths);
       machine = script_machine (offering (most_neg + start) (drop done lengths)) bytes;
       counts = only_counts c;
       wired = one_link;
@@ -35,23 +35,35 @@ sink_state bytes lengths kept c =
       broken = None;
     }
 
--- how many messages of a source are over, the lengths of the others, and how many it has
+-- how many messages of a source are over, the lengths of those and of the others, and how many it has
 abbrev pub done_messages : Role → ℕ
-done_messages (Source done rest) = done
+done_messages (Source over rest) = length over
 done_messages _ = 0
 
+abbrev pub over_messages : Role → List ℕ
+over_messages (Source over rest) = over
+over_messages _ = []
+
 abbrev pub left_messages : Role → List ℕ
-left_messages (Source done rest) = rest
+left_messages (Source over rest) = rest
 left_messages _ = []
 
 abbrev pub all_messages : Role → ℕ
-all_messages (Source done rest) = done + length rest
+all_messages (Source over rest) = length over + length rest
 all_messages _ = 0
 
 -- bytes cut into messages of these lengths
 abbrev pub cut : (lengths bytes : List ℕ) → List (List ℕ)
 cut [] bytes = []
 cut (n ∷ ns) bytes = take n bytes ∷ cut ns (drop n bytes)
+
+-- all messages of a source, those that are over included, which are the first bytes of its memory
+abbrev pub offered_of : Role → List ℕ → List (List ℕ)
+offered_of (Source over rest) bytes = cut (over ++ rest) bytes
+offered_of _ bytes = []
+
+abbrev pub source_messages : NodeState → List (List ℕ)
+source_messages n = offered_of n.role (shown n.machine.store)
 
 -- the lengths of the messages that a sink has kept
 abbrev pub kept_lengths : Role → List ℕ
@@ -80,17 +92,18 @@ processor_of Processor m = Some m
 processor_of _ m = None
 
 abbrev pub source_of : NodeState → Role → Option NodeState
-source_of n (Source done rest) = Some n
+source_of n (Source over rest) = Some n
 source_of n _ = None
 
 abbrev pub sink_of : NodeState → Role → Option NodeState
 sink_of n (Sink kept) = Some n
 sink_of n _ = None
 
--- the messages that are not over lie in the bytes, from this place on
-abbrev pub IsSourceWithin : (bytes lengths : List ℕ) → (done start : ℕ) → Type 0
-IsSourceWithin bytes lengths done start =
-    (done ≤ length lengths) × (start + sum (drop done lengths) ≤ length bytes)
+-- all messages lie in the bytes, and those that are not over from this place on
+pub record IsSourceWithin (bytes lengths : List ℕ) (done start : ℕ) : Type 0 where
+  pub all : sum lengths ≤ length bytes
+  pub few : done ≤ length lengths
+  pub within : start + sum (drop done lengths) ≤ length bytes
 
 -- the first so many lengths are those of the messages that were kept, which are the first bytes; there is room for as
 -- many lengths as for bytes

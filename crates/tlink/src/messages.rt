@@ -1,11 +1,11 @@
-//! The messages that a sink has kept.
+//! The messages of a script: those that a source has, or those that a sink has kept.
 
 ghost use Rattle.std.specs.Prelude.{◌≡◌, [], ◌∷◌, ◌≤◌, length, sum, MatchOption};
 ghost use Rattle.tlink.specs.Scripts.{cut};
 
 use std::marker::Model;
 
-/// The messages that a sink has kept, in order: those that were not taken from here yet.
+/// The messages that a source has, or that a sink has kept, in order: those that were not taken from here yet.
 #[derive(Drop)]
 pub struct Messages<'a> {
     /// How long each of them is.

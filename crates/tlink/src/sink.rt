@@ -1,6 +1,6 @@
 //! A sink: a script that keeps the messages that come at link 0.
 
-ghost use Rattle.std.specs.Prelude.{◌≡◌, ◌≤◌, IfOk, None, Some, Ok, Err, if◌then◌else◌, option_map};
+ghost use Rattle.std.specs.Prelude.{◌≡◌, ◌≤◌, IfOk, None, Some, Ok, Err, if◌then◌else◌, length, option_map};
 ghost use Rattle.std.specs.Option.{ok_or};
 ghost use Rattle.tlink.specs.Roles as roles;
 ghost use Rattle.tword.specs.Stores.{as_cells};
@@ -99,6 +99,13 @@ impl Sink {
             kept: self.kept,
             counts: self.counts,
         })
+    }
+
+    /// For how many bytes it has room, those that it has kept included.
+    pub fn capacity(&self) -> u32
+        ensures { result ≡ length self.now.machine.store }
+    {
+        self.bytes.len() as u32
     }
 
     /// The messages that it has kept, in order.

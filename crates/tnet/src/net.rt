@@ -148,18 +148,18 @@ impl Net {
         self.parts.nodes()
     }
 
-    /// The sources, by their numbers. It takes no memory.
+    /// The sources, by their numbers, each with the end that it sends to. It takes no memory.
     pub fn sources(&self) -> Sources<'_>
-        ensures { result ≡ sources_in self.now.nodes }
+        ensures { result ≡ sources_in self.now }
     {
-        Sources::new(self.parts.nodes())
+        Sources::new(&self.parts)
     }
 
-    /// The sinks, by their numbers. It takes no memory.
+    /// The sinks, by their numbers, each with the end that it takes from. It takes no memory.
     pub fn sinks(&self) -> Sinks<'_>
-        ensures { result ≡ sinks_in self.now.nodes }
+        ensures { result ≡ sinks_in self.now }
     {
-        Sinks::new(self.parts.nodes())
+        Sinks::new(&self.parts)
     }
 
     /// What lies at an end; at one that is no link of a node, nothing.

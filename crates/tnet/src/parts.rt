@@ -1,6 +1,7 @@
 //! The parts of a net, and an event of one of its nodes.
 
-ghost use Rattle.std.specs.Prelude.{◌≡◌, ◌<◌, ℕ, not, [], slice_index_or, slice_set, Option, None, IfErr, IfOk};
+ghost use Rattle.std.specs.Prelude.{◌≡◌, ◌<◌, ◌≤◌, ℕ, not, [], length, slice_index_or, slice_set, Option, None};
+ghost use Rattle.std.specs.Prelude.{IfErr, IfOk};
 ghost use Rattle.std.specs.List.{list_all};
 ghost use Rattle.tlink.specs.Node.{NodeState};
 ghost use Rattle.tnet.specs.Quiet.{node_events, is_quiet, is_quiet_from};
@@ -223,9 +224,20 @@ impl Parts {
         }
     }
 
+    /// The far end of link 0 of a node, at which a script stands.
+    pub fn script_end(&self, number: u32) -> Option<End>
+        ensures { result ≡ far_end self.now.wires (end_at number 0) }
+    {
+        self.far_end(End {
+            node: number,
+            link: 0,
+        })
+    }
+
     /// The nodes.
     pub fn nodes(&self) -> &[Node]
-        ensures { result.now ≡ self.now.nodes }
+        ensures nodes { result.now ≡ self.now.nodes }
+        ensures few { length result.now ≤ 64 }
     {
         self.nodes.as_slice()
     }

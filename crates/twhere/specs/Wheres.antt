@@ -265,7 +265,7 @@ processor_where k n listed =
 -- what stands behind the links: a processor whose processes are listed so, a source or a sink
 abbrev pub role_where : Role → ℕ → NodeState → Listed → List ℕ
 role_where Processor k n listed = processor_where k n listed
-role_where (Source done rest) k n listed = source_line k done (done + length rest)
+role_where (Source over rest) k n listed = source_line k (length over) (length over + length rest)
 role_where (Sink kept) k n listed = sink_line k (length kept)
 
 -- it, and the links

@@ -68,7 +68,7 @@ fn has_output(node: &Node, link: u8) -> bool
         return processor.pending_out(link).is_some();
     }
     match node.source() {
-        Some(source) => link == 0 && source.done() < source.messages(),
+        Some(source) => link == 0 && source.done() < source.count(),
         None => false,
     }
 }

@@ -21,7 +21,7 @@ pub fn put_source<W: CountedWrite>(out: &mut Output<'_, W>, number: usize, sourc
     out.put(b" done ");
     put_decimal(out, source.done() as u64);
     out.put(b" of ");
-    put_decimal(out, source.messages() as u64);
+    put_decimal(out, source.count() as u64);
     out.put(b"\n");
 }
 

@@ -32,7 +32,7 @@ pub index-byte-requires : goal.index-byte-requires
 index-byte-requires c =
     let h = source.first_within c.self.inside.bytes.items c.self.inside.lengths.items c.self.inside.done
     c.self.inside.start c.self.inside.counts c.in-Some.length (ap (λ (ls : List ℕ). slice_get ls c.self.inside.done)
-    (sym c.deref.ensures.value) ∙ sym c.length_at.ensures ∙ c.in-Some.is) c.self.invariant.1 c.self.inside.counts.sent
+    (sym c.deref.ensures.value) ∙ sym c.length_at.ensures ∙ c.in-Some.is) c.self.invariant.within c.self.inside.counts.sent
     c.if-sent-length.false in search rules
 
 pub returns : goal.returns
@@ -41,9 +41,9 @@ returns c =
     c.self.inside.start c.self.inside.counts) c.args.self.now _ _ _ c.self.view_is (source.send_next
     c.self.inside.bytes.items c.self.inside.lengths.items c.self.inside.done c.self.inside.start c.self.inside.counts
     c.in-Some.length (ap (λ (ls : List ℕ). slice_get ls c.self.inside.done) (sym c.deref.ensures.value) ∙ sym
-    c.length_at.ensures ∙ c.in-Some.is) c.self.invariant.1 c.if-acked-sent.false c.if-sent-length.false) (rw (←
+    c.length_at.ensures ∙ c.in-Some.is) c.self.invariant.within c.if-acked-sent.false c.if-sent-length.false) (rw (←
     source.byte_is c.self.inside.bytes.items (c.self.inside.start + c.self.inside.counts.sent) c.index-byte.result.now
     (source.first_within c.self.inside.bytes.items c.self.inside.lengths.items c.self.inside.done c.self.inside.start
     c.self.inside.counts c.in-Some.length (ap (λ (ls : List ℕ). slice_get ls c.self.inside.done) (sym
-    c.deref.ensures.value) ∙ sym c.length_at.ensures ∙ c.in-Some.is) c.self.invariant.1 c.self.inside.counts.sent
+    c.deref.ensures.value) ∙ sym c.length_at.ensures ∙ c.in-Some.is) c.self.invariant.within c.self.inside.counts.sent
     c.if-sent-length.false) c.index-byte.ensures) refl) refl

@@ -1,10 +1,15 @@
-use Rattle.std.proofs.Common.{◌≡◌, length}
-use Rattle.tnet.specs.Net.{sources_in}
+use Rattle.std.proofs.Common.{◌≡◌, ◌+◌, ◌≤◌, length}
+use Rattle.tnet.specs.Net.{sources_from}
 use Rattle.tnet.proofs.scripts.Sources.take_first.Given as goal
 
--- none was passed over
+-- none was passed over, and the numbers stay small
 abbrev pub invariant-loop-node : goal.invariant-loop-node
-invariant-loop-node l = sources_in l.initial.self-inside.nodes.now ≡ sources_in l.self-inside.nodes.now
+invariant-loop-node l =
+    record {
+      same : sources_from l.initial.self-inside.parts.now.wires l.initial.self-inside.number l.initial.self-inside.nodes.now
+          ≡ sources_from l.self-inside.parts.now.wires l.self-inside.number l.self-inside.nodes.now;
+      few : l.self-inside.number + length l.self-inside.nodes.now ≤ 64;
+    }
 
 abbrev pub decreases-loop-node : goal.decreases-loop-node
 decreases-loop-node l = length l.self-inside.nodes.now
