@@ -54,7 +54,7 @@ cut-push (m ∷ ns) n xs =
     ap (λ (ms : List (List ℕ)). take m xs ∷ ms) (cut-push ns n (drop m xs) ∙ rw behind refl)
 
 -- the bytes from an address on are some of those that are shown
-bytes-shown : (t : Store) (k n : ℕ) → bytes_at t (most_neg + k) n ≡ take n (drop k (shown t))
+pub bytes-shown : (t : Store) (k n : ℕ) → bytes_at t (most_neg + k) n ≡ take n (drop k (shown t))
 bytes-shown t k n =
     let at : most_neg + k - most_neg ≡ k = omega arith in
     let many : k + n - k ≡ n = omega arith in

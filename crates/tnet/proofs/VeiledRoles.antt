@@ -84,7 +84,7 @@ again_veils role n v = hidden_veils role n v.held v.seen
 idle_same : (m m' : Machine) (r r' : Ran) → step m ≡ Ok (m, r) → step m ≡ Ok (m', r') → m' ≡ m
 idle_same m m' r r' h s = ap (step_left_by m) (sym s ∙ h)
 
-not_idle : (m m' : Machine) (r : Ran) → step m ≡ Ok (m, ran.Idle) → step m ≡ Ok (m', r) → IsStep r → ⊥
+pub not_idle : (m m' : Machine) (r : Ran) → step m ≡ Ok (m, ran.Idle) → step m ≡ Ok (m', r) → IsStep r → ⊥
 not_idle m m' r h s is_step =
     let both : ◌≡◌ {A = Result (Machine × Ran) Break} (Ok (m, ran.Idle)) (Ok (m', r)) = sym h ∙ s in
     let e : ◌≡◌ {A = Machine × Ran} (m, ran.Idle) (m', r) = cc in
