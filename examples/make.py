@@ -239,7 +239,7 @@ class Reader:
         return next(code for length, code in enumerate(codes, 1) if len(code) == length)
 
     def compare(self, part, address):
-        """Returns the instructions (address, text) of bytes that are given: those that stand beside them, or a fault."""
+        """Returns the instructions (address, text) of bytes that are given, which have to be those beside them."""
         if not part.texts:
             return []
         found, told = decoded(part.code), []
