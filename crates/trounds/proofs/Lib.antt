@@ -8,6 +8,7 @@ pub mod ReplayNotes
 -- the parts of a round
 pub mod PartBoxes
 pub mod PartNets
+pub mod PartNumbers
 pub mod PartRounds
 pub mod PartSteps
 pub mod PartRooms

@@ -1,8 +1,8 @@
 -- What an act does to a round node: how much it writes down, after which run there is none, and which room for messages
 -- stands.
 use Rattle.std.proofs.Common.{◌≡◌, ◌≢◌, ℕ, ◌≤◌, ◌<◌, refl, sym, ap, ◌∙◌, subst, List, length, get_or, set, map, Bool}
-use Rattle.std.proofs.Common.{true, false, Option, Some, None, Err, IfSome, ◌⊎◌, inl, inr, arith}
-use Rattle.std.specs.Prelude.{is_none, if◌then◌else◌}
+use Rattle.std.proofs.Common.{true, false, Option, Some, None, IfSome, ◌⊎◌, inl, inr, arith}
+use Rattle.std.specs.Prelude.{if◌then◌else◌}
 use Rattle.std.proofs.lemmas.Bool.{cases_eq}
 use Rattle.std.proofs.lemmas.List.{set-get_or, get_or-map}
 use Rattle.std.proofs.lemmas.Option.{same_Some}
@@ -11,7 +11,6 @@ use Rattle.tlink.specs.declared.counts.Arrival.{Arrival}
 use Rattle.tlink.specs.declared.event.Packet.{Packet}
 use Rattle.tlink.specs.declared.event.NodeEvent.{NodeEvent}
 use Rattle.tlink.specs.declared.event.NodeEvent.TheVariants as at_node
-use Rattle.tlink.specs.declared.event.StepFault.TheVariants.{NotEnabled}
 use Rattle.tlink.specs.Node.{NodeState, due_at}
 use Rattle.tlink.specs.Events.{happens, node_left_by}
 use Rattle.tplan.specs.declared.event.Act.{Act}
@@ -22,8 +21,8 @@ use Rattle.tnet.specs.declared.station.Done.{Done}
 use Rattle.tnet.specs.Stations.{box_at, with_carried, asked, input_of, done_of}
 use Rattle.tnet.specs.FarEnds.{far_in_row}
 use Rattle.tnet.specs.Answers.{KeepsInput, HasRoom}
-use Rattle.tnet.proofs.AnswerKinds.{run_emits_none, run_ends, due_stands}
-use Rattle.trounds.specs.Parts.{Part, link_of, sending_to, sendings, part_does}
+use Rattle.tnet.proofs.AnswerKinds.{run_emits_none, due_stands}
+use Rattle.trounds.specs.Parts.{link_of, sending_to, sendings}
 use Rattle.trounds.specs.RoundNodes.{sendings_of}
 use Rattle.trounds.proofs.PartRooms.{room_else}
 

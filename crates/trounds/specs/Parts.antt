@@ -1,8 +1,8 @@
 -- A node's part of a round, done by itself: it sees only what lay at its own links, and what it sends goes into its
 -- outbox.
 -- Source: own choice, how rounds are shared out.
-use Rattle.std.specs.Prelude.{◌≡◌, ℕ, zero, suc, Bool, false, not, ◌&&◌, List, [], ◌∷◌, ◌++◌, map, fold, Option, Some}
-use Rattle.std.specs.Prelude.{None, is_some, slice_get, slice_set, slice_index_or, if◌then◌else◌}
+use Rattle.std.specs.Prelude.{◌≡◌, ℕ, zero, suc, ◌+◌, Bool, false, not, ◌&&◌, List, [], ◌∷◌, ◌++◌, map, fold, Option}
+use Rattle.std.specs.Prelude.{Some, None, is_some, slice_get, slice_set, slice_index_or, if◌then◌else◌}
 use Rattle.std.specs.List.{flat_map}
 use Rattle.tlink.specs.declared.event.Packet.{Packet}
 use Rattle.tlink.specs.declared.event.NodeEvent.{NodeEvent}
@@ -181,6 +181,10 @@ net_of wires stations =
       inboxes =
           map (λ (s : Station). s.inboxes) stations;
     }
+
+-- stations have the numbers from this one on, in their order
+abbrev pub AreNumbered : ℕ → List Station → Type 0
+AreNumbered first stations = (n : ℕ) (s : Station) → slice_get stations n ≡ Some s → s.number ≡ first + n
 
 -- each station is at its number, and its far ends are those of the wires
 pub record ArePlaced (wires : List Wire) (stations : List Station) : Type 0 where
