@@ -2,7 +2,7 @@
 use Rattle.std.proofs.Common.{◌≡◌, ℕ, ◌+◌, ◌-◌, ◌≤◌, ◌^◌, min, refl, sym, ap, ◌∙◌, subst, List, [], ◌++◌, length, take}
 use Rattle.std.proofs.Common.{drop, append_assoc, append-nil, length-append, length-drop, Bool, true, false, Option}
 use Rattle.std.proofs.Common.{Result, Ok, Err, arith}
-use Rattle.std.specs.Prelude.{IfErr}
+use Rattle.std.specs.Prelude.{IfErr, MatchResult, OnOk}
 use Rattle.std.proofs.Math.Seq.{take-add}
 use Rattle.std.proofs.Math.ListN.{drop_of_length-le}
 use Rattle.std.proofs.lemmas.List.{take-append-le, drop-append-le, take_all}
@@ -14,9 +14,9 @@ use Rattle.std.specs.Io.KnownBytes.{Appends}
 use Rattle.tfiles.specs.declared.writing.output.Output.{Output}
 use Rattle.tfiles.specs.declared.writing.output.Progress.{Progress}
 use Rattle.tfiles.specs.declared.writing.output.WriteFault.{WriteFault}
-use Rattle.tfiles.specs.Failures.{HasCause, HasRisen}
+use Rattle.tfiles.specs.Failures.{Counts, HasRisen, HasStayed}
 use Rattle.tfiles.specs.Outputs.{IsCut, IsOut, Takes, HandsOn, IsTold, IsCaused, Tells, IsFresh, IsEnd}
-use Rattle.tfiles.proofs.Failures.{cause-then}
+use Rattle.tfiles.proofs.Failures.{counts-then}
 
 -- a text that is cut and goes on is cut at the same place
 cut-longer : (start now : Option (List ℕ)) (text piece : List ℕ) (written : ℕ) → (c : IsCut start now text written)
@@ -60,8 +60,8 @@ pub record GoesOn {W : Type 0} (contents : W → Option (List ℕ)) (failures : 
 caused_kept : {W : Type 0} (failures : W → Option ℕ) (a b : Output W) → b.writer.now ≡ a.writer.now
     → b.progress ≡ a.progress → (start : Option ℕ) → IsCaused failures start a → IsCaused failures start b
 caused_kept {W} failures a b w p start h =
-    subst (λ (v : W). HasCause start (failures v) b.progress.failed) (sym w)
-    (subst (λ (q : Progress). HasCause start (failures a.writer.now) q.failed) (sym p) h)
+    subst (λ (v : W). Counts start (failures v) b.progress.failed) (sym w)
+    (subst (λ (q : Progress). Counts start (failures a.writer.now) q.failed) (sym p) h)
 
 module _ {W : Type 0} {contents : W → Option (List ℕ)} {failures : W → Option ℕ} where
   -- nothing was said
@@ -127,16 +127,17 @@ module _ {W : Type 0} {contents : W → Option (List ℕ)} {failures : W → Opt
       record {
         same = same;
         goes_on = λ start text t. by start text t a.progress.failed refl h;
-        caused = λ start t. why start t a.progress.failed h;
+        caused = λ start t. why start t a.progress.failed refl h;
       }
     where
-      why : (start : Option ℕ) → IsCaused failures start a → (f : Bool)
+      why : (start : Option ℕ) → IsCaused failures start a → (f : Bool) → a.progress.failed ≡ f
           → MatchBool f ((b.writer.now ≡ a.writer.now) × (b.progress ≡ a.progress))
           (Takes contents failures a.writer.now b.writer.now rest a.progress b.progress)
           → IsCaused failures start b
-      why start t true k = caused_kept failures a b k.0 k.1 start t
-      why start t false k =
-          cause-then start (failures a.writer.now) (failures b.writer.now) b.progress.failed t.kept k.cause
+      why start t true e k = caused_kept failures a b k.0 k.1 start t
+      why start t false e k =
+          counts-then start (failures a.writer.now) (failures b.writer.now) b.progress.failed
+          (subst (Counts start (failures a.writer.now)) e t) k.cause
 
       by : (start : Option (List ℕ)) (text : List ℕ) → IsTold contents start text a → (f : Bool) → a.progress.failed ≡ f
           → MatchBool f ((b.writer.now ≡ a.writer.now) × (b.progress ≡ a.progress))
@@ -178,7 +179,7 @@ module _ {W : Type 0} {contents : W → Option (List ℕ)} {failures : W → Opt
             take_all k.cut.count (text ++ []) (omega (arith, none, length-drop k.cut.count (text ++ [])))
             ∙ append-nil text in
             subst (Appends start (contents b.writer.now)) whole k.cut.out;
-        cause = λ start h. tt;
+        cause = λ start h. subst (Counts start (failures b.writer.now)) f (t.caused start h);
       }
 
   -- the end: the text is cut
@@ -192,7 +193,7 @@ module _ {W : Type 0} {contents : W → Option (List ℕ)} {failures : W → Opt
             let k : IsTold contents start (text ++ []) b = t.goes_on start text h in
             subst (λ (n : ℕ). IsCut start (contents b.writer.now) text n) (sym e)
             (subst (λ (u : List ℕ). IsCut start (contents b.writer.now) u b.progress.written) (append-nil text) k.cut);
-        cause = λ start h. (t.caused start h).cause f;
+        cause = λ start h. subst (Counts start (failures b.writer.now)) f (t.caused start h);
       }
 
   -- a whole text, from its beginning to its end, with what the writer ends as
@@ -205,15 +206,41 @@ module _ {W : Type 0} {contents : W → Option (List ℕ)} {failures : W → Opt
       (sym (is (sym (e.same ∙ t.same ∙ f.same))))
       (e.out (contents writer.now) text (t.goes_on (contents writer.now) [] f.nothing))
 
-  -- where it is cut, its writer has counted a failure
+  -- it is whole where its writer has counted no failure, and cut where it has counted one
+  ended : {writer : MutBor W} {a b c : Output W} {text : List ℕ} {result : Result (Unit {0}) WriteFault}
+      → IsFresh contents failures writer a → Tells contents failures a b text → IsEnd contents failures b c result
+      → (end : W) → (writer.ghost_name ≡ c.writer.ghost_name → end ≡ c.writer.now)
+      → MatchResult result (λ _. HasStayed (failures writer.now) (failures end))
+      (λ _. HasRisen (failures writer.now) (failures end))
+  ended {writer} {c = c} {result = result} f t e end is =
+      subst (λ (w : W). MatchResult result (λ _. HasStayed (failures writer.now) (failures w))
+      (λ _. HasRisen (failures writer.now) (failures w)))
+      (sym (is (sym (e.same ∙ t.same ∙ f.same))))
+      (e.cause (failures writer.now) (t.caused (failures writer.now) f.caused))
+
   pub cut_by_failure : {writer : MutBor W} {a b c : Output W} {text : List ℕ} {result : Result (Unit {0}) WriteFault}
       → IsFresh contents failures writer a → Tells contents failures a b text → IsEnd contents failures b c result
       → (end : W) → (writer.ghost_name ≡ c.writer.ghost_name → end ≡ c.writer.now)
       → IfErr result (λ _. HasRisen (failures writer.now) (failures end))
-  cut_by_failure {writer} {c = c} {result = result} f t e end is =
-      subst (λ (w : W). IfErr result (λ _. HasRisen (failures writer.now) (failures w)))
-      (sym (is (sym (e.same ∙ t.same ∙ f.same))))
-      (e.cause (failures writer.now) (t.caused (failures writer.now) f.caused))
+  cut_by_failure {writer} {result = result} f t e end is = failed result (ended f t e end is)
+    where
+      failed : (r : Result (Unit {0}) WriteFault) → MatchResult r (λ _. HasStayed (failures writer.now) (failures end))
+          (λ _. HasRisen (failures writer.now) (failures end))
+          → IfErr r (λ _. HasRisen (failures writer.now) (failures end))
+      failed (Ok u) h = tt
+      failed (Err w) h = h
+
+  pub whole_without_failure : {writer : MutBor W} {a b c : Output W} {text : List ℕ}
+      {result : Result (Unit {0}) WriteFault}
+      → IsFresh contents failures writer a → Tells contents failures a b text → IsEnd contents failures b c result
+      → (end : W) → (writer.ghost_name ≡ c.writer.ghost_name → end ≡ c.writer.now)
+      → OnOk result (HasStayed (failures writer.now) (failures end))
+  whole_without_failure {writer} {result = result} f t e end is = stayed result (ended f t e end is)
+    where
+      stayed : (r : Result (Unit {0}) WriteFault) → MatchResult r (λ _. HasStayed (failures writer.now) (failures end))
+          (λ _. HasRisen (failures writer.now) (failures end)) → OnOk r (HasStayed (failures writer.now) (failures end))
+      stayed (Ok u) h = h
+      stayed (Err w) h = tt
 
   -- so much was told of a whole text, and this is left of it
   pub goes_on-start : (a : Output W) (whole : List ℕ) → GoesOn contents failures a a whole whole

@@ -75,6 +75,11 @@ parts_in part zero bytes = Some ([], bytes)
 parts_in part (suc n) bytes =
     then_read (part bytes) (λ x rest. then_read (parts_in part n rest) (λ xs rest. Some (x ∷ xs, rest)))
 
+-- the bytes behind what is read
+abbrev pub behind : {A : Type 0} → Reading A → Option (List ℕ)
+behind None = None
+behind (Some (x, rest)) = Some rest
+
 -- after the two counts
 abbrev pub ends_with : Reading Image → Result Image ImageFault
 ends_with None = Err Truncated

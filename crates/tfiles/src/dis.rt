@@ -1,12 +1,12 @@
 //! An image as instructions, as they stand in it.
 
-ghost use Rattle.std.specs.Prelude.{IfErr, ◌≡◌, ◌++◌, codes};
+ghost use Rattle.std.specs.Prelude.{IfErr, OnOk, ◌≡◌, ◌++◌, codes};
 ghost use Rattle.std.specs.Fmt.{signed_decimal};
 ghost use Rattle.tcode.specs.Table.{function_entry};
 ghost use Rattle.tcode.specs.Texts.{instruction_text};
 ghost use Rattle.tfiles.specs.Disassembly.{at_address, byte_text, dis_text as disassembled, head_size, head_text};
 ghost use Rattle.tfiles.specs.Disassembly.{segment_lines};
-ghost use Rattle.tfiles.specs.Failures.{HasRisen};
+ghost use Rattle.tfiles.specs.Failures.{HasRisen, HasStayed};
 ghost use Rattle.tfiles.specs.Outputs.{IsOut, Tells};
 
 use crate::counted::CountedWrite;
@@ -27,6 +27,7 @@ use tword::{Kind, Word};
 pub fn dis_text<W: CountedWrite>(image: &Image, kind: Kind, out: &mut W) -> Result<(), WriteFault>
     ensures out { IsOut (W.contents out.old) (W.contents out.new) (disassembled kind image.now) result }
     ensures cause { IfErr result (λ _. HasRisen (W.failures out.old) (W.failures out.new)) }
+    ensures stayed { OnOk result (HasStayed (W.failures out.old) (W.failures out.new)) }
 {
     let mut output = Output::new(out);
     put_image(&mut output, image, kind);

@@ -1,8 +1,9 @@
 //! Images: what is loaded into a node, as bytes.
 
-ghost use Rattle.std.specs.Prelude.{◌≡◌, MatchOption, MatchResult, option_map, bytes_eq, take, drop, true, false};
+ghost use Rattle.std.specs.Prelude.{◌≡◌, IsErrOf, IsOk, MatchOption, MatchResult, option_map, bytes_eq, take, drop};
+ghost use Rattle.std.specs.Prelude.{true, false};
 ghost use Rattle.tfiles.specs.Images.{image_of, body_of, magic, word_in, segment_in, process_in, parts_in};
-ghost use Rattle.tfiles.specs.Images.{IsImageAnswer, IsPartFault};
+ghost use Rattle.tfiles.specs.Images.{behind, IsImageAnswer, IsPartFault};
 ghost use Rattle.tfiles.specs.declared.image.ImageFault.TheVariants.{OutOfMemory};
 
 use byteorder::{ByteOrder, LittleEndian};
@@ -55,14 +56,17 @@ const MAGIC: &[u8] = b"TEMUIMG1";
 /// processes, each segment as its address, its length and its bytes, and each process as its descriptor and its
 /// first address. A number is a word, its lowest byte first.
 ///
-/// Memory is asked for only as far as the bytes fill it.
+/// No memory is asked for where the bytes are no image.
 ///
 /// # Errors
 /// The first of these that holds: `BadMagic`, `TooMany` for a count over its limit (also where the bytes end behind
-/// it), `Truncated`, `Trailing`. `OutOfMemory` where the allocator refuses.
+/// it), `Truncated`, `Trailing`. `OutOfMemory` where the allocator refuses, but never where another fault holds.
 #[tactic(auto, unfolding(crate::specs::Images::image_of))]
 pub fn read_image(alloc: Global, bytes: &[u8]) -> Result<Image, ImageFault>
-    ensures { IsImageAnswer (image_of bytes.now) result }
+    ensures answer { IsImageAnswer (image_of bytes.now) result }
+
+    // memory is wanted only for an image
+    ensures wanted { IsErrOf result OutOfMemory → IsOk (image_of bytes.now) }
 {
     let Some(counts) = after_magic(bytes) else {
         return Err(ImageFault::BadMagic);
@@ -82,24 +86,72 @@ pub fn read_image(alloc: Global, bytes: &[u8]) -> Result<Image, ImageFault>
     body(alloc, segments, processes, rest)
 }
 
-/// Segments and processes, and no byte behind them.
+/// Segments and processes, and no byte behind them. A fault is told before memory is asked for.
 fn body(
     alloc: Global,
     segment_count: u32,
     process_count: u32,
     bytes: &[u8],
 ) -> Result<Image, ImageFault>
-    ensures { IsImageAnswer (body_of segment_count process_count bytes.now) result }
+    ensures answer { IsImageAnswer (body_of segment_count process_count bytes.now) result }
+    ensures wanted { IsErrOf result OutOfMemory → IsOk (body_of segment_count process_count bytes.now) }
 {
+    first_fault(segment_count, process_count, bytes)?;
     let (segments, rest) = segments(alloc, segment_count, bytes)?;
-    let (processes, rest) = processes(alloc, process_count, rest)?;
-    if !rest.is_empty() {
-        return Err(ImageFault::Trailing);
-    }
+    let (processes, _none) = processes(alloc, process_count, rest)?;
     Ok(Image {
         segments: Items::new(segments),
         processes: Items::new(processes),
     })
+}
+
+/// Whether segments and processes are there, and no byte behind them.
+///
+/// # Errors
+/// `Truncated`, `Trailing`.
+fn first_fault(segment_count: u32, process_count: u32, bytes: &[u8]) -> Result<(), ImageFault>
+    ensures { MatchResult result
+        (λ _. IsOk (body_of segment_count process_count bytes.now))
+        (λ fault. body_of segment_count process_count bytes.now ≡ Err fault) }
+{
+    let Some(rest) = behind_segments(segment_count, bytes) else {
+        return Err(ImageFault::Truncated);
+    };
+    let Some(rest) = behind_processes(process_count, rest) else {
+        return Err(ImageFault::Truncated);
+    };
+    if !rest.is_empty() {
+        return Err(ImageFault::Trailing);
+    }
+    Ok(())
+}
+
+/// The bytes behind some segments.
+fn behind_segments(count: u32, bytes: &[u8]) -> Option<&[u8]>
+    ensures { option_map (λ rest. rest.now) result ≡ behind (parts_in segment_in count bytes.now) }
+{
+    let mut rest = bytes;
+    for _place in 0..count {
+        let Some((_address, _held, behind)) = segment_at(rest) else {
+            return None;
+        };
+        rest = behind;
+    }
+    Some(rest)
+}
+
+/// The bytes behind some processes.
+fn behind_processes(count: u32, bytes: &[u8]) -> Option<&[u8]>
+    ensures { option_map (λ rest. rest.now) result ≡ behind (parts_in process_in count bytes.now) }
+{
+    let mut rest = bytes;
+    for _place in 0..count {
+        let Some((_process, behind)) = process(rest) else {
+            return None;
+        };
+        rest = behind;
+    }
+    Some(rest)
 }
 
 /// What stands behind the magic bytes, if they are there.
@@ -125,23 +177,30 @@ fn word(bytes: &[u8]) -> Option<(u32, &[u8])>
     Some((LittleEndian::read_u32(head), rest))
 }
 
+/// The address of a segment, its bytes where they stand, and the bytes behind it.
+fn segment_at(bytes: &[u8]) -> Option<(u32, &[u8], &[u8])>
+    ensures { option_map (λ part. (record { address = part.0; bytes = part.1.now }, part.2.now)) result
+        ≡ segment_in bytes.now }
+{
+    let (address, rest) = word(bytes)?;
+    let (size, rest) = word(rest)?;
+    let size = size as usize;
+    if rest.len() < size {
+        return None;
+    }
+    let (held, rest) = rest.split_at(size);
+    Some((address, held, rest))
+}
+
 /// A segment, and the bytes behind it.
 fn segment(alloc: Global, bytes: &[u8]) -> Result<(Segment, &[u8]), ImageFault>
     ensures { MatchResult result
         (λ part. segment_in bytes.now ≡ Some (part.0, part.1.now))
         (λ fault. IsPartFault (segment_in bytes.now) fault) }
 {
-    let Some((address, rest)) = word(bytes) else {
+    let Some((address, held, rest)) = segment_at(bytes) else {
         return Err(ImageFault::Truncated);
     };
-    let Some((size, rest)) = word(rest) else {
-        return Err(ImageFault::Truncated);
-    };
-    let size = size as usize;
-    if rest.len() < size {
-        return Err(ImageFault::Truncated);
-    }
-    let (held, rest) = rest.split_at(size);
     let bytes = Vec::from_slice(alloc, held)?;
     Ok((
         Segment {

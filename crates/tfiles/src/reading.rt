@@ -4,7 +4,7 @@ ghost use Rattle.std.specs.Prelude.{◌≡◌, ◌<◌, ◌≤◌, IfOk, IfSome,
 ghost use Rattle.std.specs.Result.{IsErrOf};
 ghost use Rattle.std.specs.Io.KnownBytes.{IsAtEnd};
 ghost use Rattle.tfiles.specs.declared.reading.ReadFault.TheVariants.{Failed, OutOfMemory, TooLong};
-ghost use Rattle.tfiles.specs.Failures.{HasRisen};
+ghost use Rattle.tfiles.specs.Failures.{HasRisen, HasStayed};
 
 use crate::counted::CountedRead;
 use std::alloc::{AllocError, Global};
@@ -49,8 +49,9 @@ pub fn read_whole<R: CountedRead>(alloc: Global, reader: &mut R) -> Result<Vec<u
     ensures end { OnOk result (IsAtEnd (R.remaining reader.new)) }
     ensures within { IfOk result (λ bytes. length bytes.items ≤ LONGEST_FILE) }
 
-    // a read is said to have failed only where one has
+    // a read is said to have failed just where one has, the last that was made
     ensures failed { IsErrOf result Failed → HasRisen (R.failures reader.old) (R.failures reader.new) }
+    ensures stayed { ¬ (IsErrOf result Failed) → HasStayed (R.failures reader.old) (R.failures reader.new) }
 
     // only more bytes are too many
     ensures too_long { IsErrOf result TooLong → IfSome (R.remaining reader.old) (λ left. LONGEST_FILE < length left) }
@@ -70,6 +71,7 @@ fn read_by_pieces<R: CountedRead>(
     ensures end { OnOk result (IsAtEnd (R.remaining reader.new)) }
     ensures within { IfOk result (λ bytes. length bytes.items ≤ LONGEST_FILE) }
     ensures failed { IsErrOf result Failed → HasRisen (R.failures reader.old) (R.failures reader.new) }
+    ensures stayed { ¬ (IsErrOf result Failed) → HasStayed (R.failures reader.old) (R.failures reader.new) }
     ensures too_long { IsErrOf result TooLong → IfSome (R.remaining reader.old) (λ left. LONGEST_FILE < length left) }
 {
     let mut bytes = Vec::new(alloc);

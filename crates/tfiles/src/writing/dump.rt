@@ -1,13 +1,13 @@
 //! The dump of a net: those of its nodes, in their order, and behind them those of its sources and sinks.
 
-ghost use Rattle.std.specs.Prelude.{IfErr, ◌≡◌, length, option_map};
+ghost use Rattle.std.specs.Prelude.{IfErr, OnOk, ◌≡◌, length, option_map};
 ghost use Rattle.tproc.specs.Machine.{buffer_of, claims_of};
 ghost use Rattle.tproc.specs.Hidden.{hidden};
 ghost use Rattle.tproc.specs.Messages.{input_of};
 ghost use Rattle.tlink.specs.Whole.{IsWhole};
 ghost use Rattle.tnet.specs.View.{view};
 ghost use Rattle.tfiles.specs.Texts.{dump_of, dump_text, role_dump};
-ghost use Rattle.tfiles.specs.Failures.{HasRisen};
+ghost use Rattle.tfiles.specs.Failures.{HasRisen, HasStayed};
 ghost use Rattle.tfiles.specs.Outputs.{IsOut, Tells};
 
 use crate::counted::CountedWrite;
@@ -27,6 +27,7 @@ use tword::{Break, Span};
 pub fn write_dump<W: CountedWrite>(out: &mut W, net: &Net) -> Result<(), WriteFault>
     ensures out { IsOut (W.contents out.old) (W.contents out.new) (dump_text (view net.now)) result }
     ensures cause { IfErr result (λ _. HasRisen (W.failures out.old) (W.failures out.new)) }
+    ensures stayed { OnOk result (HasStayed (W.failures out.old) (W.failures out.new)) }
 {
     let mut output = Output::new(out);
     put_dump(&mut output, net);

@@ -2,7 +2,7 @@
 
 ghost use Rattle.std.specs.Prelude.{◌≡◌, ◌≤◌, ◌+◌, ◌⊎◌, List, [], ℕ, length, nat_lt, take};
 ghost use Rattle.std.specs.Io.KnownBytes.{Appends};
-ghost use Rattle.tfiles.specs.Failures.{HasCause};
+ghost use Rattle.tfiles.specs.Failures.{Counts};
 ghost use Rattle.tfiles.specs.Outputs.{HandsOn, IsEnd, IsFresh, Tells};
 
 use crate::counted::CountedWrite;
@@ -118,18 +118,18 @@ fn hand_on<W: CountedWrite>(writer: &mut W, bytes: &[u8], before: Progress) -> P
     }
 }
 
-/// Writes bytes until the writer has taken all, fails or takes none. Answers how many it took: fewer than all only
-/// where a write has failed.
+/// Writes bytes until the writer has taken all, fails or takes none. Answers how many it took: fewer than all just
+/// where a write has failed, the last that was made.
 fn write_while_taken<W: CountedWrite>(writer: &mut W, bytes: &[u8]) -> usize
     ensures within { result ≤ length bytes.now }
     ensures taken { Appends (W.contents writer.old) (W.contents writer.new) (take result bytes.now) }
-    ensures cause { HasCause (W.failures writer.old) (W.failures writer.new) (nat_lt result (length bytes.now)) }
+    ensures cause { Counts (W.failures writer.old) (W.failures writer.new) (nat_lt result (length bytes.now)) }
 {
     let mut taken = 0;
     while taken < bytes.len() {
         match writer.write_counted(&bytes[taken..]) {
-            Ok(0) | Err(_) => return taken,
-            Ok(more) => taken += more,
+            Ok(more) if more > 0 => taken += more,
+            Ok(_) | Err(_) => return taken,
         }
     }
     taken

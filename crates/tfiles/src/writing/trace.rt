@@ -1,10 +1,10 @@
 //! The trace of a run: a line for each note.
 
-ghost use Rattle.std.specs.Prelude.{IfErr, [], ◌∷◌, codes, decimal, length};
+ghost use Rattle.std.specs.Prelude.{IfErr, OnOk, [], ◌∷◌, codes, decimal, length};
 ghost use Rattle.hex.specs.Hex.{encode_lower};
 ghost use Rattle.tfiles.specs.Logs.{line};
 ghost use Rattle.tfiles.specs.Texts.{break_name, end_text, note_text, trace_text, words};
-ghost use Rattle.tfiles.specs.Failures.{HasRisen};
+ghost use Rattle.tfiles.specs.Failures.{HasRisen, HasStayed};
 ghost use Rattle.tfiles.specs.Outputs.{IsOut, Tells};
 
 use crate::break_names::break_name;
@@ -23,6 +23,7 @@ use tword::Break;
 pub fn write_trace<W: CountedWrite>(out: &mut W, notes: &[Note]) -> Result<(), WriteFault>
     ensures out { IsOut (W.contents out.old) (W.contents out.new) (trace_text notes.now) result }
     ensures cause { IfErr result (λ _. HasRisen (W.failures out.old) (W.failures out.new)) }
+    ensures stayed { OnOk result (HasStayed (W.failures out.old) (W.failures out.new)) }
 {
     let mut output = Output::new(out);
     put_trace(&mut output, notes);

@@ -1,5 +1,5 @@
 use Rattle.std.proofs.Common.{rules}
-use Rattle.tfiles.proofs.Told.{cut_by_failure, written_out}
+use Rattle.tfiles.proofs.Told.{cut_by_failure, whole_without_failure, written_out}
 use Rattle.tfiles.proofs.dis.dis_text.Goals as goal
 
 pub returns : goal.returns
@@ -7,4 +7,5 @@ returns g c =
     record {
       out = written_out c.new-output.ensures c.put_image.ensures c.finish.ensures _ (search rules);
       cause = cut_by_failure c.new-output.ensures c.put_image.ensures c.finish.ensures _ (search rules);
+      stayed = whole_without_failure c.new-output.ensures c.put_image.ensures c.finish.ensures _ (search rules);
     }

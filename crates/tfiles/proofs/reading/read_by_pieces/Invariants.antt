@@ -1,13 +1,13 @@
 use Rattle.std.proofs.Common.{◌-◌, ◌≤◌, length}
 use Rattle.std.specs.Io.KnownBytes.{Consumes}
-use Rattle.tfiles.specs.Failures.{HasNotFallen}
+use Rattle.tfiles.specs.Failures.{HasStayed}
 use Rattle.tfiles.proofs.reading.read_by_pieces.Given as goal
 
 -- what was read is what the reader gave, no read has failed yet, and it is not too long
 abbrev pub invariant-loop-count : goal.invariant-loop-count
 invariant-loop-count g l = record {
   bytes : Consumes (g.R.Read.remaining l.initial.reader) (g.R.Read.remaining l.reader) l.bytes.items;
-  kept : HasNotFallen (g.R.CountedRead.failures l.initial.reader) (g.R.CountedRead.failures l.reader);
+  stayed : HasStayed (g.R.CountedRead.failures l.initial.reader) (g.R.CountedRead.failures l.reader);
   within : length l.bytes.items ≤ 1073741824;
 }
 

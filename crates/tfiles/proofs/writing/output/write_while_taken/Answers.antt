@@ -3,7 +3,7 @@ use Rattle.std.proofs.Math.Seq.{take-add}
 use Rattle.std.proofs.KnownBytes.{Appends-trans}
 use Rattle.std.proofs.lemmas.List.{length-drop, take-take, length-take-le}
 use Rattle.std.specs.Io.KnownBytes.{Appends}
-use Rattle.tfiles.proofs.Failures.{counts-not_fallen, not_fallen-then}
+use Rattle.tfiles.proofs.Failures.{stayed-then, took-stayed}
 use Rattle.tfiles.proofs.writing.output.write_while_taken.Goals as goal
 
 pub loop-taken-preserved : goal.loop-taken-preserved
@@ -30,5 +30,7 @@ loop-taken-preserved g c =
           (take c.in-Ok.more
           (take (length c.args.bytes.now - c.loop-taken.taken) (drop c.loop-taken.taken c.args.bytes.now)))
           c.loop-taken.invariant.out c.in-Ok.ensures.bytes);
-      kept = not_fallen-then _ _ _ c.loop-taken.invariant.kept (counts-not_fallen _ _ _ c.in-Ok.ensures.count);
+      stayed = stayed-then _ _ _ c.loop-taken.invariant.stayed
+          (took-stayed c.write_counted.result c.in-Ok.more _ _ _ c.in-Ok.is c.if-more-gt0.true
+          c.write_counted.ensures.count);
     }

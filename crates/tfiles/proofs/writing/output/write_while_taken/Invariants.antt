@@ -1,14 +1,14 @@
 use Rattle.std.proofs.Common.{length, ◌-◌, ◌≤◌, take}
 use Rattle.std.specs.Io.KnownBytes.{Appends}
-use Rattle.tfiles.specs.Failures.{HasNotFallen}
+use Rattle.tfiles.specs.Failures.{HasStayed}
 use Rattle.tfiles.proofs.writing.output.write_while_taken.Given as goal
 
--- so many bytes were taken
+-- so many bytes were taken, and no write has failed yet
 abbrev pub invariant-loop-taken : goal.invariant-loop-taken
 invariant-loop-taken g l = record {
   within : l.taken ≤ length l.bytes;
   out : Appends (g.W.Write.contents l.initial.writer) (g.W.Write.contents l.writer) (take l.taken l.bytes);
-  kept : HasNotFallen (g.W.CountedWrite.failures l.initial.writer) (g.W.CountedWrite.failures l.writer);
+  stayed : HasStayed (g.W.CountedWrite.failures l.initial.writer) (g.W.CountedWrite.failures l.writer);
 }
 
 abbrev pub decreases-loop-taken : goal.decreases-loop-taken
