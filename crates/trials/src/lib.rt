@@ -17,6 +17,8 @@ mod refused;
 #[cfg(test)]
 mod rounds;
 #[cfg(test)]
+mod scripts;
+#[cfg(test)]
 mod texts;
 #[cfg(test)]
 mod threads;
