@@ -67,10 +67,10 @@ turn_more v m w slice i a h k =
     (m.events, h, subst (λ (s : Share). NodeTurn s slice (s.first + i) m.events true w.events) a k.1)
 
 -- all that a turn does goes behind what was there
-extends_self : (es es' : List OwnEvent) → es' ≡ es → Extends es es'
+pub extends_self : (es es' : List OwnEvent) → es' ≡ es → Extends es es'
 extends_self es es' e = ([], e ∙ sym (append-nil es))
 
-extends_more : (es m w : List OwnEvent) → Extends es m → Extends m w → Extends es w
+pub extends_more : (es m w : List OwnEvent) → Extends es m → Extends m w → Extends es w
 extends_more es m w h k = (h.0 ++ k.0, k.1 ∙ ap (λ (l : List OwnEvent). l ++ k.0) h.1 ∙ append_assoc es h.0 k.0)
 
 -- each step and each phase goes behind what was there

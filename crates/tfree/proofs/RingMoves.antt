@@ -32,7 +32,7 @@ takes-none n l (Data k byte last) x t h = absurd h
 takes-none n l (Ack k) x t h = absurd h
 
 -- an event that takes a packet takes it at its own end
-takes-here : (n l : ℕ) (s : Sent) → taken_packet n (event_taking l s.packet) (end_at n l) s.stamp ≡ s ∷ []
+pub takes-here : (n l : ℕ) (s : Sent) → taken_packet n (event_taking l s.packet) (end_at n l) s.stamp ≡ s ∷ []
 takes-here n l s = by s.packet refl
   where
     by : (p : Packet) → s.packet ≡ p → taken_packet n (event_taking l s.packet) (end_at n l) s.stamp ≡ s ∷ []

@@ -1,16 +1,14 @@
 -- Turns of a worker one after another, and workers that made theirs.
-use Rattle.std.proofs.Common.{◌≡◌, ℕ, zero, suc, ◌+◌, ◌<◌, refl, sym, ◌∙◌, ap, subst, arith, length, get_or, List, []}
-use Rattle.std.proofs.Common.{◌∷◌, ◌++◌, map, Bool, true, false, ◌&&◌}
-use Rattle.std.proofs.lemmas.List.{append-nil, length-append}
+use Rattle.std.proofs.Common.{◌≡◌, ℕ, zero, suc, ◌+◌, ◌<◌, ◌≤◌, refl, sym, ◌∙◌, ap, subst, arith, length, get_or, List}
+use Rattle.std.proofs.Common.{[], ◌∷◌, ◌++◌, map, take, Bool, true, false}
+use Rattle.std.proofs.Math.Seq.{take-append_seam}
+use Rattle.std.specs.Prelude.{Ok, Err, is_ok, replicate, slice_set}
 use Rattle.tfree.specs.declared.stamp.OwnEvent.{OwnEvent}
-use Rattle.std.specs.Prelude.{Result, Ok, Err, is_ok, slice_set}
-use Rattle.std.specs.Result.{result_and}
-use Rattle.std.specs.declared.alloc.AllocError.{AllocError}
-use Rattle.std.specs.List.{list_all}
 use Rattle.tfree.specs.Views.{Share, View}
-use Rattle.tfree.specs.Turns.{Times, Extends, IsTurn}
+use Rattle.tfree.specs.Turns.{Times, IsTurn}
 use Rattle.tfree.specs.Opened.{share_of}
-use Rattle.tfree.specs.Turning.{WholeTurn, AreTurns, Ended, IsTurned, had_memory, AreEachTurned, AreTurned}
+use Rattle.tfree.specs.Turning.{WholeTurn, AreTurns, Ended, IsTurned, GoesOn, AreEachGoneOn, AreEachTurned}
+use Rattle.tfree.proofs.Phases.{times_add}
 
 -- one turn more
 pub turn_more : (s t : Share) (slice k : ℕ) (es mid es' : List OwnEvent) → t ≡ s → Times k (WholeTurn s slice) es mid
@@ -20,41 +18,10 @@ turn_more s t slice k es mid es' same h turn =
     (mid, h, subst (λ (r : Share). IsTurn r slice mid true es') same turn)
 
 -- a turn that did nothing is as good as any number of them
-idle_turns : (s : Share) (slice n : ℕ) (es : List OwnEvent) → IsTurn s slice es true es
+pub idle_turns : (s : Share) (slice n : ℕ) (es : List OwnEvent) → IsTurn s slice es true es
     → Times n (WholeTurn s slice) es es
 idle_turns s slice zero es h = refl
 idle_turns s slice (suc n) es h = (es, idle_turns s slice n es h, h)
-
-more_turns : (s : Share) (slice k n : ℕ) (es mid es' : List OwnEvent) → Times k (WholeTurn s slice) es mid
-    → Times n (WholeTurn s slice) mid es' → Times (n + k) (WholeTurn s slice) es es'
-more_turns s slice k zero es mid es' h idle =
-    subst (λ (j : ℕ). Times j (WholeTurn s slice) es es') (let e : k ≡ 0 + k = omega arith in e)
-    (subst (λ (x : List OwnEvent). Times k (WholeTurn s slice) es x) (sym idle) h)
-more_turns s slice k (suc n) es mid es' h (last, before, turn) =
-    subst (λ (j : ℕ). Times j (WholeTurn s slice) es es') (let e : suc (n + k) ≡ suc n + k = omega arith in e)
-    (last, more_turns s slice k n es mid last h before, turn)
-
--- a list that goes on by nothing
-pub nothing_more : (es es' : List OwnEvent) → Extends es es' → length es' ≡ length es → es' ≡ es
-nothing_more es es' (more, is) e = is
-    ∙ (ap (λ (l : List OwnEvent). es ++ l) (empty more (omega (arith, e, ap length is, length-append es more)))
-    ∙ append-nil es)
-  where
-    empty : (l : List OwnEvent) → length l ≡ 0 → l ≡ []
-    empty [] h = refl
-    empty (x ∷ xs) h = absurd (omega (arith, h))
-
--- so the rest of the turns of a worker that finds nothing
-pub idle_rest : (s t : Share) (turns slice k n : ℕ) (es mid es' : List OwnEvent) → n + k ≡ turns → t ≡ s
-    → Times k (WholeTurn s slice) es mid → IsTurn t slice mid true es' → es' ≡ mid
-    → Times turns (WholeTurn s slice) es es'
-idle_rest s t turns slice k n es mid es' e same h turn idle =
-    let at : IsTurn s slice mid true mid =
-    subst (λ (x : List OwnEvent). IsTurn s slice mid true x) idle
-    (subst (λ (r : Share). IsTurn r slice mid true es') same turn) in
-    subst (λ (j : ℕ). Times j (WholeTurn s slice) es es') e
-    (subst (λ (x : List OwnEvent). Times (n + k) (WholeTurn s slice) es x) (sym idle)
-    (more_turns s slice k n es mid mid h (idle_turns s slice n mid at)))
 
 -- a turn that stopped is the last one
 pub turn_stops : (s t : Share) (turns slice k : ℕ) (es mid es' : List OwnEvent) (ok : Bool) → ok ≡ false → k < turns
@@ -63,73 +30,75 @@ turn_stops s t turns slice k es mid es' ok e b same h turn =
     subst (λ (o : Bool). AreTurns s turns slice es o es') (sym e)
     (k, b, (mid, h, subst (λ (r : Share). IsTurn r slice mid false es') same turn))
 
--- what is tried on two lists, one behind the other
-all_of_both : {X : Type 0} (test : X → Bool) (xs ys : List X)
-    → list_all test (xs ++ ys) ≡ (list_all test xs && list_all test ys)
-all_of_both test [] ys = refl
-all_of_both test (x ∷ xs) ys = rw (all_of_both test xs ys) (and_assoc (test x) (list_all test xs) (list_all test ys))
-  where
-    and_assoc : (a b c : Bool) → (a && (b && c)) ≡ ((a && b) && c)
-    and_assoc true b c = refl
-    and_assoc false b c = refl
+-- a list that was lent, and all of it written
+pub written_back : {A : Type 0} (n : ℕ) (new rest : List A) → length new ≡ n → take n (new ++ rest) ≡ new
+written_back n new rest e = ap (λ (k : ℕ). take k (new ++ rest)) (sym e) ∙ take-append_seam new rest
 
--- both had memory
-both_had : {X E : Type 0} (a b : Result X E) → is_ok (result_and a b) ≡ (is_ok a && is_ok b)
-both_had (Ok x) b = refl
-both_had (Err e) b = refl
+-- workers that have made no turn yet
+pub none_made : (slice : ℕ) (vs : List View) → AreEachTurned 0 slice vs (replicate (length vs) (Ok tt)) vs
+none_made slice [] = tt
+none_made slice (v ∷ vs) = (record { same = refl; did = refl; full = λ e. cc }, none_made slice vs)
 
-module _ (turns slice : ℕ) where
-  -- no worker
-  pub none_turned : AreTurned turns slice [] true []
-  none_turned = record { endings = []; each = tt; memory = refl }
+module _ (slice : ℕ) where
+  -- a worker that stopped, stopped before any later turn
+  pub more_wanted : (m n : ℕ) (v w : View) (e : Ended) → m ≤ n → is_ok e ≡ false → IsTurned m slice v e w
+      → IsTurned n slice v e w
+  more_wanted m n v w (Ok x) b stopped h = cc
+  more_wanted m n v w (Err f) b stopped h =
+      record { same = h.same; did = (h.did.0, omega (arith, b, h.did.1), h.did.2); full = h.full }
 
-  -- one worker
-  pub one_turned : (v w : View) (e : Ended) (ok : Bool) → ok ≡ had_memory e → IsTurned turns slice v e w
-      → AreTurned turns slice (v ∷ []) ok (w ∷ [])
-  one_turned v w e ok same h =
-      record { endings = e ∷ []; each = (h, tt); memory = same ∙ sym (and_true (had_memory e)) }
+  -- turns of a worker, and then more of them
+  turns_on : (m n : ℕ) (v u w : View) (d e : Ended) → IsTurned m slice v d u → GoesOn n slice u d e w
+      → IsTurned (m + n) slice v e w
+  turns_on m n v u w (Ok x) e h k = record {
+    same = k.same ∙ h.same;
+    did = by (is_ok e) (subst (λ (s : Share). AreTurns s n slice u.events (is_ok e) w.events) h.same k.did);
+    full = k.full;
+  }
     where
-      and_true : (b : Bool) → (b && true) ≡ b
-      and_true true = refl
-      and_true false = refl
+      by : (b : Bool) → AreTurns v.share n slice u.events b w.events
+          → AreTurns v.share (m + n) slice v.events b w.events
+      by true t = times_add (WholeTurn v.share slice) m n v.events u.events w.events h.did t
+      by false t = (
+        m + t.0,
+        omega (arith, t.1),
+        (t.2.0, times_add (WholeTurn v.share slice) m t.0 v.events u.events t.2.0 h.did t.2.1, t.2.2),
+      )
+  turns_on m n v u w (Err f) e h k = rw (k.0, k.1) (more_wanted m (m + n) v u (Err f) (omega arith) refl h)
 
-  each_of_both : (vs vs' : List View) (es es' : List Ended) (ws ws' : List View) → AreEachTurned turns slice vs es ws
-      → AreEachTurned turns slice vs' es' ws' → AreEachTurned turns slice (vs ++ vs') (es ++ es') (ws ++ ws')
-  each_of_both [] vs' [] es' [] ws' h k = k
-  each_of_both (v ∷ vs) vs' (e ∷ es) es' (w ∷ ws) ws' h k = (h.0, each_of_both vs vs' es es' ws ws' h.1 k)
-  each_of_both _ vs' _ es' _ ws' h k = absurd h
+  -- so of workers
+  pub each_on : (m n : ℕ) (vs : List View) (ds : List Ended) (us : List View) (es : List Ended) (ws : List View)
+      → AreEachTurned m slice vs ds us → AreEachGoneOn n slice us ds es ws → AreEachTurned (m + n) slice vs es ws
+  each_on m n [] [] [] [] [] h k = tt
+  each_on m n [] [] [] _ _ h k = absurd k
+  each_on m n (v ∷ vs) (d ∷ ds) (u ∷ us) (e ∷ es) (w ∷ ws) h k =
+      (turns_on m n v u w d e h.0 k.0, each_on m n vs ds us es ws h.1 k.1)
+  each_on m n (v ∷ vs) (d ∷ ds) (u ∷ us) _ _ h k = absurd k
+  each_on m n _ _ _ _ _ h k = absurd h
 
   -- some workers, and others behind them
-  both_turned : (vs vs' ws ws' : List View) (a b ok : Bool) → ok ≡ (a && b) → AreTurned turns slice vs a ws
-      → AreTurned turns slice vs' b ws' → AreTurned turns slice (vs ++ vs') ok (ws ++ ws')
-  both_turned vs vs' ws ws' a b ok same h k = record {
-    endings = h.endings ++ k.endings;
-    each = each_of_both vs vs' h.endings k.endings ws ws' h.each k.each;
-    memory = let e : list_all had_memory (h.endings ++ k.endings)
-        ≡ (list_all had_memory h.endings && list_all had_memory k.endings) =
-        all_of_both had_memory h.endings k.endings in rw (same, h.memory, k.memory) (sym e);
-  }
-
-  -- as they ended
-  pub both_ended : (vs vs' ws ws' : List View) (a b ended : Result (Unit {0}) AllocError) → ended ≡ result_and a b
-      → AreTurned turns slice vs (is_ok a) ws → AreTurned turns slice vs' (is_ok b) ws'
-      → AreTurned turns slice (vs ++ vs') (is_ok ended) (ws ++ ws')
-  both_ended vs vs' ws ws' a b ended same h k =
-      both_turned vs vs' ws ws' (is_ok a) (is_ok b) (is_ok ended) (ap is_ok same ∙ both_had a b) h k
-
-  shares_of_each : (vs : List View) (es : List Ended) (ws : List View) → AreEachTurned turns slice vs es ws
-      → map share_of ws ≡ map share_of vs
-  shares_of_each [] [] [] h = refl
-  shares_of_each (v ∷ vs) (e ∷ es) (w ∷ ws) h = rw (h.0.same, shares_of_each vs es ws h.1) refl
-  shares_of_each _ _ _ h = absurd h
-
-  -- each keeps its share
-  pub shares_stay : (vs ws : List View) (ok : Bool) → AreTurned turns slice vs ok ws → map share_of ws ≡ map share_of vs
-  shares_stay vs ws ok h = shares_of_each vs h.endings ws h.each
+  pub both_on : (n : ℕ) (vs vs' : List View) (ds ds' es es' : List Ended) (ws ws' : List View)
+      → AreEachGoneOn n slice vs ds es ws → AreEachGoneOn n slice vs' ds' es' ws'
+      → AreEachGoneOn n slice (vs ++ vs') (ds ++ ds') (es ++ es') (ws ++ ws')
+  both_on n [] vs' [] ds' [] es' [] ws' h k = k
+  both_on n (v ∷ vs) vs' (d ∷ ds) ds' (e ∷ es) es' (w ∷ ws) ws' h k =
+      (h.0, both_on n vs vs' ds ds' es es' ws ws' h.1 k)
+  both_on n _ vs' _ ds' _ es' _ ws' h k = absurd h
 
   -- the only worker
-  pub only_turned : (vs : List View) (v w : View) (e : Ended) (ok : Bool) → length vs ≡ 1 → ok ≡ had_memory e
-      → IsTurned turns slice (get_or vs 0 v) e w → AreTurned turns slice vs ok (slice_set vs 0 w)
-  only_turned [] v w e ok one same h = absurd (omega (arith, one))
-  only_turned (u ∷ []) v w e ok one same h = one_turned u w e ok same h
-  only_turned (u ∷ x ∷ us) v w e ok one same h = absurd (omega (arith, one))
+  pub only_on : (n : ℕ) (vs : List View) (ds : List Ended) (v w : View) (d e : Ended) → length vs ≡ 1
+      → length ds ≡ length vs → GoesOn n slice (get_or vs 0 v) (get_or ds 0 d) e w
+      → AreEachGoneOn n slice vs ds (slice_set ds 0 e) (slice_set vs 0 w)
+  only_on n (v' ∷ []) (d' ∷ []) v w d e one same h = (h, tt)
+  only_on n [] ds v w d e one same h = absurd (omega (arith, one))
+  only_on n (v' ∷ x ∷ vs) ds v w d e one same h = absurd (omega (arith, one))
+  only_on n (v' ∷ []) [] v w d e one same h = absurd (omega (arith, same))
+  only_on n (v' ∷ []) (d' ∷ y ∷ ds) v w d e one same h = absurd (omega (arith, same))
+
+module _ (turns slice : ℕ) where
+  -- each keeps its share
+  pub shares_stay : (vs : List View) (es : List Ended) (ws : List View) → AreEachTurned turns slice vs es ws
+      → map share_of ws ≡ map share_of vs
+  shares_stay [] [] [] h = refl
+  shares_stay (v ∷ vs) (e ∷ es) (w ∷ ws) h = rw (h.0.same, shares_stay vs es ws h.1) refl
+  shares_stay _ _ _ h = absurd h

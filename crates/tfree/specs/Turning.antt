@@ -34,6 +34,18 @@ had_memory (Ok x) = true
 had_memory (Err ClockFull) = true
 had_memory (Err OutOfMemory) = false
 
+-- a worker makes so many turns more, unless it stopped before: then it stays as it is
+abbrev pub GoesOn : (turns slice : ℕ) → View → Ended → Ended → View → Type 0
+GoesOn turns slice v (Ok x) e w = IsTurned turns slice v e w
+GoesOn turns slice v (Err f) e w = (e ≡ Err f) × (w ≡ v)
+
+-- so do workers, by how they had ended before and how they end
+abbrev pub AreEachGoneOn : (turns slice : ℕ) → List View → List Ended → List Ended → List View → Type 0
+AreEachGoneOn turns slice [] [] [] [] = Unit {0}
+AreEachGoneOn turns slice (v ∷ vs) (d ∷ ds) (e ∷ es) (w ∷ ws) = GoesOn turns slice v d e w
+    × AreEachGoneOn turns slice vs ds es ws
+AreEachGoneOn turns slice _ _ _ _ = ⊥
+
 -- each worker made its turns, in their order, by how they ended
 abbrev pub AreEachTurned : (turns slice : ℕ) → List View → List Ended → List View → Type 0
 AreEachTurned turns slice [] [] [] = Unit {0}

@@ -21,10 +21,10 @@ fn drain(end: &mut InEnd, out: &mut OutEnd) -> Inbox
     let count = end.consumer.slots_beside(&mut out.producer);
     let mut lies = Inbox::EMPTY;
     if count > 0 {
-        lies.add(end.consumer.pop_known().packet);
+        lies.add(end.take().packet);
     }
     if count > 1 {
-        lies.add(end.consumer.pop_known().packet);
+        lies.add(end.take().packet);
     }
     lies
 }

@@ -58,9 +58,9 @@ fn ring_with(alloc: Global, lies: Inbox) -> Result<(OutEnd, InEnd), AllocError>
     ensures got { IfOk result (λ r. (in_view r.1).got ≡ []) }
 {
     let (producer, consumer) = RingBuffer::new(alloc, 2)?;
-    let mut out = OutEnd { producer };
+    let mut out = OutEnd::new(producer);
     preload(&mut out, lies);
-    Ok((out, InEnd { consumer }))
+    Ok((out, InEnd::new(consumer)))
 }
 
 /// So many slots, all empty.

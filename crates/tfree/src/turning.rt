@@ -1,63 +1,144 @@
-//! Workers that make many turns, each on a thread of its own.
+//! Workers that make many turns, in stages, each on a thread of its own.
 
-ghost use Rattle.std.specs.Prelude.{◌≡◌, ◌<◌, is_ok, length, map, IfErr, IfOk, ◌⊎◌, false, true};
+ghost use Rattle.std.specs.Prelude.{◌≡◌, ◌<◌, ◌≤◌, ◌⊎◌, is_ok, length, map, replicate, IfErr, IfOk, Ok, Err};
+ghost use Rattle.std.specs.Prelude.{false, true};
+ghost use Rattle.std.specs.List.{list_all};
 ghost use Rattle.std.specs.Thread.{IsSync};
 ghost use Rattle.tfree.specs.Opened.{share_of};
-ghost use Rattle.tfree.specs.Turning.{AreTurned, IsTurned, had_memory};
+ghost use Rattle.tfree.specs.Resting.{HaveMade, AreStaged};
+ghost use Rattle.tfree.specs.Turning.{AreTurned, AreEachGoneOn, GoesOn, IsTurned, had_memory};
 
 use crate::log::TurnFault;
-use crate::lull::{Lull, PATIENCE};
+use crate::resting::are_idle;
 use crate::worker::Worker;
 use std::alloc::{AllocError, Global};
 use std::thread::{Threads, join_mut};
 
+/// How many turns the first stage has.
+const FIRST_STAGE: u32 = 64;
+
+/// How many turns a stage has at most.
+const LONGEST_STAGE: u32 = 4_096;
+
+/// How the next turns are made: in a stage, each worker on a thread of its own, or one of each worker by the calling
+/// thread.
+#[derive(Clone, Copy)]
+struct Pace {
+    /// How many turns the next stage has.
+    stage: u32,
+    /// How many turns of each worker the calling thread makes before.
+    single: u32,
+    ghost stages: { (0 < stage) × (stage ≤ 4096) },
+}
+
+impl Pace {
+    /// A short stage comes first.
+    fn first() -> Self {
+        Pace {
+            stage: FIRST_STAGE,
+            single: 0,
+        }
+    }
+
+    /// Whether the next turns are made on threads.
+    fn is_apart(self) -> bool {
+        self.single == 0
+    }
+
+    /// How many turns are made next, where so many are left.
+    fn count(self, left: u32) -> u32
+        requires { 0 < left }
+        ensures { (0 < result) × (result ≤ left) }
+    {
+        if self.is_apart() {
+            self.stage.min(left)
+        } else {
+            1
+        }
+    }
+
+    /// What comes behind turns in which so many workers were busy. Behind a stage the calling thread makes as many
+    /// turns of each worker, so that none runs out of turns while it waits for another. When two are busy in one of
+    /// these turns, a stage comes that is twice as long; when all are made, a short one.
+    fn next(self, busy: usize) -> Self {
+        if self.is_apart() {
+            Pace {
+                stage: self.stage,
+                single: self.stage,
+            }
+        } else if busy > 1 {
+            Pace {
+                stage: LONGEST_STAGE.min(2 * self.stage),
+                single: 0,
+            }
+        } else if self.single > 1 {
+            Pace {
+                stage: self.stage,
+                single: self.single - 1,
+            }
+        } else {
+            Pace::first()
+        }
+    }
+}
+
+/// How the turns of a worker ended: all were made, or one stopped for a fault.
+pub(crate) type Ended = Result<(), TurnFault>;
+
 impl Worker {
-    /// So many turns, one after another, or until one stops for a fault, or until no worker finds anything to do.
-    pub(crate) fn turns(&mut self, turns: u32, slice: u32, lull: &Lull) -> Result<(), TurnFault>
+    /// So many turns, one after another, or until one stops for a fault.
+    pub(crate) fn turns(&mut self, turns: u32, slice: u32) -> Ended
         ensures { IsTurned turns slice self.old result self.new }
     {
-        let number = self.number();
-        let mut patience = PATIENCE;
-        let mut rested = None;
         for _done in 0..turns {
-            let turned = self.turn(slice)?;
-            if turned.events > 0 {
-                lull.worked(number);
-                rested = None;
-            } else {
-                if self.is_over(rested, lull, &mut patience) {
-                    return Ok(());
-                }
-                rested = Some(lull.busy());
-            }
+            self.turn(slice)?;
         }
         Ok(())
     }
 
-    /// After a turn in which it found nothing to do, which began when all had made so many turns in which something
-    /// was done: whether none would find anything in a later turn. A worker without nodes never would.
-    fn is_over(&self, busy: Option<u64>, lull: &Lull, patience: &mut u32) -> bool {
-        match busy {
-            _ if self.nodes() == 0 => true,
-            Some(busy) => lull.rest(self.number(), busy, patience),
-            None => false,
+    /// So many turns more, unless it has stopped for a fault. Whether it was busy: it did as many events as a node may
+    /// do runs in a turn.
+    fn go_on(&mut self, ended: &mut Ended, turns: u32, slice: u32) -> bool
+        ensures { GoesOn turns slice self.old ended.old ended.new self.new }
+    {
+        let before = self.events();
+        if ended.is_ok() {
+            *ended = self.turns(turns, slice);
         }
+        self.events().saturating_sub(before) >= slice as usize
     }
+}
+
+/// So many workers that have not stopped.
+fn going(alloc: Global, count: usize) -> Result<Vec<Ended>, AllocError>
+    ensures { IfOk result (λ endings. endings.items ≡ replicate count (Ok tt)) }
+{
+    let mut endings = Vec::with_capacity(alloc, count)?;
+    for _worker in 0..count {
+        endings.push(Ok(()))?;
+    }
+    Ok(endings)
 }
 
 /// Whether turns that ended so were refused memory. A full clock is no fault.
-fn refusal(ended: Result<(), TurnFault>) -> Result<(), AllocError>
-    ensures { is_ok result ≡ had_memory ended }
+fn refusal(endings: &[Ended]) -> Result<(), AllocError>
+    ensures { is_ok result ≡ list_all had_memory endings.now }
 {
-    match ended {
-        Ok(()) | Err(TurnFault::ClockFull) => Ok(()),
-        Err(TurnFault::OutOfMemory) => Err(AllocError),
+    for ended in endings {
+        if *ended == Err(TurnFault::OutOfMemory) {
+            return Err(AllocError);
+        }
     }
+    Ok(())
 }
 
-/// Each worker makes so many turns, or stops at a turn's fault; where these are all the workers of their opening,
-/// they also stop when none finds anything more to do. Each is on a thread of its own where one can be started,
-/// else on that of another worker; with one worker no thread is started.
+/// Each worker makes so many turns, or stops at a turn's fault, and its list is one that so many turns leave. The
+/// turns are made in stages, of 64 turns, then 128, and so on up to 4,096: in a stage each worker is on a thread of
+/// its own where one can be started, else on that of another worker; with one worker no thread is started. Behind a
+/// stage the calling thread makes turns of each worker, one of each after another, as many as the stage had, or fewer
+/// where two workers are busy. Behind these and the stage, with all workers in hand, it looks whether anything is
+/// left to do: where nothing is, the turns that are left would add nothing, and are left out. Workers that may still
+/// get a packet from one that is not among them make all their turns.
 ///
 /// # Errors
 /// A worker was refused memory in a turn, or there was none before the first turn. A full clock ends the turns of
@@ -70,65 +151,100 @@ pub fn turn_all<R: Threads + Sync>(
     slice: u32,
 ) -> Result<(), AllocError>
     ensures turned { IfOk result (λ _. AreTurned turns slice workers.old true workers.new) }
+    ensures made { IfOk result (λ _. HaveMade turns slice workers.old workers.new) }
     ensures refused { IfErr result (λ _. (workers.new ≡ workers.old)
         ⊎ AreTurned turns slice workers.old false workers.new) }
     ensures same { map share_of workers.new ≡ map share_of workers.old }
 {
-    let all = match workers.first() {
-        Some(worker) if worker.count() == workers.len() => workers.len(),
-        _ => 0,
-    };
-    let lull = Lull::new(alloc, all)?;
-    turn_some(rt, &lull, workers, turns, slice)
+    let mut endings = going(alloc, workers.len())?;
+    turn_in_stages(rt, workers, endings.as_mut_slice(), turns, slice);
+    refusal(endings.as_slice())
 }
 
-/// Some workers make their turns. They are halved down to one worker.
+/// Workers of which none has stopped make so many turns, in stages, or fewer where they come to rest.
+fn turn_in_stages<R: Threads + Sync>(
+    rt: &R,
+    workers: &mut [Worker],
+    endings: &mut [Ended],
+    turns: u32,
+    slice: u32,
+)
+    requires { endings.old ≡ replicate (length workers.old) (Ok tt) }
+    ensures { AreStaged turns slice workers.old endings.new workers.new }
+{
+    let mut made = 0;
+    let mut pace = Pace::first();
+    while made < turns {
+        let count = pace.count(turns - made);
+        let busy = turn_some(rt, pace.is_apart(), workers, endings, count, slice);
+        made += count;
+        if are_idle(workers, endings) {
+            return;
+        }
+        pace = pace.next(busy);
+    }
+}
+
+/// Some workers make so many turns more, but for those that have stopped, on threads or one after another: how many
+/// were busy. They are halved down to one worker.
 #[cycle(turning)]
 fn turn_some<R: Threads + Sync>(
     rt: &R,
-    lull: &Lull,
+    apart: bool,
     workers: &mut [Worker],
+    endings: &mut [Ended],
     turns: u32,
     slice: u32,
-) -> Result<(), AllocError>
-    ensures turned { AreTurned turns slice workers.old (is_ok result) workers.new }
-    ensures same { map share_of workers.new ≡ map share_of workers.old }
+) -> usize
+    requires { length endings.old ≡ length workers.old }
+    ensures { AreEachGoneOn turns slice workers.old endings.old endings.new workers.new }
 {
     if workers.is_empty() {
-        return Ok(());
+        return 0;
     }
     if workers.len() == 1 {
-        let ended = workers[0].turns(turns, slice, lull);
-        lull.leave(workers[0].number());
-        return refusal(ended);
+        return usize::from(workers[0].go_on(&mut endings[0], turns, slice));
     }
-    let (front, back) = workers.split_at_mut(workers.len() / 2);
-    let (first, second) = turn_both(rt, lull, turns, slice, front, back);
-    first.and(second)
+    let half = workers.len() / 2;
+    let (front, back) = workers.split_at_mut(half);
+    let (first, second) = endings.split_at_mut(half);
+    turn_both(rt, apart, turns, slice, front, first, back, second)
 }
 
-/// The halves of some workers, side by side.
+/// The halves of some workers, side by side or one after the other.
 #[cycle(turning)]
 fn turn_both<R: Threads + Sync>(
     rt: &R,
-    lull: &Lull,
+    apart: bool,
     turns: u32,
     slice: u32,
     front: &mut [Worker],
+    first: &mut [Ended],
     back: &mut [Worker],
-) -> (Result<(), AllocError>, Result<(), AllocError>)
+    second: &mut [Ended],
+) -> usize
     requires some { 0 < length front.old }
     requires more { 0 < length back.old }
-    ensures front { AreTurned turns slice front.old (is_ok result.0) front.new }
-    ensures back { AreTurned turns slice back.old (is_ok result.1) back.new }
+    requires first { length first.old ≡ length front.old }
+    requires second { length second.old ≡ length back.old }
+    ensures front { AreEachGoneOn turns slice front.old first.old first.new front.new }
+    ensures back { AreEachGoneOn turns slice back.old second.old second.new back.new }
 {
-    let mut first = || -> Result<(), AllocError>
-        requires { IsSync R.row }
-        ensures { AreTurned turns slice front.entry.now (is_ok result) front.exit.now }
-    { turn_some(rt, lull, front, turns, slice) };
-    let mut second = || -> Result<(), AllocError>
-        requires { IsSync R.row }
-        ensures { AreTurned turns slice back.entry.now (is_ok result) back.exit.now }
-    { turn_some(rt, lull, back, turns, slice) };
-    join_mut(rt, &mut first, &mut second)
+    if !apart {
+        let one = turn_some(rt, apart, front, first, turns, slice);
+        let other = turn_some(rt, apart, back, second, turns, slice);
+        return one.saturating_add(other);
+    }
+    let mut one = || -> usize
+        requires sync { IsSync R.row }
+        requires alike { length first.now ≡ length front.now }
+        ensures { AreEachGoneOn turns slice front.entry.now first.entry.now first.exit.now front.exit.now }
+    { turn_some(rt, apart, front, first, turns, slice) };
+    let mut other = || -> usize
+        requires sync { IsSync R.row }
+        requires alike { length second.now ≡ length back.now }
+        ensures { AreEachGoneOn turns slice back.entry.now second.entry.now second.exit.now back.exit.now }
+    { turn_some(rt, apart, back, second, turns, slice) };
+    let (one, other) = join_mut(rt, &mut one, &mut other);
+    one.saturating_add(other)
 }

@@ -1,28 +1,21 @@
-use Rattle.std.proofs.Common.{is_ok, sym, subst, List, ◌++◌}
 use denote.Param.Send.{sendable}
-use Rattle.tfree.specs.Turning.{AreTurned}
+use Rattle.std.proofs.Common.{sym, subst, List, ◌++◌}
+use Rattle.tfree.specs.Turning.{Ended, AreEachGoneOn}
 use Rattle.tfree.specs.Views.{View}
-use Rattle.tfree.proofs.Crossings.{worker_send}
-use Rattle.tfree.proofs.lull.Lull.TheSendSync as lull
-use Rattle.tfree.proofs.Turnings.{both_ended, only_turned, shares_stay}
+use Rattle.tfree.proofs.Crossings.{worker_send, ended_send}
+use Rattle.tfree.proofs.Turnings.{both_on}
 use Rattle.tfree.proofs.turning.+turning.Goals as goal
 
-pub turn_some-returns-then-workers-eq1-clause-turned : goal.turn_some-returns-then-workers-eq1-clause-turned
-turn_some-returns-then-workers-eq1-clause-turned g t c =
-    only_turned c.args.turns c.args.slice c.args.workers.now c.index-workers-0.result c.turns-ended.new.self
-    c.turns-ended.result (is_ok c.refusal.result) c.if-workers-eq1.true c.refusal.ensures c.turns-ended.ensures
+pub turn_some-returns : goal.turn_some-returns
+turn_some-returns g t c =
+    subst (λ (vs : List View). AreEachGoneOn c.args.turns c.args.slice vs c.args.endings.now
+    (c.turn_both.new.first ++ c.turn_both.new.second) (c.turn_both.new.front ++ c.turn_both.new.back))
+    (sym c.split_at_mut-front.ensures.value)
+    (subst (λ (es : List Ended). AreEachGoneOn c.args.turns c.args.slice
+    (c.split_at_mut-front.result.0.now ++ c.split_at_mut-front.result.1.now) es
+    (c.turn_both.new.first ++ c.turn_both.new.second) (c.turn_both.new.front ++ c.turn_both.new.back))
+    (sym c.split_at_mut-first.ensures.value)
+    (both_on c.args.slice c.args.turns _ _ _ _ _ _ _ _ c.turn_both.ensures.front c.turn_both.ensures.back))
 
-pub turn_some-returns-clause-turned : goal.turn_some-returns-clause-turned
-turn_some-returns-clause-turned g t c =
-    subst (λ (l : List View). AreTurned c.args.turns c.args.slice l (is_ok c.and.result)
-    (c.turn_both-first.new.front ++ c.turn_both-first.new.back)) (sym c.split_at_mut-front.ensures.value)
-    (both_ended c.args.turns c.args.slice _ _ c.turn_both-first.new.front c.turn_both-first.new.back _ _ c.and.result
-    c.and.ensures c.turn_both-first.ensures.front c.turn_both-first.ensures.back)
-
-pub turn_some-returns-clause-same : goal.turn_some-returns-clause-same
-turn_some-returns-clause-same g t c =
-    shares_stay c.args.turns c.args.slice c.args.workers.now _ (is_ok c.and.result)
-    (turn_some-returns-clause-turned g t c)
-
-pub turn_both-join_mut-requires-send-F : goal.turn_both-join_mut-requires-send-F
-turn_both-join_mut-requires-send-F g t c κs within = search (sendable, worker_send, lull.the_sync) depth 40
+pub turn_both-join_mut-one-requires-send-F : goal.turn_both-join_mut-one-requires-send-F
+turn_both-join_mut-one-requires-send-F g t c κs within = search (sendable, worker_send, ended_send) depth 40
