@@ -4,6 +4,8 @@
 #[cfg(test)]
 mod boundaries;
 #[cfg(test)]
+mod copies;
+#[cfg(test)]
 mod encodings;
 #[cfg(test)]
 mod kinds;
