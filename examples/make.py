@@ -8,15 +8,13 @@
     examples/make.py names LISTING                prints the names of a listing, each behind its address
     examples/make.py label NAMES [NODE]           puts such names into what `temu dis` prints, or `temu where` of all
                                                   nodes or of one (standard input)
-    examples/make.py words NODE ADDRESS [COUNT] [--memory BYTES]
-                                                  prints words of a node from what `temu run` prints (standard input);
-                                                  an address behind so many bytes, 16777216 where they are not told,
-                                                  is refused
+    examples/make.py words NODE ADDRESS [COUNT]   prints words of a node from what `temu run` prints (standard input),
+                                                  and refuses those that lie outside its memory
     examples/make.py ring IMAGE..                 prints a wiring: link 1 of each node to link 2 of the next, round
     examples/make.py pipeline IMAGE..             the same, where the last node is not joined to the first
     examples/make.py grid WIDTH IMAGE..           links 0 to 3 are up, right, down, left; row by row
 
-The wirings take --memory BYTES, 2048 where it is absent. A listing has one of these on a line:
+The wirings and `words` take --memory BYTES, 2048 where it is absent. A listing has one of these on a line:
 
     at 80000080               a segment begins at this address
     24 f2    mint    remark   its next bytes; behind two blanks the instructions that they are, or `data`
@@ -363,11 +361,11 @@ def shown_words(output, node, address, count, memory):
     nodes = memories(output)
     if not 0 <= node < len(nodes):
         raise Wrong(f"there is no node {node} in the input")
-    behind = LOWEST + memory
+    # What is shown lies in the memory; of what is not shown only the size tells whether it is there.
+    behind = max([LOWEST + memory, *(it + 1 for it in nodes[node])])
     if not LOWEST <= address <= behind - 4 * max(1, count):
-        raise Wrong(f"{count} words from {address:08x} on do not lie in a memory from {LOWEST:08x} to {behind - 1:08x}")
-    if any(it >= behind for it in nodes[node]):
-        raise Wrong(f"the memory of node {node} is larger than {memory} bytes")
+        size = f"of {behind - LOWEST} bytes; --memory tells that it has more"
+        raise Wrong(f"{count} words from {address:08x} on do not lie in a memory {size}")
     lines = []
     for at in range(address, address + 4 * count, 4):
         word = word_at(nodes[node], at)
@@ -495,7 +493,7 @@ def arguments():
     words.add_argument("node", type=int)
     words.add_argument("address", type=lambda it: int(it, 16))
     words.add_argument("count", type=int, nargs="?", default=1)
-    words.add_argument("--memory", type=int, default=LARGEST)
+    words.add_argument("--memory", type=int, default=2048)
     for name in ("ring", "pipeline", "grid"):
         net = commands.add_parser(name)
         net.add_argument("--memory", type=int, default=2048)
