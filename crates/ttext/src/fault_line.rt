@@ -1,8 +1,8 @@
 //! How the program says why it printed nothing, or not all: one line, and its exit status.
 
-ghost use Rattle.std.specs.Prelude.{◌≡◌, ◌++◌, IfErr, IfOk, codes, decimal};
+ghost use Rattle.std.specs.Prelude.{◌≡◌, ◌++◌, IfErr, IfOk, codes, decimal, OnOk};
 ghost use Rattle.tfiles.specs.Texts.{words};
-ghost use Rattle.tfiles.specs.Failures.{HasRisen};
+ghost use Rattle.tfiles.specs.Failures.{HasRisen, HasStayed};
 ghost use Rattle.tfiles.specs.Outputs.{IsOut, Tells};
 ghost use Rattle.ttext.specs.FaultLines as spec;
 
@@ -26,6 +26,7 @@ pub fn write_fault<W: CountedWrite>(fault: &Fault, out: &mut W) -> Result<u8, Wr
     ensures line { IsOut (W.contents out.old) (W.contents out.new) (spec.fault_line fault.now) result }
     ensures status { IfOk result (λ status. status ≡ spec.status_of fault.now) }
     ensures cause { IfErr result (λ _. HasRisen (W.failures out.old) (W.failures out.new)) }
+    ensures stayed { OnOk result (HasStayed (W.failures out.old) (W.failures out.new)) }
 {
     match write_line(fault, out) {
         Ok(()) => Ok(fault.status()),
@@ -37,6 +38,7 @@ pub fn write_fault<W: CountedWrite>(fault: &Fault, out: &mut W) -> Result<u8, Wr
 fn write_line<W: CountedWrite>(fault: &Fault, out: &mut W) -> Result<(), WriteFault>
     ensures line { IsOut (W.contents out.old) (W.contents out.new) (spec.fault_line fault.now) result }
     ensures cause { IfErr result (λ _. HasRisen (W.failures out.old) (W.failures out.new)) }
+    ensures stayed { OnOk result (HasStayed (W.failures out.old) (W.failures out.new)) }
 {
     let mut output = Output::new(out);
     output.put(b"temu: ");

@@ -1,13 +1,13 @@
 //! Free workers, and what is printed of what they did: trace, dumps and last line.
 
-ghost use Rattle.std.specs.Prelude.{◌≡◌, Ok, IfOk, IfErr, IsOk, MatchResult, length, map, true};
+ghost use Rattle.std.specs.Prelude.{◌≡◌, Ok, IfOk, IfErr, IsOk, MatchResult, length, map, true, OnOk};
 ghost use Rattle.std.specs.Io.KnownBytes.{Appends};
 ghost use Rattle.tnet.specs.Notes.{notes};
 ghost use Rattle.tnet.specs.Runs.{IsSeenRun};
 ghost use Rattle.tnet.specs.Sound.{IsSound};
 ghost use Rattle.tfree.specs.Opened.{share_of, IsOpened};
 ghost use Rattle.tfree.specs.Turning.{AreTurned};
-ghost use Rattle.tfiles.specs.Failures.{HasRisen};
+ghost use Rattle.tfiles.specs.Failures.{HasRisen, HasStayed};
 ghost use Rattle.tfiles.specs.Outputs.{IsOut};
 ghost use Rattle.ttext.specs.declared.fault.Fault.TheVariants.{Memory};
 ghost use Rattle.ttext.specs.Free as spec;
@@ -66,8 +66,9 @@ pub fn free_text<R: Threads + Sync, W: CountedWrite>(
     // else nothing is written, or the beginning of the text of what workers did
     ensures left { IfErr result (IsFreeLeft W.contents (IsFreeRun wiring.now files options.now) out.old out.new) }
 
-    // and the output failed only where a write did
+    // and the output failed just where a write did
     ensures cause { IfErr result (HasOutputCause (W.failures out.old) (W.failures out.new)) }
+    ensures stayed { OnOk result (HasStayed (W.failures out.old) (W.failures out.new)) }
 {
     let net = open_net(alloc, wiring, files)?;
     let gathered = run_free(rt, alloc, net, options)?;
@@ -138,6 +139,7 @@ fn write_gathered<W: CountedWrite>(out: &mut W, gathered: &Gathered) -> Result<(
     requires { IsSound gathered.now.net }
     ensures out { IsOut (W.contents out.old) (W.contents out.new) (spec.free_text gathered.now) result }
     ensures cause { IfErr result (λ _. HasRisen (W.failures out.old) (W.failures out.new)) }
+    ensures stayed { OnOk result (HasStayed (W.failures out.old) (W.failures out.new)) }
 {
     quiet_is_nothing_enabled();
     let mut output = Output::new(out);

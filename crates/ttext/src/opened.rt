@@ -1,9 +1,10 @@
 //! The net of a wiring file and its images.
 
-ghost use Rattle.std.specs.Prelude.{◌≡◌, Ok, IfOk, MatchResult, length};
+ghost use Rattle.std.specs.Prelude.{◌≡◌, Ok, IfOk, MatchResult, length, IsErrOf, IsOk};
 ghost use Rattle.tnet.specs.Building.{built, opening_configuration};
 ghost use Rattle.tnet.specs.View.{view};
 ghost use Rattle.tfiles.specs.Images.{image_of};
+ghost use Rattle.ttext.specs.declared.fault.Fault.TheVariants.{Memory};
 ghost use Rattle.ttext.specs.Outcomes.{as_image, as_opened, images_of, opened_of, ArePlansOf, IsFaultOf, IsOpening};
 ghost use Rattle.ttext.specs.Outcomes.{IsPlanOf};
 
@@ -112,10 +113,11 @@ fn node_plans(
     Ok(Items::new(plans))
 }
 
-/// The image of a node.
+/// The image of a node. `Memory` is never answered where the file is no image.
 pub(crate) fn image_of_node(alloc: Global, node: usize, file: &[u8]) -> Result<Image, Fault>
-    ensures { MatchResult result (λ image. image_of file.now ≡ Ok image)
+    ensures answer { MatchResult result (λ image. image_of file.now ≡ Ok image)
         (IsFaultOf (as_image node (image_of file.now))) }
+    ensures wanted { IsErrOf result Memory → IsOk (as_image node (image_of file.now)) }
 {
     match read_image(alloc, file) {
         Ok(image) => Ok(image),

@@ -1,7 +1,7 @@
 use Rattle.std.proofs.Common.{ap, rules, Bool, List}
 use Rattle.tplan.specs.declared.event.Note.{Note}
 use Rattle.tfiles.specs.Texts.{free_end, trace_text}
-use Rattle.tfiles.proofs.Told.{cut_by_failure, tells_as, tells_then, written_out}
+use Rattle.tfiles.proofs.Told.{cut_by_failure, tells_as, tells_then, whole_without_failure, written_out}
 use Rattle.ttext.proofs.GatheredWorkers.{quiet_as}
 use Rattle.ttext.proofs.free.write_gathered.Goals as goal
 
@@ -15,4 +15,5 @@ returns g c =
     record {
       out = written_out c.new-output.ensures told c.finish.ensures _ (search rules);
       cause = cut_by_failure c.new-output.ensures told c.finish.ensures _ (search rules);
+      stayed = whole_without_failure c.new-output.ensures told c.finish.ensures _ (search rules);
     }

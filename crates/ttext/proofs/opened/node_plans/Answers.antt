@@ -55,7 +55,7 @@ returns-in_err-image c =
     rw (p.1, p.2)
     (not_planned c.args.nodes.now c.args.files place c.loop-file.plans.items _ c.in-Some.file c.loop-file.invariant t.0
     (subst (λ (bytes : List ℕ). IsFaultOf (as_image place (image_of bytes)) c.in_err-image.field-0.0)
-    (c.as_slice.ensures ∙ t.1) (rw node at c.in_err-image.ensures)))
+    (c.as_slice.ensures ∙ t.1) (rw node at c.in_err-image.ensures.answer)))
 
 pub loop-file-preserved : goal.loop-file-preserved
 loop-file-preserved c =
@@ -71,7 +71,7 @@ loop-file-preserved c =
     rw (length_push c.loop-file.yielded c.in-Some.file)
     (one_planned c.args.nodes.now c.args.files (length c.loop-file.yielded) c.loop-file.plans.items
     c.push.new.self.items c.in_ok-image.image c.index-nodes-node.result c.in-Some.file c.loop-file.invariant c.requires
-    t.0 (ap image_of (sym (c.as_slice.ensures ∙ t.1)) ∙ c.in_ok-image.ensures)
+    t.0 (ap image_of (sym (c.as_slice.ensures ∙ t.1)) ∙ c.in_ok-image.ensures.answer)
     (c.in_ok-push.ensures.items
     ∙ ap (λ (n : WiringNode). c.loop-file.plans.items ++ node_of (n, c.in_ok-image.image) ∷ [])
     (c.index-nodes-node.is ∙ ap (λ (k : ℕ). get_or c.args.nodes.now k c.index-nodes-node.result) node)))

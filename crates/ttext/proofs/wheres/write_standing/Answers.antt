@@ -1,5 +1,5 @@
 use Rattle.std.proofs.Common.{rules}
-use Rattle.tfiles.proofs.Told.{cut_by_failure, tells_then, written_out}
+use Rattle.tfiles.proofs.Told.{cut_by_failure, tells_then, whole_without_failure, written_out}
 use Rattle.ttext.proofs.wheres.write_standing.Goals as goal
 
 pub returns : goal.returns
@@ -8,4 +8,5 @@ returns g c =
     record {
       out = written_out c.new-output.ensures told c.finish.ensures _ (search rules);
       cause = cut_by_failure c.new-output.ensures told c.finish.ensures _ (search rules);
+      stayed = whole_without_failure c.new-output.ensures told c.finish.ensures _ (search rules);
     }
