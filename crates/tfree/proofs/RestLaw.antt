@@ -158,12 +158,14 @@ module _ (ws : List View) (w : View) (es' : List OwnEvent) (rests : HasNothingLe
 
         by : IsWorkerOf ws w empty.far.node empty.from → ⊥
         by (inl own) =
-            let f : (rest : List Sent) × (takes e w.events ++ r.packet ∷ rest ≡ put_to w.share.opened empty.far w.events) =
+            let f : (rest : List Sent)
+            × (takes e w.events ++ r.packet ∷ rest ≡ put_to w.share.opened empty.far w.events) =
             r.front empty.far (empty.wired, own.0) in
             more_put (takes e w.events) (put_to w.share.opened empty.far w.events) r.packet f.0 f.1
             (empty.empty ∙ ap (λ (u : View). length (put_to u.share.opened empty.far u.events)) own.1)
         by (inr other) =
-            let f : (rest : List Sent) × (takes e es' ++ rest ≡ put_to empty.from.share.opened empty.far empty.from.events) =
+            let f : (rest : List Sent)
+            × (takes e es' ++ rest ≡ put_to empty.from.share.opened empty.far empty.from.events) =
             lies i l empty.far empty.from b c empty.wired (inr other) other.0 in
             absurd (omega (arith, longer, empty.empty, ap length f.1, length-append (takes e es') f.0))
 
