@@ -1,5 +1,5 @@
 //! The benchmarks of rounds and of free workers in plain, safe Rust, by one thread and round by round: nodes in a ring,
-//! of which all compute, nearly all wait, or all send and receive until they stop.
+//! of which all compute, nearly all wait, all send and receive until they stop, or all wait for ever.
 
 mod plain;
 
@@ -62,8 +62,7 @@ fn program(number: usize, load: Load) -> (&'static [u8], Vec<u32>) {
     }
 }
 
-fn processor(number: usize, load: Load) -> Result<Processor, Break> {
-    let (code, words) = program(number, load);
+fn processor((code, words): (&[u8], Vec<u32>)) -> Result<Processor, Break> {
     let mut p = Processor::new(MEMORY, 1_024);
     p.load(START, code);
     for (address, word) in (WORKSPACE..).step_by(4).zip(words) {
@@ -73,20 +72,46 @@ fn processor(number: usize, load: Load) -> Result<Processor, Break> {
     Ok(p)
 }
 
-fn prepared(load: Load) -> Result<Net, Break> {
-    let processors: Result<Vec<_>, _> = (0..NODES).map(|number| processor(number, load)).collect();
-    let wires: Vec<_> = (0..NODES)
-        .map(|node| (End { node, link: 1 }, End { node: (node + 1) % NODES, link: 2 }))
+/// So many nodes in a ring, each with its program.
+fn prepared(nodes: usize, program: impl Fn(usize) -> (&'static [u8], Vec<u32>)) -> Result<Net, Break> {
+    let processors: Result<Vec<_>, _> = (0..nodes).map(|number| processor(program(number))).collect();
+    let wires: Vec<_> = (0..nodes)
+        .map(|node| (End { node, link: 1 }, End { node: (node + 1) % nodes, link: 2 }))
         .collect();
     Ok(Net::new(processors?, &wires))
+}
+
+/// So many nodes that wait for ever: how many there are in a benchmark of rounds that find nothing to do.
+fn resting(name: &str) -> Option<usize> {
+    match name {
+        "turn-idle" => Some(1),
+        "turn-idle-2" => Some(2),
+        "turn-idle-64" => Some(64),
+        _ => None,
+    }
+}
+
+/// Does so many rounds, of which all but the first find nothing to do.
+fn rest(name: &str, nodes: usize, rounds: u32) {
+    let waits = |_| (&PONG[..], vec![BACK, ONWARD, BUFFER, LENGTH]);
+    let mut net = prepared(nodes, waits).expect("the processes fit");
+    let mut report = Report::default();
+    for _ in 0..rounds {
+        net.rounds(1, 64, &mut report);
+    }
+    let sum = mixed(mixed(BEGIN, rounds), report.events.len() as u32);
+    println!("{name} {rounds} {sum}");
 }
 
 fn main() {
     let name = plain::name();
     let thousands = plain::amount();
+    if let Some(nodes) = resting(&name) {
+        return rest(&name, nodes, thousands * 1_000);
+    }
     let (load, slice) = job(&name, thousands).expect("the benchmark is known");
     let slice = slice.min(thousands * 1_000);
-    let mut net = prepared(load).expect("the processes fit");
+    let mut net = prepared(NODES, |number| program(number, load)).expect("the processes fit");
     let mut left = match load {
         Load::Computing => (thousands * 1_000).div_ceil(slice),
         Load::Waiting => thousands * 100,

@@ -1,7 +1,7 @@
 //! What a benchmark answers.
 
 use std::alloc::AllocError;
-use tfree::{GatherFault, OpenFault};
+use tfree::{GatherFault, OpenFault, TurnFault};
 use tplan::BuildFault;
 use trounds::NetFault;
 use tword::{Break, MemoryFault};
@@ -29,6 +29,8 @@ pub enum Fault {
     Stopped(NetFault),
     /// A net was not opened for workers.
     Unopened(OpenFault),
+    /// A worker did not end its turn.
+    Unturned(TurnFault),
     /// Workers were not gathered.
     Apart(GatherFault),
 }

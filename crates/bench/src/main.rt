@@ -5,6 +5,7 @@
 mod answer;
 mod crew;
 mod free;
+mod idle;
 mod local_loop;
 mod mixed_code;
 mod nets;
@@ -31,6 +32,8 @@ enum Benchmark {
     Net(Ring),
     Pipeline,
     Crew(Crew),
+    /// Turns over so many nodes that wait for ever.
+    Idle(u8),
 }
 
 /// A process in the loop, among others.
@@ -74,7 +77,7 @@ fn in_turns(load: Load, slice: u32, workers: usize) -> Benchmark {
 }
 
 /// All of them, by name.
-fn benchmarks() -> [(&'static str, Benchmark); 31] {
+fn benchmarks() -> [(&'static str, Benchmark); 34] {
     [
         ("decode", Benchmark::Decode),
         ("local", Benchmark::Local(Claims::Nothing)),
@@ -107,6 +110,9 @@ fn benchmarks() -> [(&'static str, Benchmark); 31] {
         ("free-ring", in_turns(Load::Exchanging, 64, 1)),
         ("free-ring-2", in_turns(Load::Exchanging, 64, 2)),
         ("free-ring-4", in_turns(Load::Exchanging, 64, 4)),
+        ("turn-idle", Benchmark::Idle(1)),
+        ("turn-idle-2", Benchmark::Idle(2)),
+        ("turn-idle-64", Benchmark::Idle(64)),
     ]
 }
 
@@ -124,6 +130,7 @@ fn done<R: Threads + Sync>(
         Benchmark::Net(ring) => nets::went_round(alloc, amount, ring),
         Benchmark::Pipeline => pipeline::went_through(alloc, amount),
         Benchmark::Crew(crew) => crew::worked(rt, alloc, amount, crew),
+        Benchmark::Idle(nodes) => idle::waited(alloc, amount, nodes),
     }
 }
 
