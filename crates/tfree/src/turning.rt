@@ -12,7 +12,7 @@ use crate::log::TurnFault;
 use crate::resting::are_idle;
 use crate::worker::Worker;
 use std::alloc::{AllocError, Global};
-use std::thread::{Threads, join_mut};
+use std::thread::{Threads, join_mut, yield_now};
 
 /// How many turns the first stage has.
 const FIRST_STAGE: u32 = 64;
@@ -86,12 +86,16 @@ impl Pace {
 pub(crate) type Ended = Result<(), TurnFault>;
 
 impl Worker {
-    /// So many turns, one after another, or until one stops for a fault.
+    /// So many turns, one after another, or until one stops for a fault. After one that found nothing to do it lets
+    /// other threads go first.
     pub(crate) fn turns(&mut self, turns: u32, slice: u32) -> Ended
         ensures { IsTurned turns slice self.old result self.new }
     {
         for _done in 0..turns {
-            self.turn(slice)?;
+            let turned = self.turn(slice)?;
+            if turned.events == 0 && turns > 1 {
+                yield_now();
+            }
         }
         Ok(())
     }

@@ -5,17 +5,17 @@ use Rattle.tfree.proofs.worker.Worker.turns.Goals as goal
 
 pub loop-done-preserved : goal.loop-done-preserved
 loop-done-preserved c = record {
-  same = c.in_ok-turn.ensures.same ∙ c.loop-done.invariant.same;
+  same = c.in_ok-turned.ensures.same ∙ c.loop-done.invariant.same;
   done = turn_more c.args.self.now.share c.loop-done.self.share c.args.slice c.loop-done._done c.args.self.now.events
       c.loop-done.self.events c.turn.new.self.events c.loop-done.invariant.same c.loop-done.invariant.done
-      c.in_ok-turn.ensures.turn;
+      c.in_ok-turned.ensures.turn;
 }
 
-pub returns-in_err-turn : goal.returns-in_err-turn
-returns-in_err-turn c = record {
-  same = c.in_err-turn.ensures.same ∙ c.loop-done.invariant.same;
+pub returns-in_err-turned : goal.returns-in_err-turned
+returns-in_err-turned c = record {
+  same = c.in_err-turned.ensures.same ∙ c.loop-done.invariant.same;
   did = turn_stops c.args.self.now.share c.loop-done.self.share c.args.turns c.args.slice c.loop-done._done
       c.args.self.now.events c.loop-done.self.events c.turn.new.self.events _ (not_ok _ (c.from_residual.ensures.0))
-      c.loop-done-test.true c.loop-done.invariant.same c.loop-done.invariant.done c.in_err-turn.ensures.turn;
-  full = λ e. c.in_err-turn.ensures.full (search rules);
+      c.loop-done-test.true c.loop-done.invariant.same c.loop-done.invariant.done c.in_err-turned.ensures.turn;
+  full = λ e. c.in_err-turned.ensures.full (search rules);
 }
