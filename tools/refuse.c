@@ -6,7 +6,7 @@
    REFUSE_WRITE=N   the Nth write fails, but for those to standard error
    REFUSE_SYNC=1    to sync a file fails
    REFUSE_SHORT=N   no read or write does more than N bytes
-   REFUSE_TOLD=FILE this file is made when something was refused */
+   REFUSE_TOLD=FILE this file is made when something was refused, or shortened */
 #define _GNU_SOURCE
 #include <errno.h>
 #include <dlfcn.h>
@@ -40,13 +40,18 @@ static long number(const char *name) {
     return text ? atol(text) : 0;
 }
 
+/* Makes the file that says that something was refused. */
+static void tell(void) {
+    const char *told = getenv("REFUSE_TOLD");
+    if (told)
+        syscall(SYS_close, syscall(SYS_open, told, O_CREAT | O_WRONLY, 0600));
+}
+
 /* Whether this request is the one to refuse; it then fails by this error. */
 static int is_refused(struct kind *kind, int error) {
     if (atomic_fetch_add(&kind->came, 1) + 1 != number(kind->name))
         return 0;
-    const char *told = getenv("REFUSE_TOLD");
-    if (told)
-        syscall(SYS_close, syscall(SYS_open, told, O_CREAT | O_WRONLY, 0600));
+    tell();
     errno = error;
     return 1;
 }
@@ -92,7 +97,10 @@ int pthread_create(pthread_t *thread, const pthread_attr_t *how, void *(*start)(
 
 static size_t shortened(size_t count) {
     size_t most = (size_t)number("REFUSE_SHORT");
-    return most && count > most ? most : count;
+    if (!most || count <= most)
+        return count;
+    tell();
+    return most;
 }
 
 ssize_t read(int file, void *to, size_t count) {
@@ -111,6 +119,7 @@ ssize_t __write(int file, const void *from, size_t count) {
 
 int fdatasync(int file) {
     if (number("REFUSE_SYNC")) {
+        tell();
         errno = EIO;
         return -1;
     }

@@ -1,0 +1,126 @@
+//! Rounds that are refused memory, and go on.
+
+use crate::alike::are_alike;
+use crate::story::{Call, Fault, Story, require};
+use std::alloc::Global;
+use std::thread::Threads;
+use tnet::Net;
+use tplan::{Event, Note};
+use trounds::{Ending, Gate, NetFault, Report, run_rounds};
+
+/// More rounds than any of the nets makes.
+const ROUNDS: u32 = 100_000;
+
+/// How many Runs a node makes in a round at most.
+const SLICE: u32 = 64;
+
+/// A gate that is always open.
+#[derive(Drop)]
+struct Open;
+
+impl Gate for Open {
+    ghost has_entered = { λ _ _ _. Unit {0} };
+
+    fn enter(&self, _worker: usize, _round: u32) {}
+}
+
+/// So many rounds of a net.
+fn rounds<R: Threads + Sync>(
+    rt: &R,
+    alloc: Global,
+    net: Net,
+    rounds: u32,
+    workers: usize,
+) -> Result<Report, (NetFault, Net)> {
+    run_rounds(rt, alloc, net, rounds, SLICE, &[], workers, &Open)
+}
+
+/// Rounds of a net that go on from rounds before.
+fn more<R: Threads + Sync>(
+    rt: &R,
+    alloc: Global,
+    net: Net,
+    count: u32,
+    workers: usize,
+) -> Result<Report, Fault> {
+    match rounds(rt, alloc, net, count, workers) {
+        Ok(report) => Ok(report),
+        Err(_refused) => Err(Fault::Wrong("rounds are refused a second time")),
+    }
+}
+
+/// What rounds did, one run of them behind another.
+#[derive(Drop)]
+struct Joined {
+    rounds: u32,
+    events: Vec<Event>,
+    notes: Vec<Note>,
+}
+
+impl Joined {
+    fn new(alloc: Global) -> Joined {
+        Joined {
+            rounds: 0,
+            events: Vec::new(alloc),
+            notes: Vec::new(alloc),
+        }
+    }
+
+    /// Adds what a report tells, and answers its net.
+    fn add(&mut self, report: Report) -> Result<Net, Fault> {
+        self.rounds = self.rounds.saturating_add(report.rounds);
+        self.events.extend_from_slice(report.events.as_slice())?;
+        for note in report.notes.into_vec() {
+            self.notes.push(note)?;
+        }
+        Ok(report.net)
+    }
+}
+
+/// The rounds, from the opening, behind which a net is like the one that came back.
+fn rounds_until<R: Threads + Sync>(
+    rt: &R,
+    alloc: Global,
+    mut net: Net,
+    stopped: &Net,
+) -> Result<Joined, Fault> {
+    let mut first = Joined::new(alloc);
+    for _round in 0..ROUNDS {
+        if are_alike(&net, stopped) {
+            return Ok(first);
+        }
+        net = first.add(more(rt, alloc, net, 1, 1)?)?;
+    }
+    Err(Fault::Wrong("the net that came back is not behind whole rounds"))
+}
+
+/// A net runs in rounds until it is quiet. Where that is refused, the net that came back is as after whole rounds, and
+/// goes on from there.
+pub fn run<R: Threads + Sync>(
+    rt: &R,
+    alloc: Global,
+    net: Net,
+    workers: usize,
+    story: &mut Story,
+) -> Result<(), Fault> {
+    let Ok(opened) = net.try_copy(alloc) else {
+        return Err(Fault::Memory);
+    };
+    let (mut joined, report) = match rounds(rt, alloc, net, ROUNDS, workers) {
+        Ok(report) => (Joined::new(alloc), report),
+        Err((fault, stopped)) => {
+            require(fault == NetFault::OutOfMemory, "rounds have another fault")?;
+            story.refuse(Call::Rounds);
+            let first = rounds_until(rt, alloc, opened, &stopped)?;
+            (first, more(rt, alloc, stopped, ROUNDS, workers)?)
+        }
+    };
+    require(report.end == Ending::Quiet, "rounds do not end quiet")?;
+    let net = joined.add(report)?;
+    story.tell(
+        alloc,
+        joined.events.as_slice(),
+        joined.notes.as_slice(),
+        &net,
+    )
+}
