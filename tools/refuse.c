@@ -4,6 +4,8 @@
    REFUSE_THREAD=N  the Nth thread does not start
    REFUSE_READ=N    the Nth read fails
    REFUSE_WRITE=N   the Nth write fails, but for those to standard error
+   REFUSE_OPEN=N    the Nth file is not opened, for want of memory
+   REFUSE_LOOK=N    the Nth look at what the system knows of a file fails, for want of memory
    REFUSE_SYNC=1    to sync a file fails
    REFUSE_SHORT=N   no read or write does more than N bytes
    REFUSE_TOLD=FILE this file is made when something was refused, or shortened */
@@ -12,6 +14,7 @@
 #include <dlfcn.h>
 #include <fcntl.h>
 #include <pthread.h>
+#include <stdarg.h>
 #include <stdatomic.h>
 #include <stddef.h>
 #include <stdlib.h>
@@ -34,6 +37,8 @@ static struct kind memory = {"REFUSE_MEMORY", 0};
 static struct kind threads = {"REFUSE_THREAD", 0};
 static struct kind reads = {"REFUSE_READ", 0};
 static struct kind writes = {"REFUSE_WRITE", 0};
+static struct kind opens = {"REFUSE_OPEN", 0};
+static struct kind looks = {"REFUSE_LOOK", 0};
 
 static long number(const char *name) {
     const char *text = getenv(name);
@@ -115,6 +120,22 @@ ssize_t write(int file, const void *from, size_t count) {
 
 ssize_t __write(int file, const void *from, size_t count) {
     return write(file, from, count);
+}
+
+int open(const char *path, int flags, ...) {
+    va_list rest;
+    va_start(rest, flags);
+    mode_t mode = flags & O_CREAT ? va_arg(rest, mode_t) : 0;
+    va_end(rest);
+    return is_refused(&opens, ENOMEM) ? -1 : (int)syscall(SYS_open, path, flags, mode);
+}
+
+int open64(const char *path, int flags, ...) __attribute__((alias("open")));
+
+struct statx;
+
+int statx(int folder, const char *path, int flags, unsigned mask, struct statx *found) {
+    return is_refused(&looks, ENOMEM) ? -1 : (int)syscall(SYS_statx, folder, path, flags, mask, found);
 }
 
 int fdatasync(int file) {
