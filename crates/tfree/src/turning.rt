@@ -20,6 +20,10 @@ const FIRST_STAGE: u32 = 64;
 /// How many turns a stage has at most.
 const LONGEST_STAGE: u32 = 4_096;
 
+/// A worker is busy in a turn in which it does more events than these for each of its nodes: its nodes compute, and
+/// do not only pass on what comes.
+const EVENTS_OF_A_NODE: usize = 16;
+
 /// How the next turns are made: in a stage, each worker on a thread of its own, or one of each worker by the calling
 /// thread.
 #[derive(Clone, Copy)]
@@ -100,8 +104,7 @@ impl Worker {
         Ok(())
     }
 
-    /// So many turns more, unless it has stopped for a fault. Whether it was busy: it did as many events as a node may
-    /// do runs in a turn.
+    /// So many turns more, unless it has stopped for a fault. Whether it was busy, where that was one turn.
     fn go_on(&mut self, ended: &mut Ended, turns: u32, slice: u32) -> bool
         ensures { GoesOn turns slice self.old ended.old ended.new self.new }
     {
@@ -109,7 +112,7 @@ impl Worker {
         if ended.is_ok() {
             *ended = self.turns(turns, slice);
         }
-        self.events().saturating_sub(before) >= slice as usize
+        self.events().saturating_sub(before) > self.nodes().saturating_mul(EVENTS_OF_A_NODE)
     }
 }
 
