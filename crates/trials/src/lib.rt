@@ -13,8 +13,6 @@ mod plans;
 #[cfg(test)]
 mod readers;
 #[cfg(test)]
-mod refused;
-#[cfg(test)]
 mod rounds;
 #[cfg(test)]
 mod scripts;
