@@ -7,6 +7,8 @@ use Rattle.tlink.specs.Node.{NodeState}
 use Rattle.tlink.specs.Events.{happens, is_node_enabled}
 use Rattle.tplan.specs.declared.plan.End.{End}
 use Rattle.tfree.specs.declared.stamp.Sent.{Sent}
+use Rattle.tfree.specs.declared.log.TurnFault.{TurnFault}
+use Rattle.tfree.specs.declared.log.TurnFault.TheVariants.{ClockFull}
 use Rattle.tfree.specs.Lists.{event_taking}
 use Rattle.tfree.specs.Views.{InView, OutView, got_of, put_of, with_put, with_got}
 use Rattle.tnet.specs.FarEnds.{far_in_row}
@@ -40,18 +42,16 @@ NoneDue l own node x outs =
     → got_of x ++ p ∷ rest ≡ o.put
     → is_node_enabled (event_taking l p.packet) node ≡ false
 
--- the event of the packet that is seen in front is enabled, and its stamp would pass 2^64 - 1
-pub record FullAtFront (l : ℕ) (node : NodeState) (clock : ℕ) (seen : List Sent) : Type 0 where
+-- the packet that is seen in front is left: its event is enabled; with the other end at hand, it is the first of what
+-- was put and not yet taken; where the clock is full, its stamp would pass 2^64 - 1
+pub record LeftAtFront (l : ℕ) (own : Option ℕ) (node : NodeState) (clock : ℕ) (x : Option InView) (seen : List Sent)
+    (outs : List (Option OutView)) (fault : TurnFault) : Type 0 where
   pub packet : Sent
   pub front : IsFront packet seen
   pub enabled : is_node_enabled (event_taking l packet.packet) node ≡ true
-  pub full : IsFull clock packet.stamp
-
--- the event of the packet that is seen in front is enabled
-pub record EnabledAtFront (l : ℕ) (node : NodeState) (seen : List Sent) : Type 0 where
-  pub packet : Sent
-  pub front : IsFront packet seen
-  pub enabled : is_node_enabled (event_taking l packet.packet) node ≡ true
+  pub first : (q : ℕ) (o : OutView) → own ≡ Some q → slice_get outs q ≡ Some (Some o) → (rest : List Sent)
+      × (got_of x ++ packet ∷ rest ≡ o.put)
+  pub full : fault ≡ ClockFull → IsFull clock packet.stamp
 
 -- whether a ring has room: with the other end at hand, whether fewer than two lie there; else it has where fewer than
 -- two were ever put there; where there is no ring, there is room
@@ -67,3 +67,10 @@ pub record Emitted (n : ℕ) (far : List (Option End)) (e : NodeEvent) (own : Op
   pub acted : Acted (listed (note_of n (far_in_row far) e node)) n e 0 node node' v v'
   pub put : x' ≡ option_map (with_put (sent_as (packet_of (happens e node)) v'.clock)) x
   pub room : HasRoom own x ins true
+
+-- an event that emits is left: it is enabled, and there is room; where the clock is full, its stamp would pass 2^64 - 1
+pub record LeftWithRoom (e : NodeEvent) (own : Option ℕ) (node : NodeState) (clock : ℕ) (x : Option OutView)
+    (ins : List (Option InView)) (fault : TurnFault) : Type 0 where
+  pub enabled : is_node_enabled e node ≡ true
+  pub room : HasRoom own x ins true
+  pub full : fault ≡ ClockFull → IsFull clock 0

@@ -13,6 +13,8 @@ use Rattle.tplan.specs.declared.plan.End.{End}
 use Rattle.tnet.specs.Wires.{end_at, far_end}
 use Rattle.tfree.specs.declared.stamp.Sent.{Sent}
 use Rattle.tfree.specs.declared.stamp.OwnEvent.{OwnEvent}
+use Rattle.tfree.specs.declared.log.TurnFault.{TurnFault}
+use Rattle.tfree.specs.declared.log.TurnFault.TheVariants.{ClockFull}
 use Rattle.tfree.specs.Lists.{takes}
 use Rattle.tfree.specs.Lists.{event_taking}
 use Rattle.tfree.specs.Views.{Share, View}
@@ -76,6 +78,10 @@ module _ (s : Share) where
   -- an event that emits is due
   abbrev pub IsEmissionDue : (n l : ℕ) → NodeEvent → List OwnEvent → Type 0
   IsEmissionDue n l e es = IsEnabled n e es × IsRoomCertain n l es
+
+-- a step as a phase, which stops nowhere within it
+abbrev pub once : Step → Phase
+once step es whole es' = step es es'
 
 -- so many steps
 abbrev pub Times : ℕ → Step → Step
@@ -159,15 +165,27 @@ MayTake v i (Ack l) stamp =
     IsFront (record { packet = packet.Ack; stamp = stamp }) (slice_index_or v.seen (link_place i l) [])
 MayTake v i _ stamp = stamp ≡ 0
 
--- an event of one of the worker's nodes is enabled and was not done; the packet that it takes is still seen in front of
--- its ring
-pub record IsEventLeft (v : View) : Type 0 where
+-- one event more on the list of a worker
+abbrev pub with_event : OwnEvent → View → View
+with_event d v = record v { events = v.events ++ d ∷ [] }
+
+-- why a phase stopped, of which the list is a beginning: an event of one of the worker's nodes comes next in it. That
+-- event is enabled and was not done; the packet that it takes is still seen in front of its ring; where the clock is
+-- full, the event has no stamp
+pub record IsNext (phase : Share → Phase) (v w : View) (fault : TurnFault) : Type 0 where
   pub i : ℕ
   pub event : NodeEvent
   pub taken : ℕ
-  pub own : i < v.share.owned
-  pub enabled : IsEnabled v.share (v.share.first + i) event v.events
-  pub takes : MayTake v i event taken
+  pub own : i < w.share.owned
+  pub enabled : IsEnabled w.share (w.share.first + i) event w.events
+  pub takes : MayTake w i event taken
+  pub next : Phased phase v false (with_event (record {
+    stamp = max (last_stamp 0 w.events) taken + 1;
+    node = w.share.first + i;
+    event = event;
+    taken = taken;
+  }) w)
+  pub full : fault ≡ ClockFull → IsFull (last_stamp 0 w.events) taken
 
 -- the clock of a worker is full: an event of one of its nodes is enabled, and has no stamp
 pub record IsClockFull (v : View) : Type 0 where

@@ -2,7 +2,7 @@
 //! seen.
 
 ghost use Rattle.std.specs.Prelude.{◌≡◌, ◌+◌, ◌<◌, [], ◌∷◌, ◌++◌, ℕ, length, map, option_map, nat_lt, slice_get};
-ghost use Rattle.std.specs.Prelude.{IsTrue, IfSome, IsSome, Ok, Err, true, false, Option, Some, None, MatchResult};
+ghost use Rattle.std.specs.Prelude.{IsTrue, IfSome, IfErr, IsSome, Ok, Err, true, false, Option, Some, None, MatchResult};
 ghost use Rattle.std.specs.Prelude.{List};
 ghost use Rattle.rtrb.specs.Ring.{known_items, known_free};
 ghost use Rattle.tlink.specs.Events.{happens, is_node_enabled};
@@ -13,7 +13,7 @@ ghost use Rattle.tfree.specs.Ends.{in_view, out_view, ins_view, outs_view, seen_
 ghost use Rattle.tfree.specs.Views.{InView, OutView, got_of, put_of, with_put};
 ghost use Rattle.tfree.specs.Logs.{log_view, Whether, sent_as};
 ghost use Rattle.tfree.specs.Steps.{SameRing, SameRingBack, Received, NoneDue, Emitted as Put, HasRoom};
-ghost use Rattle.tfree.specs.Steps.{FullAtFront, EnabledAtFront};
+ghost use Rattle.tfree.specs.Steps.{LeftAtFront, LeftWithRoom};
 
 use crate::ends::{InEnd, OutEnd};
 use crate::log::{Log, TurnFault, act, receive};
@@ -60,8 +60,8 @@ pub fn receive_at(
         × (option_map in_view slot.new ≡ option_map in_view slot.old)) }
     ensures rests { result ≡ Ok false
         → NoneDue link own node.old (option_map in_view slot.old) (outs_view outs.old.items) }
-    ensures full { result ≡ Err ClockFull → FullAtFront link node.old log.old.clock (seen_of slot.new) }
-    ensures wanted { result ≡ Err OutOfMemory → EnabledAtFront link node.old (seen_of slot.new) }
+    ensures left { IfErr result (LeftAtFront link own node.old log.old.clock (option_map in_view slot.old)
+        (seen_of slot.new) (outs_view outs.old.items)) }
 {
     match slot {
         None => Ok(false),
@@ -139,8 +139,8 @@ pub fn emit_at(
         × (option_map out_view slot.new ≡ option_map out_view slot.old)) }
     ensures rests { result ≡ Ok false → is_node_enabled event node.old ≡ true
         → HasRoom own (option_map out_view slot.old) (ins_view ins.old.items) false }
-    ensures full { result ≡ Err ClockFull → (is_node_enabled event node.old ≡ true) × IsFull log.old.clock 0 }
-    ensures wanted { result ≡ Err OutOfMemory → is_node_enabled event node.old ≡ true }
+    ensures left { IfErr result (LeftWithRoom event own node.old log.old.clock (option_map out_view slot.old)
+        (ins_view ins.old.items)) }
 {
     if !node.enabled(event) {
         return Ok(false);

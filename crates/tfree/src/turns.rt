@@ -1,10 +1,9 @@
 //! A turn of a worker, phase by phase.
 
-ghost use Rattle.std.specs.Prelude.{◌≡◌, ◌+◌, ◌<◌, ℕ, length, is_ok, IfOk, Err};
+ghost use Rattle.std.specs.Prelude.{◌≡◌, ◌+◌, ◌<◌, ℕ, length, is_ok, IfOk, IfErr};
 ghost use Rattle.tfree.specs.Logs.{IsActOf};
 ghost use Rattle.tfree.specs.Turns.{Phased, packets_of, emission_of, runs_of, all_packets, all_takes, all_sends};
-ghost use Rattle.tfree.specs.Turns.{NodeTurn, IsTurn, Extends, AreLeft, IsClockFull, IsEventLeft};
-ghost use Rattle.tfree.specs.declared.log.TurnFault.TheVariants.{OutOfMemory, ClockFull};
+ghost use Rattle.tfree.specs.Turns.{NodeTurn, IsTurn, Extends, AreLeft, IsNext};
 
 use crate::log::TurnFault;
 use crate::worker::Worker;
@@ -22,8 +21,7 @@ impl Worker {
         requires i { i < self.old.share.owned }
         requires link { link < 4 }
         ensures phase { Phased (λ s. packets_of s (s.first + i) link) self.old (is_ok result) self.new }
-        ensures full { result ≡ Err ClockFull → IsClockFull self.new }
-        ensures wanted { result ≡ Err OutOfMemory → IsEventLeft self.new }
+        ensures next { IfErr result (IsNext (λ s. packets_of s (s.first + i) link) self.old self.new) }
     {
         if !self.has_ring(i, link) {
             return Ok(());
@@ -42,8 +40,7 @@ impl Worker {
         requires link { link < 4 }
         requires event { IsActOf link event }
         ensures phase { Phased (λ s. emission_of s (s.first + i) link event) self.old (is_ok result) self.new }
-        ensures full { result ≡ Err ClockFull → IsClockFull self.new }
-        ensures wanted { result ≡ Err OutOfMemory → IsEventLeft self.new }
+        ensures next { IfErr result (IsNext (λ s. emission_of s (s.first + i) link event) self.old self.new) }
     {
         if self.enabled(i, event) {
             self.emit(i, link, event)?;
@@ -55,8 +52,7 @@ impl Worker {
     fn all_packets(&mut self, i: usize) -> Result<(), TurnFault>
         requires { i < self.old.share.owned }
         ensures phase { Phased (λ s. all_packets s (s.first + i)) self.old (is_ok result) self.new }
-        ensures full { result ≡ Err ClockFull → IsClockFull self.new }
-        ensures wanted { result ≡ Err OutOfMemory → IsEventLeft self.new }
+        ensures next { IfErr result (IsNext (λ s. all_packets s (s.first + i)) self.old self.new) }
     {
         self.packets(i, 0)?;
         self.packets(i, 1)?;
@@ -68,8 +64,7 @@ impl Worker {
     fn all_takes(&mut self, i: usize) -> Result<(), TurnFault>
         requires { i < self.old.share.owned }
         ensures phase { Phased (λ s. all_takes s (s.first + i)) self.old (is_ok result) self.new }
-        ensures full { result ≡ Err ClockFull → IsClockFull self.new }
-        ensures wanted { result ≡ Err OutOfMemory → IsEventLeft self.new }
+        ensures next { IfErr result (IsNext (λ s. all_takes s (s.first + i)) self.old self.new) }
     {
         self.emission(i, 0, NodeEvent::Take(0))?;
         self.emission(i, 1, NodeEvent::Take(1))?;
@@ -81,8 +76,7 @@ impl Worker {
     fn all_sends(&mut self, i: usize) -> Result<(), TurnFault>
         requires { i < self.old.share.owned }
         ensures phase { Phased (λ s. all_sends s (s.first + i)) self.old (is_ok result) self.new }
-        ensures full { result ≡ Err ClockFull → IsClockFull self.new }
-        ensures wanted { result ≡ Err OutOfMemory → IsEventLeft self.new }
+        ensures next { IfErr result (IsNext (λ s. all_sends s (s.first + i)) self.old self.new) }
     {
         self.emission(i, 0, NodeEvent::Send(0))?;
         self.emission(i, 1, NodeEvent::Send(1))?;
@@ -94,8 +88,7 @@ impl Worker {
     fn runs(&mut self, i: usize, slice: u32) -> Result<(), TurnFault>
         requires { i < self.old.share.owned }
         ensures phase { Phased (λ s. runs_of s slice (s.first + i)) self.old (is_ok result) self.new }
-        ensures full { result ≡ Err ClockFull → IsClockFull self.new }
-        ensures wanted { result ≡ Err OutOfMemory → IsEventLeft self.new }
+        ensures next { IfErr result (IsNext (λ s. runs_of s slice (s.first + i)) self.old self.new) }
     {
         let mut left = slice;
         while left > 0 {
@@ -112,8 +105,7 @@ impl Worker {
     fn node_turn(&mut self, i: usize, slice: u32) -> Result<(), TurnFault>
         requires { i < self.old.share.owned }
         ensures phase { Phased (λ s. NodeTurn s slice (s.first + i)) self.old (is_ok result) self.new }
-        ensures full { result ≡ Err ClockFull → IsClockFull self.new }
-        ensures wanted { result ≡ Err OutOfMemory → IsEventLeft self.new }
+        ensures next { IfErr result (IsNext (λ s. NodeTurn s slice (s.first + i)) self.old self.new) }
     {
         self.all_packets(i)?;
         self.all_takes(i)?;
@@ -124,8 +116,7 @@ impl Worker {
     /// All nodes in a turn.
     fn nodes_turn(&mut self, slice: u32) -> Result<(), TurnFault>
         ensures phase { Phased (λ s. IsTurn s slice) self.old (is_ok result) self.new }
-        ensures full { result ≡ Err ClockFull → IsClockFull self.new }
-        ensures wanted { result ≡ Err OutOfMemory → IsEventLeft self.new }
+        ensures next { IfErr result (IsNext (λ s. IsTurn s slice) self.old self.new) }
     {
         for i in 0..self.nodes() {
             self.node_turn(i, slice)?;
@@ -144,8 +135,7 @@ impl Worker {
         ensures same { self.new.share ≡ self.old.share }
         ensures turn { IsTurn self.old.share slice self.old.events (is_ok result) self.new.events }
         ensures nodes { AreLeft self.new }
-        ensures full { result ≡ Err ClockFull → IsClockFull self.new }
-        ensures wanted { result ≡ Err OutOfMemory → IsEventLeft self.new }
+        ensures next { IfErr result (IsNext (λ s. IsTurn s slice) self.old self.new) }
         ensures extends { Extends self.old.events self.new.events }
         ensures events { IfOk result (λ t. length self.new.events ≡ length self.old.events + t.events) }
     {

@@ -1,8 +1,9 @@
-use Rattle.std.proofs.Common.{◌≡◌, ℕ, ◌+◌, ◌-◌, ◌<◌, ◌∙◌, sym, ap, subst, refl, arith, inl, inr, false}
+use Rattle.std.proofs.Common.{◌≡◌, ℕ, ◌+◌, ◌-◌, ◌<◌, ◌∙◌, sym, ap, subst, refl, arith, inl, inr, false, rules}
 use Rattle.std.specs.Prelude.{Ok, is_ok}
 use Rattle.tlink.specs.declared.event.NodeEvent.TheVariants.{Run}
 use Rattle.tfree.specs.Turns.{Times, Does, IsEnabled}
 use Rattle.tfree.specs.Views.{Share}
+use Rattle.tfree.proofs.Nexts.{at_some_fault, fault_of, next_step}
 use Rattle.tfree.proofs.Phases.{not_ok, times_add}
 use Rattle.tfree.proofs.worker.Worker.runs.Goals as goal
 
@@ -88,3 +89,12 @@ returns-clause-phase c =
         inl (omega (arith, c.loop-left-test.false, l.invariant.within)),
       ),
     )
+
+pub returns-in_err-done-clause-next : goal.returns-in_err-done-clause-next
+returns-in_err-done-clause-next c =
+    let l = c.loop-left in
+    at_some_fault c.from_residual.result _
+    (λ f e. next_step (λ (s : Share). Does s (s.first + c.args.i) Run)
+    (λ (s : Share). IsEnabled s (s.first + c.args.i) Run) c.args.slice (c.args.slice - l.left) c.args.self.now l.self
+    c.run.new.self f (omega (arith, c.loop-left-test.true, l.invariant.within)) l.invariant.same l.invariant.done
+    (fault_of c.run.result f _ (search rules) c.run.ensures.next))
