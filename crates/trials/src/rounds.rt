@@ -1,12 +1,12 @@
-//! Rounds of a net: what is refused, and how they go on where memory was refused.
+//! Rounds of a net: what they do, and for what they are refused.
 
-use crate::plans::{event, transfer};
+use crate::plans::transfer;
 use std::alloc::Global;
 use std::process::Abort;
 use std::test::Fail;
 use std::thread::Threads;
 use tnet::Net;
-use tplan::{Act, End, Event, Hold, Note, PacketKind, Plan};
+use tplan::{End, Hold, Note, PacketKind, Plan};
 use tproc::Processor;
 use trounds::{Ending, Gate, NetFault, Report, run_rounds};
 use tword::Word;
@@ -120,155 +120,16 @@ fn bad_workers_and_holds(rt: HostRuntime) -> Result<(), Fail> {
     Ok(())
 }
 
-/// The net of the pair, where memory is had for it.
-fn opened(alloc: Global) -> Option<Net> {
-    let plan = transfer(alloc).ok()?;
-    Net::build(alloc, plan).ok()
-}
-
-/// All acts of a node of the pair.
-const ACTS: [Act; 9] = [
-    Act::Run,
-    Act::Send(1),
-    Act::Data(1),
-    Act::Take(1),
-    Act::Ack(1),
-    Act::Send(2),
-    Act::Data(2),
-    Act::Take(2),
-    Act::Ack(2),
-];
-
-/// Whether two processors of the pair look alike: memory, what runs and what is pending.
-fn is_same_processor(one: &Processor, other: &Processor) -> bool {
-    one.bytes() == other.bytes()
-        && one.current() == other.current()
-        && one.iptr() == other.iptr()
-        && one.pending_out(1) == other.pending_out(1)
-        && one.pending_in(2) == other.pending_in(2)
-}
-
-/// Whether two nets of the pair look alike: their processors, and which events are enabled.
-fn is_same_net(one: &Net, other: &Net) -> bool {
-    for (number, node) in [(0, 0), (1, 1)] {
-        for act in ACTS {
-            if one.enabled(event(number, act)) != other.enabled(event(number, act)) {
-                return false;
-            }
-        }
-        let same = match (processor_of(one, node), processor_of(other, node)) {
-            (Some(mine), Some(yours)) => is_same_processor(mine, yours),
-            _ => false,
-        };
-        if !same {
-            return false;
-        }
-    }
-    true
-}
-
-/// A hold where so many rounds are done.
-fn later(hold: Hold, rounds: u32) -> Hold {
-    Hold {
-        from: hold.from.saturating_sub(rounds),
-        until: hold.until.saturating_sub(rounds),
-        ..hold
-    }
-}
-
-/// Rounds of a net of the pair with one hold, by one worker.
-fn rounds_of<R: Threads + Sync>(
-    rt: &R,
-    alloc: Global,
-    net: Net,
-    rounds: u32,
-    hold: Hold,
-) -> Result<Report, (NetFault, Net)> {
-    run_rounds(rt, alloc, net, rounds, 64, &[hold], 1, &Open)
-}
-
-/// So many rounds of the pair, whose bytes are held, from its opening.
-fn first_rounds<R: Threads + Sync>(rt: &R, alloc: Global, rounds: u32) -> Option<Report> {
-    rounds_of(rt, alloc, opened(alloc)?, rounds, HELD).ok()
-}
-
-/// How many rounds are asked for.
-const ROUNDS: u32 = 20;
-
-/// The report of the rounds after which a net looks so, if it is after whole rounds.
-fn rounds_before<R: Threads + Sync>(rt: &R, alloc: Global, net: &Net) -> Option<Report> {
-    for rounds in 0..=ROUNDS {
-        let report = first_rounds(rt, alloc, rounds)?;
-        if is_same_net(&report.net, net) {
-            return Some(report);
-        }
-    }
-    None
-}
-
-/// Whether events are those of two reports, one behind the other.
-fn are_joined(first: &[Event], rest: &[Event], whole: &[Event]) -> bool {
-    whole.len().checked_sub(first.len()) == Some(rest.len())
-        && whole.starts_with(first)
-        && whole.ends_with(rest)
-}
-
-/// Some rounds, and what was left of them, are all of them in one go.
-fn assert_joined(rt: &impl Abort, first: &Report, rest: &Report, whole: &Report) {
-    assert!(rt; rest.end == whole.end);
-    assert_eq!(rt; whole.rounds.checked_sub(first.rounds), Some(rest.rounds));
-    let joined = are_joined(
-        first.events.as_slice(),
-        rest.events.as_slice(),
-        whole.events.as_slice(),
-    );
-    assert!(rt; joined);
-    let told = whole.notes.as_slice().len();
-    assert_eq!(rt;
-        told.checked_sub(first.notes.as_slice().len()),
-        Some(rest.notes.as_slice().len())
-    );
-    assert!(rt; is_same_net(&rest.net, &whole.net));
-}
-
-/// A run that was refused memory goes on from the net that it gave back, and comes to the end of the whole run.
-fn assert_goes_on<R: Threads + Sync + Abort>(rt: &R, alloc: Global, stopped: Net, whole: &Report) {
-    let first = rounds_before(rt, alloc, &stopped).expect(rt, "the net is after whole rounds");
-    let left = ROUNDS.saturating_sub(first.rounds);
-    let rest = rounds_of(rt, alloc, stopped, left, later(HELD, first.rounds))
-        .ok()
-        .expect(rt, "the net that came back goes on");
-    assert_joined(rt, &first, &rest, whole);
-}
-
-/// It holds whichever single request for memory is refused, if one is: the rounds go on.
-#[test]
-fn refused_rounds_go_on(rt: HostRuntime) -> Result<(), Fail> {
-    let alloc = rt.alloc();
-    let Some(net) = opened(alloc) else {
-        return Ok(());
-    };
-    match rounds_of(&rt, alloc, net, ROUNDS, HELD) {
-        Ok(report) => assert_eq!(rt; report.events.as_slice().len(), 32),
-        Err((fault, stopped)) => {
-            assert_eq!(rt; fault, NetFault::OutOfMemory);
-            let whole = first_rounds(&rt, alloc, ROUNDS).expect(&rt, "the whole run");
-            assert_eq!(rt; whole.events.as_slice().len(), 32);
-            assert_goes_on(&rt, alloc, stopped, &whole);
-        }
-    }
-    Ok(())
-}
-
-/// The message comes over, where no request for memory is refused.
+/// The message comes over, in more rounds than it needs.
 #[test]
 fn a_run_of_the_pair(rt: HostRuntime) -> Result<(), Fail> {
     let alloc = rt.alloc();
-    let Some(net) = opened(alloc) else {
-        return Ok(());
-    };
-    if let Ok(report) = run_rounds(&rt, alloc, net, ROUNDS, 64, &[], 1, &Open) {
-        assert_message(&rt, &report);
+    for workers in [1, 2, 64] {
+        let net = Net::build(alloc, transfer(alloc)?)?;
+        match run_rounds(&rt, alloc, net, 20, 64, &[], workers, &Open) {
+            Ok(report) => assert_message(&rt, &report),
+            Err((fault, _net)) => assert_eq!(rt; Some(fault), None),
+        }
     }
     Ok(())
 }
