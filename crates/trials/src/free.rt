@@ -3,7 +3,7 @@
 use crate::plans::{event, lengths, ring, scripted, transfer};
 use crate::rounds::Open;
 use crate::texts::{LENGTHS_LINES, PAIR_LINES, SCRIPTED_LINES, ring_lines, shown};
-use crate::threads::on_threads_until_idle;
+use crate::threads::{on_threads_until_idle, turn_by_halves, turn_together};
 use crate::workers::{
     SLICE, gathered, hold_back, opened, put_back, replay_shown_of, rotate, rotate_until_idle,
     shown_of, turn_at,
@@ -79,6 +79,36 @@ fn a_ring_by_three_threads(rt: HostRuntime) -> Result<(), Fail> {
         "no three threads were started",
     )?;
     assert_ring(&rt, alloc, copy, &gathered(alloc, workers)?)
+}
+
+/// The message came through, by all its events.
+fn assert_message(rt: &impl Abort, alloc: Global, done: &Gathered) -> Result<(), Fail> {
+    assert_eq!(rt; done.history.as_slice().len(), 32);
+    assert!(rt; shown_of(alloc, done)?.as_slice() == PAIR_LINES.as_bytes());
+    assert!(rt; done.net.is_quiet());
+    Ok(())
+}
+
+/// Of more turns than anyone can wait for, those that would add nothing are left out.
+#[test]
+fn turns_are_left_out_at_rest(rt: HostRuntime) -> Result<(), Fail> {
+    let alloc = rt.alloc();
+    for count in [1, 2, 64] {
+        let mut workers = opened(alloc, Net::build(alloc, transfer(alloc)?)?, count)?;
+        turn_together(&rt, alloc, &mut workers, u32::MAX)?;
+        assert_message(&rt, alloc, &gathered(alloc, workers)?)?;
+    }
+    Ok(())
+}
+
+/// Each of two workers in a call of its own, on a thread beside the other's. It is not all of its opening, and makes
+/// all its turns: so it is still there when a packet comes from the other, and the message comes through.
+#[test]
+fn one_of_two_workers_makes_all_its_turns(rt: HostRuntime) -> Result<(), Fail> {
+    let alloc = rt.alloc();
+    let mut workers = opened(alloc, Net::build(alloc, transfer(alloc)?)?, 2)?;
+    turn_by_halves(&rt, alloc, &mut workers, 1_000_000)?;
+    assert_message(&rt, alloc, &gathered(alloc, workers)?)
 }
 
 /// Each worker makes one turn, the last one first: the first byte then lies in the ring that leads to node 1.

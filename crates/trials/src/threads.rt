@@ -1,15 +1,16 @@
-//! Three free workers on three threads.
+//! Free workers on threads: three that make turns, and some in calls of `turn_all`.
 
-ghost use Rattle.std.specs.Prelude.{◌≡◌, ◌∷◌, [], IfSome};
-ghost use Rattle.tfree.specs.Opened.{ComeFromOneOpen};
+ghost use Rattle.std.specs.Prelude.{◌≡◌, ◌∷◌, [], IfSome, map};
+ghost use Rattle.std.specs.Thread.{IsSync};
+ghost use Rattle.tfree.specs.Opened.{share_of, ComeFromOneOpen};
 
 use crate::workers::SLICE;
-use std::alloc::Global;
+use std::alloc::{AllocError, Global};
 use std::snapshot::Snapshot;
 use std::sync::Wait;
-use std::thread::{self, Promise, Threads, yield_now};
-use tfree::Worker;
+use std::thread::{self, Promise, Threads, join_mut, yield_now};
 use tfree::laws::one_opening_stays;
+use tfree::{Worker, turn_all};
 
 /// A worker that came back from a thread, and how many events it did there.
 #[derive(Drop)]
@@ -140,4 +141,92 @@ pub fn on_threads_until_idle<R: Threads + Wait + Sync>(
         }
     }
     None
+}
+
+/// Some workers in one call, which makes so many turns.
+fn turn_list<R: Threads + Sync>(
+    rt: &R,
+    alloc: Global,
+    workers: &mut Vec<Worker>,
+    turns: u32,
+) -> Result<(), AllocError>
+    ensures { map share_of workers.new.items ≡ map share_of workers.old.items }
+{
+    turn_all(rt, alloc, workers.as_mut_slice(), turns, SLICE)
+}
+
+/// All workers in one call, which makes so many turns.
+pub fn turn_together<R: Threads + Sync>(
+    rt: &R,
+    alloc: Global,
+    workers: &mut Vec<Worker>,
+    turns: u32,
+) -> Result<(), AllocError>
+    requires { ComeFromOneOpen workers.old.items }
+    ensures { ComeFromOneOpen workers.new.items }
+{
+    one_opening_stays();
+    turn_list(rt, alloc, workers, turns)
+}
+
+/// Two lists of workers in calls of their own, side by side. Each makes so many turns.
+fn turn_both<R: Threads + Sync>(
+    rt: &R,
+    alloc: Global,
+    front: &mut [Worker],
+    back: &mut [Worker],
+    turns: u32,
+) -> Result<(), AllocError>
+    ensures front { map share_of front.new ≡ map share_of front.old }
+    ensures back { map share_of back.new ≡ map share_of back.old }
+{
+    let mut one = || -> Result<(), AllocError>
+        requires { IsSync R.row }
+        ensures { map share_of front.exit.now ≡ map share_of front.entry.now }
+    { turn_all(rt, alloc, front, turns, SLICE) };
+    let mut other = || -> Result<(), AllocError>
+        requires { IsSync R.row }
+        ensures { map share_of back.exit.now ≡ map share_of back.entry.now }
+    { turn_all(rt, alloc, back, turns, SLICE) };
+    let (first, second) = join_mut(rt, &mut one, &mut other);
+    first.and(second)
+}
+
+/// The two halves of some workers.
+fn turn_halves<R: Threads + Sync>(
+    rt: &R,
+    alloc: Global,
+    workers: &mut [Worker],
+    turns: u32,
+) -> Result<(), AllocError>
+    ensures { map share_of workers.new ≡ map share_of workers.old }
+{
+    let (front, back) = workers.split_at_mut(workers.len() / 2);
+    turn_both(rt, alloc, front, back, turns)
+}
+
+/// The two halves of a list.
+fn turn_list_by_halves<R: Threads + Sync>(
+    rt: &R,
+    alloc: Global,
+    workers: &mut Vec<Worker>,
+    turns: u32,
+) -> Result<(), AllocError>
+    ensures { map share_of workers.new.items ≡ map share_of workers.old.items }
+{
+    turn_halves(rt, alloc, workers.as_mut_slice(), turns)
+}
+
+/// The two halves of all workers in calls of their own, side by side.
+pub fn turn_by_halves<R: Threads + Sync>(
+    rt: &R,
+    alloc: Global,
+    workers: &mut Vec<Worker>,
+    turns: u32,
+) -> Result<(), AllocError>
+    requires { ComeFromOneOpen workers.old.items }
+    ensures { ComeFromOneOpen workers.new.items }
+{
+    one_opening_stays();
+    turn_list_by_halves(rt, alloc, workers, turns)
 }
