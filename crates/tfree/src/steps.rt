@@ -2,13 +2,11 @@
 //! seen.
 
 ghost use Rattle.std.specs.Prelude.{◌≡◌, ◌+◌, ◌<◌, [], ◌∷◌, ◌++◌, ℕ, length, map, option_map, nat_lt, slice_get};
-ghost use Rattle.std.specs.Prelude.{IsTrue, IfSome, IfErr, IsSome, Ok, Err, true, false, Option, Some, None, MatchResult};
+ghost use Rattle.std.specs.Prelude.{IsTrue, IfSome, IfErr, IsSome, Ok, true, false, Option, Some, None, MatchResult};
 ghost use Rattle.std.specs.Prelude.{List};
 ghost use Rattle.rtrb.specs.Ring.{known_items, known_free};
 ghost use Rattle.tlink.specs.Events.{happens, is_node_enabled};
 ghost use Rattle.tfree.specs.Lists.{Sent as Packets};
-ghost use Rattle.tfree.specs.declared.log.TurnFault.TheVariants.{OutOfMemory, ClockFull};
-ghost use Rattle.tfree.specs.Turns.{IsFull};
 ghost use Rattle.tfree.specs.Ends.{in_view, out_view, ins_view, outs_view, seen_of, IsFront, HasFree};
 ghost use Rattle.tfree.specs.Views.{InView, OutView, got_of, put_of, with_put};
 ghost use Rattle.tfree.specs.Logs.{log_view, Whether, sent_as};
