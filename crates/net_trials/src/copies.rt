@@ -5,7 +5,7 @@ use std::alloc::{AllocError, Global};
 use std::process::Abort;
 use std::test::Fail;
 use std::thread::Threads;
-use tlink::{Node, NodeEvent, Sink, Source};
+use tlink::{Messages, Node, NodeEvent, Sink, Source};
 use tnet::Net;
 use tplan::{End, Plan};
 use tproc::Processor;
@@ -73,11 +73,25 @@ fn are_processors_alike(one: Option<&Processor>, other: Option<&Processor>) -> b
     }
 }
 
+/// Whether the same messages are shown.
+fn are_messages_alike(mut mine: Messages<'_>, mut theirs: Messages<'_>) -> bool {
+    let count = mine.count();
+    if count != theirs.count() {
+        return false;
+    }
+    for _message in 0..count {
+        if mine.take_first() != theirs.take_first() {
+            return false;
+        }
+    }
+    true
+}
+
 /// Whether two sources are alike, or there is none.
 fn are_sources_alike(one: Option<&Source>, other: Option<&Source>) -> bool {
     match (one, other) {
         (Some(mine), Some(theirs)) => {
-            mine.done() == theirs.done() && mine.messages() == theirs.messages()
+            mine.done() == theirs.done() && are_messages_alike(mine.messages(), theirs.messages())
         }
         (None, None) => true,
         _ => false,
@@ -86,16 +100,7 @@ fn are_sources_alike(one: Option<&Source>, other: Option<&Source>) -> bool {
 
 /// Whether two sinks have kept the same messages, and the same part of one.
 fn have_kept_the_same(one: &Sink, other: &Sink) -> bool {
-    let (mut mine, mut theirs) = (one.kept(), other.kept());
-    if mine.count() != theirs.count() {
-        return false;
-    }
-    for _message in 0..one.kept().count() {
-        if mine.take_first() != theirs.take_first() {
-            return false;
-        }
-    }
-    one.part() == other.part()
+    are_messages_alike(one.kept(), other.kept()) && one.part() == other.part()
 }
 
 /// Whether two sinks are alike, or there is none.
