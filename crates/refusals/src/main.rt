@@ -1,6 +1,7 @@
-//! Calls that are refused memory: `refusals NET WORKERS` builds one of three nets, and lets it run by so many workers,
-//! in rounds and free. A call that is refused gives back what it took, and is called again. It prints for each call
-//! whether it was refused, and then what the net came to, which is the same whichever request for memory is refused.
+//! Calls that are refused memory: `refusals NET WORKERS` builds one of four nets, and lets it run by so many workers,
+//! in rounds and free, or in rounds alone with packets that are held. A call that is refused gives back what it took,
+//! and is called again. It prints which call was refused, and then what the net came to, which is the same whichever
+//! request for memory is refused.
 //!
 //! At most one request of a run may be refused: `tools/sweep` refuses each in turn, by a library that is preloaded.
 #![tactic(auto)]
@@ -11,13 +12,14 @@ mod rounds;
 mod story;
 mod workers;
 
-use nets::Example;
+use nets::{Example, HELD};
 use std::alloc::Global;
 use std::env;
 use std::io::Write;
 use std::process::ExitCode;
 use std::thread::Threads;
 use story::{Fault, Story};
+use tnet::Net;
 
 /// A net, and how many workers it runs by.
 #[derive(Clone, Copy, Debug)]
@@ -38,16 +40,31 @@ fn wanted(rt: &HostRuntime) -> Option<Asked> {
     Some(Asked { example, workers })
 }
 
-/// What the calls came to, as a page.
+/// A net runs in rounds, and a copy of it by free workers.
+fn run_both<R: Threads + Sync>(
+    rt: &R,
+    alloc: Global,
+    net: Net,
+    workers: usize,
+    story: &mut Story,
+) -> Result<(), Fault> {
+    let Ok(copy) = net.try_copy(alloc) else {
+        return Err(Fault::Memory);
+    };
+    rounds::run(rt, alloc, net, &[], workers, story)?;
+    workers::run(alloc, copy, workers, story)
+}
+
+/// What the calls came to, as a page. Free workers know no holds.
 fn told<R: Threads + Sync>(rt: &R, alloc: Global, asked: Asked) -> Result<Vec<u8>, Fault> {
     let Asked { example, workers } = asked;
     let mut story = Story::new(alloc);
     let net = nets::built(alloc, example, &mut story)?;
-    let Ok(copy) = net.try_copy(alloc) else {
-        return Err(Fault::Memory);
-    };
-    rounds::run(rt, alloc, net, workers, &mut story)?;
-    workers::run(alloc, copy, workers, &mut story)?;
+    if example == Example::Held {
+        rounds::run(rt, alloc, net, &HELD, workers, &mut story)?;
+    } else {
+        run_both(rt, alloc, net, workers, &mut story)?;
+    }
     story.page(alloc)
 }
 
@@ -70,7 +87,7 @@ fn complaint(fault: Fault) -> &'static str {
 fn main(rt: HostRuntime) -> ExitCode {
     let Some(asked) = wanted(&rt) else {
         let _ = rt.stdout().write_all(
-            b"refusals NET WORKERS, where NET is first, message or ring\n",
+            b"refusals NET WORKERS, where NET is first, message, ring or held\n",
         );
         return ExitCode::from(2);
     };

@@ -1,11 +1,14 @@
-//! Rounds that are refused memory, and go on.
+//! Rounds that are refused memory, and go on with the holds that are left.
+
+ghost use Rattle.std.specs.Prelude.{◌≡◌, IfOk};
+ghost use Rattle.trounds.specs.GoingOn.{hold_after, holds_after};
 
 use crate::alike::are_alike;
 use crate::story::{Call, Fault, Story, require};
-use std::alloc::Global;
+use std::alloc::{AllocError, Global};
 use std::thread::Threads;
 use tnet::Net;
-use tplan::{Event, Note};
+use tplan::{Event, Hold, Note};
 use trounds::{Ending, Gate, NetFault, Report, run_rounds};
 
 /// More rounds than any of the nets makes.
@@ -24,26 +27,45 @@ impl Gate for Open {
     fn enter(&self, _worker: usize, _round: u32) {}
 }
 
-/// So many rounds of a net.
-fn rounds<R: Threads + Sync>(
-    rt: &R,
-    alloc: Global,
-    net: Net,
-    rounds: u32,
-    workers: usize,
-) -> Result<Report, (NetFault, Net)> {
-    run_rounds(rt, alloc, net, rounds, SLICE, &[], workers, &Open)
+/// A hold, where the rounds are counted anew behind so many that were done.
+fn later(hold: Hold, done: u32) -> Hold
+    ensures { result ≡ hold_after done hold }
+{
+    Hold {
+        from: hold.from.saturating_sub(done),
+        until: hold.until.saturating_sub(done),
+        ..hold
+    }
 }
 
-/// Rounds of a net that go on from rounds before.
+/// The holds that are left behind so many rounds.
+fn holds_left(alloc: Global, holds: &[Hold], done: u32) -> Result<Vec<Hold>, AllocError>
+    ensures { IfOk result (λ left. left.items ≡ holds_after done holds.now) }
+{
+    holds.iter().map(|hold| later(*hold, done)).collect(alloc)
+}
+
+/// Rounds of a net that go on behind so many that were done.
 fn more<R: Threads + Sync>(
     rt: &R,
     alloc: Global,
     net: Net,
-    count: u32,
+    rounds: u32,
+    holds: &[Hold],
+    done: u32,
     workers: usize,
 ) -> Result<Report, Fault> {
-    match rounds(rt, alloc, net, count, workers) {
+    let left = holds_left(alloc, holds, done)?;
+    match run_rounds(
+        rt,
+        alloc,
+        net,
+        rounds,
+        SLICE,
+        left.as_slice(),
+        workers,
+        &Open,
+    ) {
         Ok(report) => Ok(report),
         Err(_refused) => Err(Fault::Wrong("rounds are refused a second time")),
     }
@@ -82,6 +104,7 @@ fn rounds_until<R: Threads + Sync>(
     rt: &R,
     alloc: Global,
     mut net: Net,
+    holds: &[Hold],
     stopped: &Net,
 ) -> Result<Joined, Fault> {
     let mut first = Joined::new(alloc);
@@ -89,7 +112,8 @@ fn rounds_until<R: Threads + Sync>(
         if are_alike(&net, stopped) {
             return Ok(first);
         }
-        net = first.add(more(rt, alloc, net, 1, 1)?)?;
+        let done = first.rounds;
+        net = first.add(more(rt, alloc, net, 1, holds, done, 1)?)?;
     }
     Err(Fault::Wrong("the net that came back is not behind whole rounds"))
 }
@@ -100,23 +124,31 @@ pub fn run<R: Threads + Sync>(
     rt: &R,
     alloc: Global,
     net: Net,
+    holds: &[Hold],
     workers: usize,
     story: &mut Story,
 ) -> Result<(), Fault> {
     let Ok(opened) = net.try_copy(alloc) else {
         return Err(Fault::Memory);
     };
-    let (mut joined, report) = match rounds(rt, alloc, net, ROUNDS, workers) {
+    let (mut joined, report) = match run_rounds(
+        rt, alloc, net, ROUNDS, SLICE, holds, workers, &Open,
+    ) {
         Ok(report) => (Joined::new(alloc), report),
         Err((fault, stopped)) => {
             require(fault == NetFault::OutOfMemory, "rounds have another fault")?;
-            story.refuse(Call::Rounds);
-            let first = rounds_until(rt, alloc, opened, &stopped)?;
-            (first, more(rt, alloc, stopped, ROUNDS, workers)?)
+            let first = rounds_until(rt, alloc, opened, holds, &stopped)?;
+            let done = first.rounds;
+            story.refuse(Call::Rounds(done));
+            (
+                first,
+                more(rt, alloc, stopped, ROUNDS, holds, done, workers)?,
+            )
         }
     };
     require(report.end == Ending::Quiet, "rounds do not end quiet")?;
     let net = joined.add(report)?;
+    story.count(alloc, "rounds", joined.rounds as u64)?;
     story.tell(
         alloc,
         joined.events.as_slice(),

@@ -46,20 +46,12 @@ pub fn require(holds: bool, what: &'static str) -> Result<(), Fault> {
 #[derive(Clone, Copy, Debug, PartialEq, Eq)]
 pub enum Call {
     Build,
-    Rounds,
+    /// So many rounds were done before.
+    Rounds(u32),
     Open,
     Turn,
     Gather,
 }
-
-/// All of them, with their names.
-const CALLS: [(Call, &str); 5] = [
-    (Call::Build, "build"),
-    (Call::Rounds, "run_rounds"),
-    (Call::Open, "open"),
-    (Call::Turn, "turn"),
-    (Call::Gather, "gather"),
-];
 
 /// Which call was refused, and the text of what they came to.
 #[derive(Drop)]
@@ -82,6 +74,13 @@ impl Story {
         self.refused = Some(call);
     }
 
+    /// Tells how many there were of something.
+    pub fn count(&mut self, alloc: Global, what: &str, number: u64) -> Result<(), Fault> {
+        let line = format!(in alloc; "{what} {number}\n")?;
+        self.text.0.extend_from_slice(line.as_bytes())?;
+        Ok(())
+    }
+
     /// Tells how many events were done, the trace of their notes, and the dumps of the net behind them.
     pub fn tell(
         &mut self,
@@ -90,25 +89,28 @@ impl Story {
         notes: &[Note],
         net: &Net,
     ) -> Result<(), Fault> {
-        let count = format!(in alloc; "events {}\n", events.len())?;
-        self.text.0.extend_from_slice(count.as_bytes())?;
+        self.count(alloc, "events", events.len() as u64)?;
         write_trace(&mut self.text, notes)?;
         write_dump(&mut self.text, net)?;
         Ok(())
     }
 
-    /// A line of each call, and the text.
-    pub fn page(&self, alloc: Global) -> Result<Vec<u8>, Fault> {
-        let mut page = Vec::new(alloc);
-        for (call, name) in CALLS {
-            let answer = if self.refused == Some(call) {
-                "refused"
-            } else {
-                "done"
-            };
-            let line = format!(in alloc; "{name} {answer}\n")?;
-            page.extend_from_slice(line.as_bytes())?;
+    /// Which call was refused, as a line.
+    fn refusal(&self, alloc: Global) -> Result<String, AllocError> {
+        match self.refused {
+            None => format!(in alloc; "refused no call\n"),
+            Some(Call::Build) => format!(in alloc; "refused build\n"),
+            Some(Call::Rounds(done)) => format!(in alloc; "refused run_rounds behind {done}\n"),
+            Some(Call::Open) => format!(in alloc; "refused open\n"),
+            Some(Call::Turn) => format!(in alloc; "refused turn\n"),
+            Some(Call::Gather) => format!(in alloc; "refused gather\n"),
         }
+    }
+
+    /// A line that tells which call was refused, and the text.
+    pub fn page(&self, alloc: Global) -> Result<Vec<u8>, Fault> {
+        let line = self.refusal(alloc)?;
+        let mut page = Vec::from_slice(alloc, line.as_bytes())?;
         page.extend_from_slice(self.text.0.as_slice())?;
         Ok(page)
     }

@@ -27,7 +27,7 @@ impl<'a> Model for Messages<'a> {
 
 impl<'a> Messages<'a> {
     /// The messages of these lengths.
-    pub(crate) fn new(lengths: &'a [u32], bytes: &'a [u8]) -> Self
+    pub fn new(lengths: &'a [u32], bytes: &'a [u8]) -> Self
         requires { sum lengths.now ≤ length bytes.now }
         ensures { result ≡ cut lengths.now bytes.now }
     {

@@ -5,7 +5,8 @@ ghost use Rattle.std.specs.Option.{ok_or};
 ghost use Rattle.tlink.specs.Roles as roles;
 ghost use Rattle.tword.specs.Stores.{as_cells};
 ghost use Rattle.tlink.specs.Node.{counts_at, due_at, fresh_sink};
-ghost use Rattle.tlink.specs.Scripts.{kept_lengths, kept_messages, kept_part};
+ghost use Rattle.std.specs.Prelude.{take};
+ghost use Rattle.tlink.specs.Scripts.{kept_lengths, kept_messages, kept_part, sink_state, IsSinkWithin};
 ghost use Rattle.tlink.specs.Events.{happens, is_node_enabled};
 ghost use Rattle.tlink.specs.Answers.{DoesNode};
 ghost use Rattle.tlink.specs.Whole.{IsCounted};
@@ -37,6 +38,19 @@ pub struct Sink {
     kept: usize,
     /// What link 0 has counted.
     counts: Counts,
+}
+
+/// What a sink holds.
+#[derive(Drop)]
+pub struct SinkParts {
+    /// Room for what comes: the messages that were kept, one behind another, and behind them the part of the next one.
+    pub bytes: Vec<u8>,
+    /// Room for the lengths of as many messages as there can be: those of the messages that were kept come first.
+    pub lengths: Vec<u32>,
+    /// How many messages were kept.
+    pub messages: usize,
+    /// How many bytes they have.
+    pub kept: usize,
 }
 
 impl Model for Sink {
@@ -98,6 +112,26 @@ impl Sink {
             messages: self.messages,
             kept: self.kept,
             counts: self.counts,
+        })
+    }
+
+    /// A copy of what it holds.
+    ///
+    /// # Errors
+    /// Where the allocator refuses.
+    pub fn parts(&self, alloc: Global) -> Result<SinkParts, AllocError>
+        ensures is { IfOk result (λ p.
+            self.now ≡ sink_state p.bytes.items (take p.messages p.lengths.items) p.kept (counts_at self.now 0)) }
+        ensures within { IfOk result (λ p. IsSinkWithin p.bytes.items p.lengths.items p.messages p.kept) }
+    {
+        let bytes = Vec::from_slice(alloc, self.bytes.as_slice())?;
+        let lengths = Vec::from_slice(alloc, self.lengths.as_slice())?;
+        let (messages, kept) = (self.messages, self.kept);
+        Ok(SinkParts {
+            bytes,
+            lengths,
+            messages,
+            kept,
         })
     }
 

@@ -1,5 +1,5 @@
 -- Each move of a processor leaves the kind of its node and the size of its memory.
-use Rattle.std.proofs.Common.{◌≡◌, ℕ, zero, suc, ◌+◌, ◌-◌, ◌<◌, ◌≤◌, refl, sym, subst, ◌∙◌, List, [], ◌∷◌, length, Ok}
+use Rattle.std.proofs.Common.{◌≡◌, ℕ, zero, suc, ◌+◌, ◌-◌, refl, ◌∙◌, [], ◌∷◌, length, Ok}
 use Rattle.std.proofs.Common.{Option, Some, None, arith}
 use Rattle.std.proofs.lemmas.Bool.{le-leb, and_from}
 use Rattle.std.proofs.lemmas.List.{length-replicate}
@@ -17,7 +17,7 @@ use Rattle.tproc.specs.Links.{finished, finish_output, finish_input, notice, wak
 use Rattle.tproc.specs.LinkChannels.{link_end, with_link}
 use Rattle.tproc.specs.Machine.{Control, Machine, claims_of, workspace_of, priority_of}
 use Rattle.tproc.specs.Messages.{input_of, HasByte, with_byte}
-use Rattle.tproc.specs.Opening.{added, empty_machine, loaded}
+use Rattle.tproc.specs.Opening.{added, empty_machine}
 use Rattle.tproc.specs.Placement.{IsPlaced}
 use Rattle.tproc.specs.Queues.{appended, release, without_waiter, add_process, admit}
 use Rattle.tproc.specs.SavedWords.{OfEachMove}
