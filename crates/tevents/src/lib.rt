@@ -1,0 +1,13 @@
+//! How steps of the rendezvous machine are done by events of a net of packets.
+#![tactic(auto)]
+
+pub mod finding;
+pub mod laws;
+pub mod moves;
+pub mod resting;
+#[cfg(test)]
+mod trials;
+
+pub use finding::{do_step, do_steps, next_event};
+pub use moves::Move;
+pub use resting::rest;
