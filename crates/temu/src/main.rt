@@ -13,7 +13,7 @@ use crate::words::{WordFault, given_words};
 use clap::error::ErrorKind;
 use std::process::ExitCode;
 use tfiles::{Uncounted, WriteFault};
-use ttext::{Fault, end_command};
+use ttext::{Fault, Verdict, end_command};
 use twords::{Command, CommandFault, read_words};
 
 fn main(rt: HostRuntime) -> ExitCode {
@@ -59,6 +59,6 @@ fn command(rt: &HostRuntime, words: &[String]) -> Result<Command, CommandFault> 
 }
 
 /// Ends a command: tells its fault on standard error, if it has one, and answers the status of the program.
-fn end(rt: &HostRuntime, answer: Result<bool, Fault>) -> ExitCode {
+fn end(rt: &HostRuntime, answer: Result<Verdict, Fault>) -> ExitCode {
     ExitCode::from(end_command(answer, &mut Uncounted(rt.stderr())))
 }

@@ -2,3 +2,10 @@ pub mod OpenedFiles
 pub mod DueFaults
 pub mod SmallNets
 mod GatheredWorkers
+pub mod NodeLists
+pub mod ToldOnce
+mod EntryTests
+mod Headings
+mod OutcomeLists
+mod RoleDumps
+mod Explorations

@@ -6,3 +6,5 @@ pub mod FaultLines
 pub mod Commands
 pub mod Wheres
 pub mod Free
+pub mod Tellings
+pub mod Explores

@@ -3,11 +3,14 @@
 //! - `opened`: the net of a wiring and its images
 //! - `run`, `replaying`, `free`: the text of a run by rounds, of a replay of a log, and of a run by free workers
 //! - `wheres`: the text of where a net stands after the events of a log
+//! - `telling`, `exploring`: what is told of outcomes, and the text of an exploration
 //! - `commands`: the commands, from the bytes of their files to what they write
+//! - `verdict`: what commands come to, as their exit statuses tell
 //! - `fault`, `fault_line`, `name`: what may be wrong with the files, and the line that says so
 #![tactic(auto)]
 
 pub mod commands;
+pub mod exploring;
 pub mod fault;
 mod fault_line;
 pub mod free;
@@ -15,12 +18,17 @@ mod name;
 mod opened;
 pub mod replaying;
 pub mod run;
+pub mod telling;
+pub mod verdict;
 pub mod wheres;
 
 pub use commands::{dis_file, end_command, free_files, replay_files, run_files, where_files};
+pub use exploring::{Explored, explore_text};
 pub use fault::Fault;
 pub use fault_line::write_fault;
 pub use free::free_text;
 pub use replaying::replay_text;
 pub use run::run_text;
+pub use telling::Telling;
+pub use verdict::Verdict;
 pub use wheres::where_text;

@@ -48,7 +48,7 @@ fn build(alloc: Global, plan: Plan) -> Result<Net, Fault>
 
 /// The plan of a wiring and the files of its images.
 #[tactic(auto, unfolding(crate::specs::Plans::plan_of))]
-fn plan(alloc: Global, wiring: &Wiring, files: Items<Items<u8>>) -> Result<Plan, Fault>
+pub(crate) fn plan(alloc: Global, wiring: &Wiring, files: Items<Items<u8>>) -> Result<Plan, Fault>
     requires { length files ≡ length wiring.now.nodes }
     ensures { MatchResult result (IsPlanOf wiring.now files) (IsFaultOf (images_of files)) }
 {

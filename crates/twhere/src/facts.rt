@@ -14,8 +14,8 @@ use tfiles::writing::text::put_hex;
 use tproc::Processor;
 use tword::{Break, Word};
 
-/// A word, in hexadecimal.
-pub(crate) fn put_word<W: CountedWrite>(out: &mut Output<'_, W>, word: Word)
+/// A word, in hexadecimal: `#` and eight digits in lower case.
+pub fn put_word<W: CountedWrite>(out: &mut Output<'_, W>, word: Word)
     ensures { Tells W.contents W.failures out.old out.new (spec.word_text word) }
 {
     out.put(b"#");

@@ -2,7 +2,7 @@
 //! interrupted, the queues, who waits and for what, and the links that are not at rest.
 #![tactic(auto)]
 
-mod facts;
+pub mod facts;
 pub mod laws;
 mod links;
 pub mod listing;
@@ -10,5 +10,6 @@ mod processes;
 mod waiting;
 pub mod wheres;
 
+pub use facts::put_word;
 pub use listing::{Listed, list_net};
 pub use wheres::put_where;

@@ -22,8 +22,8 @@ use Rattle.clap.specs.declared.parser.matches.ArgMatches.TheViews.{out-ArgMatche
 use Rattle.std.specs.Box.{box_value}
 use Rattle.clap.proofs.ValueTestLemmas.{accepts-Accepts}
 use Rattle.twords.specs.CommandLines.{HasText, HasNumber, IsRun, IsWhole, between, program, running_shape}
-use Rattle.twords.specs.CommandLines.{refusals_without_help, run_shape, free_shape, replay_shape, where_shape}
-use Rattle.twords.specs.CommandLines.{dis_shape, file_rule, number_rule}
+use Rattle.twords.specs.CommandLines.{refusals_without_help, run_shape, free_shape, explore_shape, replay_shape}
+use Rattle.twords.specs.CommandLines.{where_shape, dis_shape, file_rule, number_rule}
 use Rattle.twords.proofs.AcceptedRows.{Each, IsFit, Holds, Rows, each_found, neither}
 use Rattle.twords.proofs.LevelRows.{Found, default_found, level_passes, required_found, subcommand_wanted}
 
@@ -102,6 +102,12 @@ free_fits = (
   ),
 )
 
+explore_fits : RulesFit (built_of explore_shape)
+explore_fits = (
+  one_value _ _ refl refl refl,
+  (one_value _ _ refl refl refl, (one_value _ _ refl refl refl, (asks_help _ _ refl refl, tt))),
+)
+
 replay_fits : RulesFit (built_of replay_shape)
 replay_fits = (one_value _ _ refl refl refl, (one_value _ _ refl refl refl, (asks_help _ _ refl refl, tt)))
 
@@ -117,7 +123,7 @@ dis_fits = (one_value _ _ refl refl refl, (one_value _ _ refl refl refl, (asks_h
 top_fits : RulesFit (built program).top
 top_fits = (asks_help _ _ refl refl, tt)
 
--- ---- the five commands
+-- ---- the six commands
 
 -- what the words ask for is whole
 abbrev pub IsAnswered : Option (Text × List Row) → Type 0
@@ -177,9 +183,10 @@ run_whole : (words : List Text) → IsTaken (built_of run_shape) words
 run_whole words e = record {
   run = λ is. is_run (codes "run") (codes "rounds") words run_fits e;
   free = other;
+  explore = other;
   replay = other;
   whereabouts = other;
-  dis = λ run free replay stands. absurd (true≢false run);
+  dis = λ run free explore replay stands. absurd (true≢false run);
 }
 
 free_whole : (words : List Text) → IsTaken (built_of free_shape) words
@@ -187,9 +194,29 @@ free_whole : (words : List Text) → IsTaken (built_of free_shape) words
 free_whole words e = record {
   run = other;
   free = λ is. is_run (codes "free") (codes "turns") words free_fits e;
+  explore = other;
   replay = other;
   whereabouts = other;
-  dis = λ run free replay stands. absurd (true≢false free);
+  dis = λ run free explore replay stands. absurd (true≢false free);
+}
+
+explore_whole : (words : List Text) → IsTaken (built_of explore_shape) words
+    → IsWhole (codes "explore") (rows_after (built_of explore_shape).rules [] words)
+explore_whole words e = record {
+  run = other;
+  free = other;
+  explore = λ is. (
+    file_named (built_of explore_shape) words (file_built 1 (codes "wiring")) explore_fits e refl refl,
+    number_named (built_of explore_shape) words
+        (number_built (codes "states") (between 0 4294967295) (codes "1000000")) 0 4294967295 explore_fits e refl
+        (omega arith) refl,
+    number_named (built_of explore_shape) words
+        (number_built (codes "steps") (between 0 9223372036854775807) (codes "9223372036854775807")) 0
+        9223372036854775807 explore_fits e refl (omega arith) refl,
+  );
+  replay = other;
+  whereabouts = other;
+  dis = λ run free explore replay stands. absurd (true≢false explore);
 }
 
 replay_whole : (words : List Text) → IsTaken (built_of replay_shape) words
@@ -197,12 +224,13 @@ replay_whole : (words : List Text) → IsTaken (built_of replay_shape) words
 replay_whole words e = record {
   run = other;
   free = other;
+  explore = other;
   replay = λ is. (
     file_named (built_of replay_shape) words (file_built 1 (codes "wiring")) replay_fits e refl refl,
     file_named (built_of replay_shape) words (file_built 2 (codes "log")) replay_fits e refl refl,
   );
   whereabouts = other;
-  dis = λ run free replay stands. absurd (true≢false replay);
+  dis = λ run free explore replay stands. absurd (true≢false replay);
 }
 
 where_whole : (words : List Text) → IsTaken (built_of where_shape) words
@@ -210,6 +238,7 @@ where_whole : (words : List Text) → IsTaken (built_of where_shape) words
 where_whole words e = record {
   run = other;
   free = other;
+  explore = other;
   replay = other;
   whereabouts = λ is. (
     file_named (built_of where_shape) words (file_built 1 (codes "wiring")) where_fits e refl refl,
@@ -218,7 +247,7 @@ where_whole words e = record {
         (number_built (codes "events") (between 0 4294967295) (codes "4294967295")) 0 4294967295 where_fits e refl
         (omega arith) refl,
   );
-  dis = λ run free replay stands. absurd (true≢false stands);
+  dis = λ run free explore replay stands. absurd (true≢false stands);
 }
 
 dis_whole : (words : List Text) → IsTaken (built_of dis_shape) words
@@ -226,9 +255,10 @@ dis_whole : (words : List Text) → IsTaken (built_of dis_shape) words
 dis_whole words e = record {
   run = other;
   free = other;
+  explore = other;
   replay = other;
   whereabouts = other;
-  dis = λ run free replay stands. (
+  dis = λ run free explore replay stands. (
     refl,
     (
       file_named (built_of dis_shape) words (file_built 1 (codes "image")) dis_fits e refl refl,
@@ -240,7 +270,7 @@ dis_whole words e = record {
 
 each_whole : Each (λ s. (words : List Text) → IsTaken s words → IsAnswered (Some (rows_at s words)))
     (built program).subs
-each_whole = (run_whole, (free_whole, (replay_whole, (where_whole, (dis_whole, tt)))))
+each_whole = (run_whole, (free_whole, (explore_whole, (replay_whole, (where_whole, (dis_whole, tt))))))
 
 -- words that are not refused ask for one of the commands, with all that it needs
 pub whole : (words : List Text) → refusals_without_help words ≡ [] → IsAnswered (subcommand_of program words)

@@ -27,16 +27,17 @@ text_read m id None e h =
     absurd (true≢false (sym bad))
 text_read m id (Some s) e h = (s, refl, ap (λ o. option_map_or (λ t. t) o []) (e ∙ first_value-rows (found_of m) id))
 
--- a number, as a getter reads it
-pub number_read : (E : Type 0) (G : List ℕ → Result ℕ E → Type 0) (m : ArgMatches) (id : Text) (r : Option ℕ)
+-- a number, as a getter of a type of so many bits reads it
+pub number_read : (E : Type 0) (G : List ℕ → Result ℕ E → Type 0) (bits most : ℕ) (m : ArgMatches) (id : Text)
+    (r : Option ℕ)
     → ((t : Text) → one_text (found_of m) id ≡ Some t → ReadsOne G t r)
-    → ((u : List ℕ) (x : Result ℕ E) → G u x → ParsesUnsigned 32 10 u x)
-    → HasNumber 0 4294967295 id (rows_of (found_of m)) → (n : ℕ) × (r ≡ Some n)
+    → ((u : List ℕ) (x : Result ℕ E) → G u x → ParsesUnsigned bits 10 u x) → most < 2 ^ bits
+    → HasNumber 0 most id (rows_of (found_of m)) → (n : ℕ) × (r ≡ Some n)
     × (n ≡ number_at id (rows_of (found_of m)))
-number_read E G m id r gives only h =
+number_read E G bits most m id r gives only fits h =
     let read : ReadsOne G (without_minus h.text) r =
     gives (without_minus h.text) (one_text-rows (found_of m) id ∙ h.read) in
-    let got = signed_reads E G 32 0 4294967295 h.text r read only (omega arith) h.within in
+    let got = signed_reads E G bits 0 most h.text r read only fits h.within in
     let is : ReadsOne G (without_minus h.text) (Some got.0) = subst (ReadsOne G (without_minus h.text)) got.1 read in (
       got.0,
       got.1,

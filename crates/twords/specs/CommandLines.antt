@@ -21,7 +21,7 @@ use Rattle.tplan.specs.declared.options.Options.{Options}
 use Rattle.tword.specs.declared.kind.Kind.{Kind}
 use Rattle.tword.specs.declared.kind.Kind.TheVariants.{One, Two}
 use Rattle.twords.specs.declared.words.Command.{Command}
-use Rattle.twords.specs.declared.words.Command.TheVariants.{Run, Free, Replay, Where, Dis}
+use Rattle.twords.specs.declared.words.Command.TheVariants.{Run, Free, Explore, Replay, Where, Dis}
 
 -- ---- the words that are taken
 
@@ -60,6 +60,15 @@ run_shape = running_shape (codes "run") (codes "rounds")
 abbrev pub free_shape : Shape
 free_shape = running_shape (codes "free") (codes "turns")
 
+-- `explore WIRING [--states N] [--steps N]`
+abbrev pub explore_shape : Shape
+explore_shape = record (new_shape (codes "explore")) {
+  rules = file_rule (codes "wiring")
+      ∷ number_rule (codes "states") (between 0 4294967295) (codes "1000000")
+      ∷ number_rule (codes "steps") (between 0 9223372036854775807) (codes "9223372036854775807")
+      ∷ [];
+}
+
 -- `replay WIRING LOG`
 abbrev pub replay_shape : Shape
 replay_shape = record (new_shape (codes "replay")) { rules = file_rule (codes "wiring") ∷ file_rule (codes "log") ∷ [] }
@@ -93,8 +102,8 @@ top = record {
 -- the program
 abbrev pub program : App
 program =
-    with_subcommand (
-    with_subcommand (with_subcommand (with_subcommand (with_subcommand top run_shape) free_shape) replay_shape)
+    with_subcommand (with_subcommand (with_subcommand (
+    with_subcommand (with_subcommand (with_subcommand top run_shape) free_shape) explore_shape) replay_shape)
     where_shape) dis_shape
 
 -- ---- what they ask for
@@ -103,6 +112,7 @@ program =
 pub data Asked : Type 0 where
   run : Text → Options → Option Text → Asked
   free : Text → Options → Option Text → Asked
+  explore : Text → (states steps : ℕ) → Asked
   replay : Text → Text → Asked
   whereabouts : Text → Text → ℕ → Asked
   dis : Text → Kind → Asked
@@ -110,6 +120,7 @@ pub data Asked : Type 0 where
 abbrev pub asked_of : Command → Asked
 asked_of (Run wiring options log) = run wiring.bytes.items options (option_map (λ s. s.bytes.items) log)
 asked_of (Free wiring options log) = free wiring.bytes.items options (option_map (λ s. s.bytes.items) log)
+asked_of (Explore wiring states steps) = explore wiring.bytes.items states steps
 asked_of (Replay wiring log) = replay wiring.bytes.items log.bytes.items
 asked_of (Where wiring log events) = whereabouts wiring.bytes.items log.bytes.items events
 asked_of (Dis image kind) = dis image.bytes.items kind
@@ -138,6 +149,10 @@ run_in rows = run (text_at (codes "wiring") rows) (options_in (codes "rounds") r
 abbrev pub free_in : List Row → Asked
 free_in rows = free (text_at (codes "wiring") rows) (options_in (codes "turns") rows) (first_of (codes "log") rows)
 
+abbrev pub explore_in : List Row → Asked
+explore_in rows =
+    explore (text_at (codes "wiring") rows) (number_at (codes "states") rows) (number_at (codes "steps") rows)
+
 abbrev pub replay_in : List Row → Asked
 replay_in rows = replay (text_at (codes "wiring") rows) (text_at (codes "log") rows)
 
@@ -158,6 +173,7 @@ command_in None = None
 command_in (Some (name, rows)) =
     if bytes_eq name (codes "run") then Some (run_in rows)
     else if bytes_eq name (codes "free") then Some (free_in rows)
+    else if bytes_eq name (codes "explore") then Some (explore_in rows)
     else if bytes_eq name (codes "replay") then Some (replay_in rows)
     else if bytes_eq name (codes "where") then Some (where_in rows)
     else if bytes_eq name (codes "dis") then Some (dis_in rows)
@@ -198,6 +214,7 @@ pub record AreOptions (o : Options) : Type 0 where
 abbrev pub IsInRange : Command → Type 0
 IsInRange (Run wiring options log) = AreOptions options
 IsInRange (Free wiring options log) = AreOptions options
+IsInRange (Explore wiring states steps) = Unit {0}
 IsInRange (Replay wiring log) = Unit {0}
 IsInRange (Where wiring log events) = Unit {0}
 IsInRange (Dis image kind) = Unit {0}
@@ -221,6 +238,11 @@ pub record IsRun (id : Text) (rows : List Row) : Type 0 where
   pub limit : HasNumber 0 4294967295 id rows
   pub slice : HasNumber 1 65536 (codes "slice") rows
 
+abbrev pub IsExplore : List Row → Type 0
+IsExplore rows =
+    HasText (codes "wiring") rows × HasNumber 0 4294967295 (codes "states") rows
+    × HasNumber 0 9223372036854775807 (codes "steps") rows
+
 abbrev pub IsReplay : List Row → Type 0
 IsReplay rows = HasText (codes "wiring") rows × HasText (codes "log") rows
 
@@ -230,15 +252,16 @@ IsWhere rows = HasText (codes "wiring") rows × HasText (codes "log") rows × Ha
 abbrev pub IsDis : List Row → Type 0
 IsDis rows = HasText (codes "image") rows × HasNumber 1 2 (codes "kind") rows
 
--- the command of this name is one of the five, and its arguments are there
+-- the command of this name is one of the six, and its arguments are there
 pub record IsWhole (name : Text) (rows : List Row) : Type 0 where
   pub run : bytes_eq name (codes "run") ≡ true → IsRun (codes "rounds") rows
   pub free : bytes_eq name (codes "free") ≡ true → IsRun (codes "turns") rows
+  pub explore : bytes_eq name (codes "explore") ≡ true → IsExplore rows
   pub replay : bytes_eq name (codes "replay") ≡ true → IsReplay rows
   pub whereabouts : bytes_eq name (codes "where") ≡ true → IsWhere rows
   pub dis : bytes_eq name (codes "run") ≡ false → bytes_eq name (codes "free") ≡ false
-      → bytes_eq name (codes "replay") ≡ false → bytes_eq name (codes "where") ≡ false
-      → (bytes_eq name (codes "dis") ≡ true) × IsDis rows
+      → bytes_eq name (codes "explore") ≡ false → bytes_eq name (codes "replay") ≡ false
+      → bytes_eq name (codes "where") ≡ false → (bytes_eq name (codes "dis") ≡ true) × IsDis rows
 
 -- a parser reads a command of this shape, and no subcommand
 abbrev pub HasShape : Shape → Parser → Type 0
@@ -277,6 +300,18 @@ example_free_defaults : command_of (codes "temu" ∷ codes "free" ∷ codes "pai
     ≡ Some (free (codes "pair.toml") (record { workers = 1; rounds = 100000; slice = 64 }) None)
 unfolding clap_on_literals
 example_free_defaults = refl
+
+-- all states, or so many; all steps, or so many
+example_explore : command_of (codes "temu" ∷ codes "explore" ∷ codes "pair.toml" ∷ [])
+    ≡ Some (explore (codes "pair.toml") 1000000 9223372036854775807)
+unfolding clap_on_literals
+example_explore = refl
+
+example_explore_some : command_of (codes "temu" ∷ codes "explore" ∷ codes "--steps=4294967296" ∷ codes "pair.toml"
+    ∷ codes "--states" ∷ codes "0" ∷ [])
+    ≡ Some (explore (codes "pair.toml") 0 4294967296)
+unfolding clap_on_literals
+example_explore_some = refl
 
 example_replay : command_of (codes "temu" ∷ codes "replay" ∷ codes "pair.toml" ∷ codes "pair.log" ∷ [])
     ≡ Some (replay (codes "pair.toml") (codes "pair.log"))
@@ -326,6 +361,12 @@ example_turns : refusals (codes "temu" ∷ codes "free" ∷ codes "pair.toml" �
 unfolding clap_on_literals
 example_turns = refl
 
+example_states : refusals
+    (codes "temu" ∷ codes "explore" ∷ codes "pair.toml" ∷ codes "--states" ∷ codes "4294967296" ∷ [])
+    ≡ ValueValidation ∷ []
+unfolding clap_on_literals
+example_states = refl
+
 example_kind : refusals (codes "temu" ∷ codes "dis" ∷ codes "--kind" ∷ codes "3" ∷ codes "first.img" ∷ [])
     ≡ ValueValidation ∷ []
 unfolding clap_on_literals
@@ -340,6 +381,12 @@ example_unknown : refusals (codes "temu" ∷ codes "run" ∷ codes "pair.toml" �
     ≡ UnknownArgument ∷ []
 unfolding clap_on_literals
 example_unknown = refl
+
+example_explore_unknown : refusals
+    (codes "temu" ∷ codes "explore" ∷ codes "pair.toml" ∷ codes "--workers" ∷ codes "4" ∷ [])
+    ≡ UnknownArgument ∷ []
+unfolding clap_on_literals
+example_explore_unknown = refl
 
 example_free_unknown : refusals (codes "temu" ∷ codes "free" ∷ codes "pair.toml" ∷ codes "--rounds" ∷ codes "5" ∷ [])
     ≡ UnknownArgument ∷ []

@@ -22,6 +22,7 @@ Examples:
   temu run pair.toml
   temu run pair.toml --workers 4 --log pair.log
   temu free pair.toml --workers 4
+  temu explore pair.toml
   temu replay pair.toml pair.log
   temu where pair.toml pair.log --events 40
   temu dis first.img
@@ -29,8 +30,9 @@ Examples:
 `temu run --help` or `temu help run`, and their like, tell what goes into a command and what comes
 out.
 
-Exit status: 0 done; 1 done, and a node is frozen, since it broke a usage rule; 2 bad input, which
-standard error names; 3 the output failed; 4 no memory.";
+Exit status: 0 done; 1 done, and a node is frozen, since it broke a usage rule, or an exploration
+found a freeze or not just one outcome; 2 bad input, which standard error names; 3 the output
+failed; 4 no memory; 5 an exploration was cut.";
 
 /// The help of `run`.
 pub(crate) const RUN: RunHelp = RunHelp {
@@ -108,6 +110,33 @@ quiet end has the messages and the memories of `temu run`.
 Example:
   temu free pair.toml --workers 4 --log pair.log",
 };
+
+/// What stands below the help of `explore`.
+pub(crate) const EXPLORE: &str = "\
+In: a wiring file (see `temu run --help`). Its holds do not matter, nor do the workers and the slice
+of a run: all timings are tried at once. The timeslice does.
+
+Out: for each outcome, which is a way in which a run may end, one of these lines, and below it the
+memories, sources and sinks as `temu run` prints them:
+
+  outcome 1 ended                        no process waits any more
+  outcome 2 idle                         processes wait, all of them for messages
+  outcome 3 stuck                        a message is offered that nobody takes
+  outcome 4 freeze 0 InTransit #8000009b node 0 broke this rule, with the instruction at this address
+
+Behind them `endless`, where a run was found that goes on for ever (there may be one where it is not
+told). Last `end outcomes 2 states 13`: these 2 are all, and from 13 states several steps were tried,
+from 0 where there was one path alone; or `end cut outcomes 2 states 13`, where the limit of states
+or of steps was met, or no memory was left, so that there may be others.
+
+Each run by `temu run` or `temu free` that ends quiet, with no frozen node, ends in one of all
+outcomes. A run is followed up to its first freeze: where some run freezes a node at least one freeze
+is told, but not each of them.
+
+Exit status: 0 there is one outcome, and no freeze; 1 there are others; 5 the exploration was cut.
+
+Example:
+  temu explore pair.toml --states 100000";
 
 /// What stands below the help of `replay`.
 pub(crate) const REPLAY: &str = "\

@@ -8,6 +8,7 @@ ghost use Rattle.twords.specs.CommandLines.{IsInRange, asked_of, command_of, ref
 
 use crate::help::{self, RunHelp};
 use crate::help_words::with_help_option;
+use clap::builder::ValueParser;
 use clap::{Arg, ArgMatches, Command as Parser, value_parser};
 use std::alloc::{AllocError, Global};
 use tplan::Options;
@@ -32,6 +33,14 @@ pub enum Command {
         wiring: String,
         options: Options,
         log: Option<String>,
+    },
+    /// Finds every way in which the runs of the net of a wiring file may end, whatever their timing.
+    Explore {
+        wiring: String,
+        /// How many states are kept at most.
+        states: u32,
+        /// How many steps are done at most.
+        steps: u64,
     },
     /// Does the events of a log file on the net of a wiring file.
     Replay {
@@ -90,6 +99,8 @@ fn asked(alloc: Global, name: &str, given: &ArgMatches) -> Result<Command, Alloc
         run(alloc, given)
     } else if name == "free" {
         free(alloc, given)
+    } else if name == "explore" {
+        explore(alloc, given)
     } else if name == "replay" {
         replay(alloc, given)
     } else if name == "where" {
@@ -156,6 +167,18 @@ fn options(given: &ArgMatches, limit: &str) -> Options
         rounds: number(given, limit),
         slice: number(given, "slice"),
     }
+}
+
+/// What the arguments of `explore` ask for.
+fn explore(alloc: Global, given: &ArgMatches) -> Result<Command, AllocError>
+    requires { spec.IsExplore (rows_of (found_of given.now)) }
+    ensures { IfOk result (λ c. asked_of c ≡ spec.explore_in (rows_of (found_of given.now))) }
+{
+    Ok(Command::Explore {
+        wiring: file(alloc, given, "wiring")?,
+        states: number(given, "states"),
+        steps: long_number(given, "steps"),
+    })
 }
 
 /// What the arguments of `replay` ask for.
@@ -233,6 +256,14 @@ fn number(given: &ArgMatches, id: &str) -> u32
     given.get_one::<u32>(id).unwrap()
 }
 
+/// The number of an option that may be longer.
+fn long_number(given: &ArgMatches, id: &str) -> u64
+    requires { spec.HasNumber 0 9223372036854775807 id.now (rows_of (found_of given.now)) }
+    ensures { result ≡ spec.number_at id.now (rows_of (found_of given.now)) }
+{
+    given.get_one::<u64>(id).unwrap()
+}
+
 /// The words that the program takes.
 fn program<'a>(alloc: Global) -> Result<Parser<'a>, AllocError>
     ensures { IfOk result (λ c. app_of c ≡ spec.program) }
@@ -240,6 +271,7 @@ fn program<'a>(alloc: Global) -> Result<Parser<'a>, AllocError>
     top_parser(alloc)?
         .subcommand(run_parser(alloc)?)?
         .subcommand(free_parser(alloc)?)?
+        .subcommand(explore_parser(alloc)?)?
         .subcommand(replay_parser(alloc)?)?
         .subcommand(where_parser(alloc)?)?
         .subcommand(dis_parser(alloc)?)
@@ -289,6 +321,25 @@ fn running_parser<'a>(
         .arg(limit_arg(alloc, limit, help.limit))?
         .arg(slice_arg(alloc, help.slice))?
         .arg(log_arg(alloc))
+}
+
+/// The words of `explore`.
+fn explore_parser<'a>(alloc: Global) -> Result<Parser<'a>, AllocError>
+    ensures { IfOk result (spec.HasShape spec.explore_shape) }
+{
+    Parser::new(alloc, "explore")
+        .about(
+            "Finds every outcome of the net of a wiring file, whatever its timing, and prints their memories",
+        )
+        .after_help(help::EXPLORE)
+        .arg(file_arg(
+            alloc,
+            "wiring",
+            "WIRING",
+            "The wiring file, as TOML; its holds are ignored",
+        ))?
+        .arg(states_arg(alloc))?
+        .arg(steps_arg(alloc))
 }
 
 /// The words of `replay`.
@@ -390,6 +441,29 @@ fn limit_arg<'a>(alloc: Global, id: &'a str, help: &'a str) -> Arg<'a>
         .value_parser(value_parser!(u32))
         .default_value("100000")
         .help(help)
+}
+
+/// `--states N`.
+fn states_arg<'a>(alloc: Global) -> Arg<'a>
+    ensures rule { rule_of result ≡ spec.number_rule (codes "states") (spec.between 0 4294967295) (codes "1000000") }
+    ensures local { spec.IsLocal result }
+{
+    number_arg(alloc, "states")
+        .value_parser(value_parser!(u32))
+        .default_value("1000000")
+        .help("How many states are kept at most: 0 to 4294967295")
+}
+
+/// `--steps N`.
+fn steps_arg<'a>(alloc: Global) -> Arg<'a>
+    ensures rule { rule_of result
+        ≡ spec.number_rule (codes "steps") (spec.between 0 9223372036854775807) (codes "9223372036854775807") }
+    ensures local { spec.IsLocal result }
+{
+    number_arg(alloc, "steps")
+        .value_parser(ValueParser::signed(0, i64::MAX))
+        .default_value("9223372036854775807")
+        .help("How many steps are done at most: 0 to 9223372036854775807")
 }
 
 /// `--events N`.

@@ -50,7 +50,7 @@ fn put_node<W: CountedWrite>(out: &mut Output<'_, W>, number: usize, node: &Node
         (role_dump node.now.role number node.now.broken (hidden node.now.machine)) }
 {
     if let Some(processor) = node.processor() {
-        put_processor(out, number, node.broken(), processor);
+        put_processor_dump(out, number, node.broken(), processor);
     } else if let Some(source) = node.source() {
         put_source(out, number, source);
     } else if let Some(sink) = node.sink() {
@@ -58,8 +58,8 @@ fn put_node<W: CountedWrite>(out: &mut Output<'_, W>, number: usize, node: &Node
     }
 }
 
-/// The dump of a processor.
-fn put_processor<W: CountedWrite>(
+/// The dump of a processor, of a node that this break has frozen, if one has.
+pub fn put_processor_dump<W: CountedWrite>(
     out: &mut Output<'_, W>,
     number: usize,
     broken: Option<Break>,

@@ -1,13 +1,10 @@
-use Rattle.std.proofs.Common.{ap, arith, sym, flat_map, length}
-use Rattle.tlink.specs.Scripts.{kept_messages}
+use Rattle.std.proofs.Common.{ap, arith, flat_map, length}
 use Rattle.tfiles.specs.Texts.{kept_line}
-use Rattle.tfiles.proofs.Told.{goes_on-as, goes_on-start, goes_on-next, goes_on-end}
+use Rattle.tfiles.proofs.Told.{goes_on-start, goes_on-next, goes_on-end}
 use Rattle.tfiles.proofs.writing.scripts.put_messages.Goals as goal
 
 pub loop-message-init : goal.loop-message-init
-loop-message-init g c =
-    goes_on-as (goes_on-start c.args.out.now (flat_map kept_line (kept_messages c.args.sink.now)))
-    (ap (flat_map kept_line) (sym c.kept-messages.ensures))
+loop-message-init g c = goes_on-start c.args.out.now (flat_map kept_line c.args.kept)
 
 pub loop-message-smaller : goal.loop-message-smaller
 loop-message-smaller g c = omega (arith, ap length c.in-Some.ensures)

@@ -1,11 +1,8 @@
-use Rattle.std.proofs.Common.{ℕ, ap, ◌∙◌, length}
-use Rattle.tfiles.specs.Texts.{sink_line}
-use Rattle.tfiles.proofs.Told.{tells_then, tells_as}
+use Rattle.std.proofs.Common.{ℕ, List, ap}
+use Rattle.tfiles.specs.Texts.{sink_dump}
+use Rattle.tfiles.proofs.Told.{tells_as}
 use Rattle.tfiles.proofs.writing.scripts.put_sink.Goals as goal
 
 pub returns : goal.returns
 returns g c =
-    tells_then
-    (tells_as c.put_sink_line.ensures
-    (ap (λ (n : ℕ). sink_line c.args.number n) (c.count.ensures ∙ ap length c.kept.ensures)))
-    c.put_messages.ensures
+    tells_as c.put_sink_dump.ensures (ap (λ (kept : List (List ℕ)). sink_dump c.args.number kept) c.kept.ensures)

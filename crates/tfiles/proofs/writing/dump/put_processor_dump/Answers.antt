@@ -3,7 +3,7 @@ use Rattle.tword.specs.Stores.{as_cells}
 use Rattle.tproc.specs.Machine.{claims_of}
 use Rattle.tfiles.proofs.NetDumps.{dump_known}
 use Rattle.tfiles.proofs.Told.{tells_as}
-use Rattle.tfiles.proofs.writing.dump.put_processor.Goals as goal
+use Rattle.tfiles.proofs.writing.dump.put_processor_dump.Goals as goal
 
 pub returns : goal.returns
 returns g c =

@@ -1,0 +1,11 @@
+use Rattle.tfiles.proofs.Told.{tells_then}
+use Rattle.tfiles.proofs.writing.scripts.put_source_line.Goals as goal
+
+pub returns : goal.returns
+returns g c =
+    tells_then c.put.ensures
+    (tells_then
+    (tells_then c.put_decimal.ensures
+    (tells_then c.put-2.ensures
+    (tells_then c.put_decimal-2.ensures (tells_then c.put-3.ensures c.put_decimal-3.ensures))))
+    c.put-4.ensures)

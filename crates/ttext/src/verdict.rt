@@ -1,0 +1,39 @@
+//! What commands come to.
+
+ghost use Rattle.std.specs.Prelude.{◌≡◌};
+ghost use Rattle.ttext.specs.Commands as spec;
+
+/// What a command comes to that is done.
+#[derive(Clone, Copy, Debug, PartialEq, Eq)]
+pub enum Verdict {
+    /// No node is frozen; of an exploration: there is one outcome, and no freeze.
+    Clear,
+    /// A node is frozen; of an exploration: there is a freeze, or another number of outcomes than one.
+    Marked,
+    /// An exploration was cut.
+    Cut,
+}
+
+impl Verdict {
+    /// That of a command, by whether a node is frozen at its end.
+    pub fn of(has_frozen: bool) -> Verdict
+        ensures { result ≡ spec.verdict_by has_frozen }
+    {
+        if has_frozen {
+            Verdict::Marked
+        } else {
+            Verdict::Clear
+        }
+    }
+
+    /// The exit status of the program: 0, 1 or 5.
+    pub fn status(self) -> u8
+        ensures { result ≡ spec.verdict_status self }
+    {
+        match self {
+            Verdict::Clear => 0,
+            Verdict::Marked => 1,
+            Verdict::Cut => 5,
+        }
+    }
+}
