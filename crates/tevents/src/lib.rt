@@ -5,8 +5,6 @@ pub mod finding;
 pub mod laws;
 pub mod moves;
 pub mod resting;
-#[cfg(test)]
-mod trials;
 
 pub use finding::{do_step, do_steps, next_event};
 pub use moves::Move;
