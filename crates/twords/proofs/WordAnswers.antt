@@ -105,7 +105,10 @@ free_fits = (
 explore_fits : RulesFit (built_of explore_shape)
 explore_fits = (
   one_value _ _ refl refl refl,
-  (one_value _ _ refl refl refl, (one_value _ _ refl refl refl, (asks_help _ _ refl refl, tt))),
+  (
+    one_value _ _ refl refl refl,
+    (one_value _ _ refl refl refl, (one_value _ _ refl refl refl, (asks_help _ _ refl refl, tt))),
+  ),
 )
 
 replay_fits : RulesFit (built_of replay_shape)

@@ -60,12 +60,13 @@ run_shape = running_shape (codes "run") (codes "rounds")
 abbrev pub free_shape : Shape
 free_shape = running_shape (codes "free") (codes "turns")
 
--- `explore WIRING [--states N] [--steps N]`
+-- `explore WIRING [--states N] [--steps N] [--log PREFIX]`
 abbrev pub explore_shape : Shape
 explore_shape = record (new_shape (codes "explore")) {
   rules = file_rule (codes "wiring")
       ∷ number_rule (codes "states") (between 0 4294967295) (codes "1000000")
       ∷ number_rule (codes "steps") (between 0 9223372036854775807) (codes "9223372036854775807")
+      ∷ option_rule (codes "log")
       ∷ [];
 }
 
@@ -112,7 +113,7 @@ program =
 pub data Asked : Type 0 where
   run : Text → Options → Option Text → Asked
   free : Text → Options → Option Text → Asked
-  explore : Text → (states steps : ℕ) → Asked
+  explore : Text → (states steps : ℕ) → Option Text → Asked
   replay : Text → Text → Asked
   whereabouts : Text → Text → ℕ → Asked
   dis : Text → Kind → Asked
@@ -120,7 +121,8 @@ pub data Asked : Type 0 where
 abbrev pub asked_of : Command → Asked
 asked_of (Run wiring options log) = run wiring.bytes.items options (option_map (λ s. s.bytes.items) log)
 asked_of (Free wiring options log) = free wiring.bytes.items options (option_map (λ s. s.bytes.items) log)
-asked_of (Explore wiring states steps) = explore wiring.bytes.items states steps
+asked_of (Explore wiring states steps log) =
+    explore wiring.bytes.items states steps (option_map (λ s. s.bytes.items) log)
 asked_of (Replay wiring log) = replay wiring.bytes.items log.bytes.items
 asked_of (Where wiring log events) = whereabouts wiring.bytes.items log.bytes.items events
 asked_of (Dis image kind) = dis image.bytes.items kind
@@ -152,6 +154,7 @@ free_in rows = free (text_at (codes "wiring") rows) (options_in (codes "turns") 
 abbrev pub explore_in : List Row → Asked
 explore_in rows =
     explore (text_at (codes "wiring") rows) (number_at (codes "states") rows) (number_at (codes "steps") rows)
+    (first_of (codes "log") rows)
 
 abbrev pub replay_in : List Row → Asked
 replay_in rows = replay (text_at (codes "wiring") rows) (text_at (codes "log") rows)
@@ -214,7 +217,7 @@ pub record AreOptions (o : Options) : Type 0 where
 abbrev pub IsInRange : Command → Type 0
 IsInRange (Run wiring options log) = AreOptions options
 IsInRange (Free wiring options log) = AreOptions options
-IsInRange (Explore wiring states steps) = Unit {0}
+IsInRange (Explore wiring states steps log) = Unit {0}
 IsInRange (Replay wiring log) = Unit {0}
 IsInRange (Where wiring log events) = Unit {0}
 IsInRange (Dis image kind) = Unit {0}
@@ -303,15 +306,21 @@ example_free_defaults = refl
 
 -- all states, or so many; all steps, or so many
 example_explore : command_of (codes "temu" ∷ codes "explore" ∷ codes "pair.toml" ∷ [])
-    ≡ Some (explore (codes "pair.toml") 1000000 9223372036854775807)
+    ≡ Some (explore (codes "pair.toml") 1000000 9223372036854775807 None)
 unfolding clap_on_literals
 example_explore = refl
 
 example_explore_some : command_of (codes "temu" ∷ codes "explore" ∷ codes "--steps=4294967296" ∷ codes "pair.toml"
     ∷ codes "--states" ∷ codes "0" ∷ [])
-    ≡ Some (explore (codes "pair.toml") 0 4294967296)
+    ≡ Some (explore (codes "pair.toml") 0 4294967296 None)
 unfolding clap_on_literals
 example_explore_some = refl
+
+-- with logs
+example_explore_log : command_of (codes "temu" ∷ codes "explore" ∷ codes "--log=found" ∷ codes "pair.toml" ∷ [])
+    ≡ Some (explore (codes "pair.toml") 1000000 9223372036854775807 (Some (codes "found")))
+unfolding clap_on_literals
+example_explore_log = refl
 
 example_replay : command_of (codes "temu" ∷ codes "replay" ∷ codes "pair.toml" ∷ codes "pair.log" ∷ [])
     ≡ Some (replay (codes "pair.toml") (codes "pair.log"))

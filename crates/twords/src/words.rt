@@ -41,6 +41,8 @@ pub enum Command {
         states: u32,
         /// How many steps are done at most.
         steps: u64,
+        /// What the names of the log files begin with, one of each outcome, where logs are asked for.
+        log: Option<String>,
     },
     /// Does the events of a log file on the net of a wiring file.
     Replay {
@@ -174,10 +176,13 @@ fn explore(alloc: Global, given: &ArgMatches) -> Result<Command, AllocError>
     requires { spec.IsExplore (rows_of (found_of given.now)) }
     ensures { IfOk result (λ c. asked_of c ≡ spec.explore_in (rows_of (found_of given.now))) }
 {
+    let wiring = file(alloc, given, "wiring")?;
+    let prefix = optional_file(alloc, given, "log")?;
     Ok(Command::Explore {
-        wiring: file(alloc, given, "wiring")?,
+        wiring,
         states: number(given, "states"),
         steps: long_number(given, "steps"),
+        log: prefix,
     })
 }
 
@@ -320,7 +325,11 @@ fn running_parser<'a>(
         .arg(workers_arg(alloc, help.workers))?
         .arg(limit_arg(alloc, limit, help.limit))?
         .arg(slice_arg(alloc, help.slice))?
-        .arg(log_arg(alloc))
+        .arg(log_arg(
+            alloc,
+            "FILE",
+            "Writes a line for each event that was done into this file, which is made anew",
+        ))
 }
 
 /// The words of `explore`.
@@ -339,7 +348,12 @@ fn explore_parser<'a>(alloc: Global) -> Result<Parser<'a>, AllocError>
             "The wiring file, as TOML; its holds are ignored",
         ))?
         .arg(states_arg(alloc))?
-        .arg(steps_arg(alloc))
+        .arg(steps_arg(alloc))?
+        .arg(log_arg(
+            alloc,
+            "PREFIX",
+            "Writes a log of each outcome, by which `replay` comes to it, into PREFIX1.log, PREFIX2.log, ..",
+        ))
 }
 
 /// The words of `replay`.
@@ -411,14 +425,15 @@ fn file_arg<'a>(alloc: Global, id: &'a str, name: &'a str, help: &'a str) -> Arg
         .required(true)
 }
 
-/// `--log FILE`.
-fn log_arg<'a>(alloc: Global) -> Arg<'a>
+/// `--log FILE` or `--log PREFIX`.
+fn log_arg<'a>(alloc: Global, name: &'a str, help: &'a str) -> Arg<'a>
     ensures rule { rule_of result ≡ spec.option_rule (codes "log") }
     ensures local { spec.IsLocal result }
 {
-    Arg::new(alloc, "log").long("log").value_name("FILE").help(
-        "Writes a line for each event that was done into this file, which is made anew",
-    )
+    Arg::new(alloc, "log")
+        .long("log")
+        .value_name(name)
+        .help(help)
 }
 
 /// `--workers N`.

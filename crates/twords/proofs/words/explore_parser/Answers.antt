@@ -2,7 +2,7 @@ use Rattle.std.proofs.Common.{rules, codes, List, []}
 use Rattle.std.proofs.lemmas.Result.{IfOk-weaker}
 use Rattle.clap.specs.Words.{Rule, Shape}
 use Rattle.clap.specs.Simple.{new_shape}
-use Rattle.twords.specs.CommandLines.{HasShape, between, file_rule, number_rule}
+use Rattle.twords.specs.CommandLines.{HasShape, between, file_rule, number_rule, option_rule}
 use Rattle.twords.proofs.WordParsers.{adds}
 use Rattle.twords.proofs.words.explore_parser.Goals as goal
 
@@ -22,6 +22,8 @@ returns c =
     c.file_arg.ensures.rule c.file_arg.ensures.local none in
     let two = adds _ _ c.states_arg.result states c.in_ok-arg-2.field-0 (c.in_ok-arg-2.ensures)
     c.states_arg.ensures.rule c.states_arg.ensures.local one in
-    IfOk-weaker c.arg-3.result _ _
-    (λ r h. adds _ _ c.steps_arg.result steps r h c.steps_arg.ensures.rule c.steps_arg.ensures.local two)
-    c.arg-3.ensures
+    let three = adds _ _ c.steps_arg.result steps c.in_ok-arg-3.field-0 (c.in_ok-arg-3.ensures)
+    c.steps_arg.ensures.rule c.steps_arg.ensures.local two in
+    IfOk-weaker c.arg-4.result _ _
+    (λ r h. adds _ _ c.log_arg.result (option_rule (codes "log")) r h c.log_arg.ensures.rule c.log_arg.ensures.local
+    three) c.arg-4.ensures
