@@ -7,5 +7,6 @@ pub mod ToldOnce
 mod EntryTests
 mod Headings
 mod OutcomeLists
+mod Lines
 mod RoleDumps
 mod Explorations

@@ -7,4 +7,5 @@ pub mod Commands
 pub mod Wheres
 pub mod Free
 pub mod Tellings
+pub mod Differences
 pub mod Explores

@@ -1,7 +1,7 @@
 -- What is told of a configuration in which a run has ended: how it has, and what its dump shows.
 -- Source: own choice, the words and the format of this program.
 use Rattle.std.specs.Prelude.{ℕ, suc, Bool, true, false, ◌||◌, ◌&&◌, List, [], ◌∷◌, ◌++◌, length, Option, Some, None}
-use Rattle.std.specs.Prelude.{is_some, codes, decimal, nat_lt, map, fold, slice_get, if◌then◌else◌}
+use Rattle.std.specs.Prelude.{◌≡◌, ◌≤◌, is_some, codes, decimal, nat_lt, map, fold, slice_get, take, if◌then◌else◌}
 use Rattle.std.specs.List.{list_any}
 use Rattle.std.specs.Str.{bytes_eq}
 use Rattle.tword.specs.declared.breaks.Break.{Break}
@@ -109,6 +109,11 @@ with_telling told t = if list_any (λ earlier. is_one earlier t) told then told 
 abbrev pub tellings : List Configuration → List Telling
 tellings shown = fold with_telling [] (map telling shown)
 
+-- one more is told, if it is there
+abbrev pub told_with : Option Configuration → List Telling → List Telling
+told_with None told = told
+told_with (Some w) told = with_telling told (telling w)
+
 -- a configuration, if it is there, before others
 abbrev pub with_state : Option Configuration → List Configuration → List Configuration
 with_state None rest = rest
@@ -118,3 +123,10 @@ with_state (Some w) rest = w ∷ rest
 abbrev pub states_shown : List Configuration → List Shown → List Configuration
 states_shown listed [] = []
 states_shown listed (s ∷ ss) = with_state (slice_get listed s.place) (states_shown listed ss)
+
+-- it is told of the first of the configurations that are shown, and of all of them if it is whole
+pub record TellsFirst (listed : List Configuration) (shown : List Shown) (told : List Telling) (whole : Bool)
+    : Type 0 where
+  pub count : ℕ
+  pub is : told ≡ tellings (states_shown listed (take count shown))
+  pub all : whole ≡ true → length shown ≤ count

@@ -4,12 +4,14 @@
 //! - `run`, `replaying`, `free`: the text of a run by rounds, of a replay of a log, and of a run by free workers
 //! - `wheres`: the text of where a net stands after the events of a log
 //! - `telling`, `exploring`: what is told of outcomes, and the text of an exploration
+//! - `differing`: in which lines two dumps differ
 //! - `commands`: the commands, from the bytes of their files to what they write
 //! - `verdict`: what commands come to, as their exit statuses tell
 //! - `fault`, `fault_line`, `name`: what may be wrong with the files, and the line that says so
 #![tactic(auto)]
 
 pub mod commands;
+mod differing;
 pub mod exploring;
 pub mod fault;
 mod fault_line;
@@ -23,7 +25,7 @@ pub mod verdict;
 pub mod wheres;
 
 pub use commands::{dis_file, end_command, free_files, replay_files, run_files, where_files};
-pub use exploring::{Explored, explore_text};
+pub use exploring::{Explored, Show, explore_text};
 pub use fault::Fault;
 pub use fault_line::write_fault;
 pub use free::free_text;
