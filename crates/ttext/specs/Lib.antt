@@ -9,3 +9,4 @@ pub mod Free
 pub mod Tellings
 pub mod Differences
 pub mod Explores
+pub mod Logged

@@ -5,6 +5,7 @@
 //! - `wheres`: the text of where a net stands after the events of a log
 //! - `telling`, `exploring`: what is told of outcomes, and the text of an exploration
 //! - `differing`: in which lines two dumps differ
+//! - `logging`: logs of how a net comes to the outcomes that are told of it
 //! - `commands`: the commands, from the bytes of their files to what they write
 //! - `verdict`: what commands come to, as their exit statuses tell
 //! - `fault`, `fault_line`, `name`: what may be wrong with the files, and the line that says so
@@ -16,6 +17,7 @@ pub mod exploring;
 pub mod fault;
 mod fault_line;
 pub mod free;
+pub mod logging;
 mod name;
 mod opened;
 pub mod replaying;
@@ -29,6 +31,7 @@ pub use exploring::{Explored, Show, explore_text};
 pub use fault::Fault;
 pub use fault_line::write_fault;
 pub use free::free_text;
+pub use logging::{Logged, explore_logged, write_outcome_log};
 pub use replaying::replay_text;
 pub use run::run_text;
 pub use telling::Telling;
