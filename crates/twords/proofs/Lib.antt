@@ -4,3 +4,4 @@ pub mod LevelRows
 pub mod WordAnswers
 pub mod WordReads
 pub mod WordParsers
+mod Refusals

@@ -22,8 +22,8 @@ use Rattle.clap.specs.declared.parser.matches.ArgMatches.TheViews.{out-ArgMatche
 use Rattle.std.specs.Box.{box_value}
 use Rattle.clap.proofs.ValueTestLemmas.{accepts-Accepts}
 use Rattle.twords.specs.CommandLines.{HasText, HasNumber, IsRun, IsWhole, between, program, running_shape}
-use Rattle.twords.specs.CommandLines.{refusals_without_help, run_shape, free_shape, explore_shape, replay_shape}
-use Rattle.twords.specs.CommandLines.{where_shape, dis_shape, file_rule, number_rule}
+use Rattle.twords.specs.CommandLines.{run_shape, free_shape, explore_shape, replay_shape, where_shape, dis_shape}
+use Rattle.twords.specs.CommandLines.{file_rule, number_rule, text_rule}
 use Rattle.twords.proofs.AcceptedRows.{Each, IsFit, Holds, Rows, each_found, neither}
 use Rattle.twords.proofs.LevelRows.{Found, default_found, level_passes, required_found, subcommand_wanted}
 
@@ -107,7 +107,10 @@ explore_fits = (
   one_value _ _ refl refl refl,
   (
     one_value _ _ refl refl refl,
-    (one_value _ _ refl refl refl, (one_value _ _ refl refl refl, (asks_help _ _ refl refl, tt))),
+    (
+      one_value _ _ refl refl refl,
+      (one_value _ _ refl refl refl, (one_value _ _ refl refl refl, (asks_help _ _ refl refl, tt))),
+    ),
   ),
 )
 
@@ -153,6 +156,13 @@ number_named : (s : Shape) (words : List Text) (a : Rule) (least most : ℕ) →
 number_named s words a least most fits e first some parser =
     number_found least most a _ parser
     (default_found s.rules [] words a first some (level_passes s [] words false [] fits e).0)
+
+-- a text that is given or has a default
+text_named : (s : Shape) (words : List Text) (a : Rule) → RulesFit s → IsTaken s words
+    → arg_by_id s.rules a.id ≡ Some a → 0 < length a.defaults
+    → HasText a.id (rows_after s.rules [] words)
+text_named s words a fits e first some =
+    text_found a _ (default_found s.rules [] words a first some (level_passes s [] words false [] fits e).0)
 
 abbrev file_built : ℕ → Text → Rule
 file_built i id = with_index i (filled (file_rule id))
@@ -216,6 +226,8 @@ explore_whole words e = record {
     number_named (built_of explore_shape) words
         (number_built (codes "steps") (between 0 9223372036854775807) (codes "9223372036854775807")) 0
         9223372036854775807 explore_fits e refl (omega arith) refl,
+    text_named (built_of explore_shape) words (filled (text_rule (codes "show") (codes "dump"))) explore_fits e refl
+        (omega arith),
   );
   replay = other;
   whereabouts = other;
@@ -276,7 +288,7 @@ each_whole : Each (λ s. (words : List Text) → IsTaken s words → IsAnswered 
 each_whole = (run_whole, (free_whole, (explore_whole, (replay_whole, (where_whole, (dis_whole, tt))))))
 
 -- words that are not refused ask for one of the commands, with all that it needs
-pub whole : (words : List Text) → refusals_without_help words ≡ [] → IsAnswered (subcommand_of program words)
+pub whole : (words : List Text) → fault_of program words ≡ [] → IsAnswered (subcommand_of program words)
 whole words e =
     go (walk (built program).top.rules (names_of (built program)) nothing_held
     (argument_words (built program) words)).stopped
@@ -326,9 +338,9 @@ pair f g (Some b) name rows e h =
 pub met : (p : Parser) (words : List Text) (m : ArgMatches) (name : Text) (rows : List Row) → app_of p ≡ program
     → (is_simple_and_free (app_of p) ≡ true → fault_of (app_of p) words ≡ []) → HasMatchesOf (app_of p) words m
     → Some name ≡ subcommand_name_of m → Some rows ≡ option_map (λ (s : Text × List Row). s.1) (subcommand_rows_of m)
-    → (refusals_without_help words ≡ []) × (subcommand_of program words ≡ Some (name, rows)) × IsWhole name rows
+    → (fault_of program words ≡ []) × (subcommand_of program words ≡ Some (name, rows)) × IsWhole name rows
 met p words m name rows app faults matches is_name is_rows =
-    let taken : refusals_without_help words ≡ [] =
+    let taken : fault_of program words ≡ [] =
     ap (λ a. fault_of a words) (sym app) ∙ faults (ap is_simple_and_free app) in
     let sub : subcommand_of program words ≡ Some (name, rows) =
     ap (λ a. subcommand_of a words) (sym app) ∙ (sym (matches (ap is_simple app)).1

@@ -11,7 +11,8 @@ use Rattle.clap.specs.Simple.{new_shape}
 use Rattle.clap.proofs.OnLiterals.{clap_on_literals}
 use Rattle.clap.specs.declared.error.kind.ErrorKind.TheVariants.{DisplayHelp, DisplayHelpOnMissingArgumentOrSubcommand}
 use Rattle.clap.specs.declared.error.kind.ErrorKind.TheVariants.{MissingRequiredArgument, UnknownArgument}
-use Rattle.clap.specs.declared.error.kind.ErrorKind.TheVariants.{ValueValidation}
+use Rattle.clap.specs.Kinds.{or_else}
+use Rattle.clap.specs.declared.error.kind.ErrorKind.TheVariants.{InvalidValue, ValueValidation}
 use Rattle.clap.specs.declared.builder.arg.Arg.{Arg}
 use Rattle.clap.specs.declared.builder.command.Command.{Command as Parser}
 use Rattle.clap.specs.declared.builder.command.Command.TheViews.{out-Command as fields_of}
@@ -20,6 +21,8 @@ use Rattle.clap.specs.declared.builder.value_parser.ValueParser.TheVariants.{Sig
 use Rattle.tplan.specs.declared.options.Options.{Options}
 use Rattle.tword.specs.declared.kind.Kind.{Kind}
 use Rattle.tword.specs.declared.kind.Kind.TheVariants.{One, Two}
+use Rattle.twords.specs.declared.words.Show.{Show}
+use Rattle.twords.specs.declared.words.Show.TheVariants.{Dump, Nothing}
 use Rattle.twords.specs.declared.words.Command.{Command}
 use Rattle.twords.specs.declared.words.Command.TheVariants.{Run, Free, Explore, Replay, Where, Dis}
 
@@ -32,6 +35,10 @@ file_rule id = record (new_rule id) { value_names = 1; required = true }
 -- an option with a value
 abbrev pub option_rule : Text → Rule
 option_rule id = record (new_rule id) { long = Some id; value_names = 1 }
+
+-- an option with a text, and what it is where it is not given
+abbrev pub text_rule : Text → Text → Rule
+text_rule id default = record (option_rule id) { defaults = default ∷ [] }
 
 -- an option whose value is a number of a range, and what it is where it is not given
 abbrev pub number_rule : Text → ValueParser → Text → Rule
@@ -60,13 +67,14 @@ run_shape = running_shape (codes "run") (codes "rounds")
 abbrev pub free_shape : Shape
 free_shape = running_shape (codes "free") (codes "turns")
 
--- `explore WIRING [--states N] [--steps N] [--log PREFIX]`
+-- `explore WIRING [--states N] [--steps N] [--log PREFIX] [--show WHAT]`
 abbrev pub explore_shape : Shape
 explore_shape = record (new_shape (codes "explore")) {
   rules = file_rule (codes "wiring")
       ∷ number_rule (codes "states") (between 0 4294967295) (codes "1000000")
       ∷ number_rule (codes "steps") (between 0 9223372036854775807) (codes "9223372036854775807")
       ∷ option_rule (codes "log")
+      ∷ text_rule (codes "show") (codes "dump")
       ∷ [];
 }
 
@@ -113,7 +121,7 @@ program =
 pub data Asked : Type 0 where
   run : Text → Options → Option Text → Asked
   free : Text → Options → Option Text → Asked
-  explore : Text → (states steps : ℕ) → Option Text → Asked
+  explore : Text → (states steps : ℕ) → (log : Option Text) → Show → Asked
   replay : Text → Text → Asked
   whereabouts : Text → Text → ℕ → Asked
   dis : Text → Kind → Asked
@@ -121,8 +129,8 @@ pub data Asked : Type 0 where
 abbrev pub asked_of : Command → Asked
 asked_of (Run wiring options log) = run wiring.bytes.items options (option_map (λ s. s.bytes.items) log)
 asked_of (Free wiring options log) = free wiring.bytes.items options (option_map (λ s. s.bytes.items) log)
-asked_of (Explore wiring states steps log) =
-    explore wiring.bytes.items states steps (option_map (λ s. s.bytes.items) log)
+asked_of (Explore wiring states steps log show) =
+    explore wiring.bytes.items states steps (option_map (λ s. s.bytes.items) log) show
 asked_of (Replay wiring log) = replay wiring.bytes.items log.bytes.items
 asked_of (Where wiring log events) = whereabouts wiring.bytes.items log.bytes.items events
 asked_of (Dis image kind) = dis image.bytes.items kind
@@ -151,10 +159,17 @@ run_in rows = run (text_at (codes "wiring") rows) (options_in (codes "rounds") r
 abbrev pub free_in : List Row → Asked
 free_in rows = free (text_at (codes "wiring") rows) (options_in (codes "turns") rows) (first_of (codes "log") rows)
 
-abbrev pub explore_in : List Row → Asked
+-- what a word of `--show` stands for, if for anything
+abbrev pub show_of : Text → Option Show
+show_of word =
+    if bytes_eq word (codes "dump") then Some Dump else if bytes_eq word (codes "none") then Some Nothing else None
+
+-- where it stands for something
+abbrev pub explore_in : List Row → Option Asked
 explore_in rows =
-    explore (text_at (codes "wiring") rows) (number_at (codes "states") rows) (number_at (codes "steps") rows)
-    (first_of (codes "log") rows)
+    option_map
+    (explore (text_at (codes "wiring") rows) (number_at (codes "states") rows) (number_at (codes "steps") rows)
+    (first_of (codes "log") rows)) (show_of (text_at (codes "show") rows))
 
 abbrev pub replay_in : List Row → Asked
 replay_in rows = replay (text_at (codes "wiring") rows) (text_at (codes "log") rows)
@@ -170,13 +185,13 @@ kind_in rows = if number_at (codes "kind") rows == 2 then Two else One
 abbrev pub dis_in : List Row → Asked
 dis_in rows = dis (text_at (codes "image") rows) (kind_in rows)
 
--- what the arguments of a command ask for
+-- what the arguments of a command ask for, where they ask for anything
 abbrev pub command_in : Option (Text × List Row) → Option Asked
 command_in None = None
 command_in (Some (name, rows)) =
     if bytes_eq name (codes "run") then Some (run_in rows)
     else if bytes_eq name (codes "free") then Some (free_in rows)
-    else if bytes_eq name (codes "explore") then Some (explore_in rows)
+    else if bytes_eq name (codes "explore") then explore_in rows
     else if bytes_eq name (codes "replay") then Some (replay_in rows)
     else if bytes_eq name (codes "where") then Some (where_in rows)
     else if bytes_eq name (codes "dis") then Some (dis_in rows)
@@ -200,9 +215,14 @@ command_without_help words = command_in (subcommand_of program words)
 abbrev pub command_of : List Text → Option Asked
 command_of words = command_without_help (with_help_option words)
 
+-- why what the parser takes is refused: it asks for nothing, by a word of `--show` that stands for nothing
+abbrev pub unread : Option Asked → Kinds
+unread (Some asked) = []
+unread None = InvalidValue ∷ []
+
 -- why words with no `help` are refused: help is asked for by `--help`, or they are a mistake
 abbrev pub refusals_without_help : List Text → Kinds
-refusals_without_help words = fault_of program words
+refusals_without_help words = or_else (fault_of program words) (unread (command_without_help words))
 
 -- why the words are refused: help is asked for, or they are a mistake; none where they are taken
 abbrev pub refusals : List Text → Kinds
@@ -217,7 +237,7 @@ pub record AreOptions (o : Options) : Type 0 where
 abbrev pub IsInRange : Command → Type 0
 IsInRange (Run wiring options log) = AreOptions options
 IsInRange (Free wiring options log) = AreOptions options
-IsInRange (Explore wiring states steps log) = Unit {0}
+IsInRange (Explore wiring states steps log show) = Unit {0}
 IsInRange (Replay wiring log) = Unit {0}
 IsInRange (Where wiring log events) = Unit {0}
 IsInRange (Dis image kind) = Unit {0}
@@ -244,7 +264,7 @@ pub record IsRun (id : Text) (rows : List Row) : Type 0 where
 abbrev pub IsExplore : List Row → Type 0
 IsExplore rows =
     HasText (codes "wiring") rows × HasNumber 0 4294967295 (codes "states") rows
-    × HasNumber 0 9223372036854775807 (codes "steps") rows
+    × HasNumber 0 9223372036854775807 (codes "steps") rows × HasText (codes "show") rows
 
 abbrev pub IsReplay : List Row → Type 0
 IsReplay rows = HasText (codes "wiring") rows × HasText (codes "log") rows
@@ -306,19 +326,20 @@ example_free_defaults = refl
 
 -- all states, or so many; all steps, or so many
 example_explore : command_of (codes "temu" ∷ codes "explore" ∷ codes "pair.toml" ∷ [])
-    ≡ Some (explore (codes "pair.toml") 1000000 9223372036854775807 None)
+    ≡ Some (explore (codes "pair.toml") 1000000 9223372036854775807 None Dump)
 unfolding clap_on_literals
 example_explore = refl
 
 example_explore_some : command_of (codes "temu" ∷ codes "explore" ∷ codes "--steps=4294967296" ∷ codes "pair.toml"
     ∷ codes "--states" ∷ codes "0" ∷ [])
-    ≡ Some (explore (codes "pair.toml") 0 4294967296 None)
+    ≡ Some (explore (codes "pair.toml") 0 4294967296 None Dump)
 unfolding clap_on_literals
 example_explore_some = refl
 
--- with logs
-example_explore_log : command_of (codes "temu" ∷ codes "explore" ∷ codes "--log=found" ∷ codes "pair.toml" ∷ [])
-    ≡ Some (explore (codes "pair.toml") 1000000 9223372036854775807 (Some (codes "found")))
+-- with logs, and no dumps
+example_explore_log : command_of (codes "temu" ∷ codes "explore" ∷ codes "--log=found" ∷ codes "pair.toml"
+    ∷ codes "--show" ∷ codes "none" ∷ [])
+    ≡ Some (explore (codes "pair.toml") 1000000 9223372036854775807 (Some (codes "found")) Nothing)
 unfolding clap_on_literals
 example_explore_log = refl
 
@@ -375,6 +396,11 @@ example_states : refusals
     ≡ ValueValidation ∷ []
 unfolding clap_on_literals
 example_states = refl
+
+example_show : refusals (codes "temu" ∷ codes "explore" ∷ codes "pair.toml" ∷ codes "--show" ∷ codes "all" ∷ [])
+    ≡ InvalidValue ∷ []
+unfolding clap_on_literals
+example_show = refl
 
 example_kind : refusals (codes "temu" ∷ codes "dis" ∷ codes "--kind" ∷ codes "3" ∷ codes "first.img" ∷ [])
     ≡ ValueValidation ∷ []

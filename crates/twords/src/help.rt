@@ -124,6 +124,10 @@ memories, sources and sinks as `temu run` prints them:
   outcome 3 stuck                        a message is offered that nobody takes
   outcome 4 freeze 0 InTransit #8000009b node 0 broke this rule, with the instruction at this address
 
+Where an earlier outcome agrees with one in all but the bytes of some lines of memories, `as 1 but`
+tells its number in place of the whole, and below it stand just the lines that differ, those of a
+node behind the node's own line. With `--show none` nothing stands below the headings.
+
 Behind them `endless`, where a run was found that goes on for ever (there may be one where it is not
 told). Last `end outcomes 2 states 13`: these 2 are all, and from 13 states several steps were tried,
 from 0 where there was one path alone; or `end cut outcomes 2 states 13`, where the limit of states

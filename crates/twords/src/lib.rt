@@ -5,4 +5,4 @@ mod help;
 mod help_words;
 pub mod words;
 
-pub use words::{Command, CommandFault, read_words};
+pub use words::{Command, CommandFault, Show, read_words};

@@ -1,7 +1,9 @@
 //! The words of a command line, and what they ask for.
 
-ghost use Rattle.std.specs.Prelude.{◌≡◌, IfOk, Some, codes, map, option_map};
-ghost use Rattle.clap.specs.Words.{FailsBy, app_of, first_of, found_of, rows_of, rule_of};
+ghost use Rattle.std.specs.Prelude.{◌≡◌, IfOk, IfSome, Some, codes, map, option_map};
+ghost use Rattle.clap.specs.Values.{kind_of};
+ghost use Rattle.clap.specs.Words.{FailsBy, app_of, fault_of, first_of, found_of, rows_of, rule_of};
+ghost use Rattle.clap.specs.declared.error.kind.ErrorKind.TheVariants.{InvalidValue};
 ghost use Rattle.clap.specs.declared.builder.command.Command.TheViews.{out-Command as fields_of};
 ghost use Rattle.twords.specs.CommandLines as spec;
 ghost use Rattle.twords.specs.CommandLines.{IsInRange, asked_of, command_of, refusals};
@@ -9,6 +11,7 @@ ghost use Rattle.twords.specs.CommandLines.{IsInRange, asked_of, command_of, ref
 use crate::help::{self, RunHelp};
 use crate::help_words::with_help_option;
 use clap::builder::ValueParser;
+use clap::error::ErrorKind;
 use clap::{Arg, ArgMatches, Command as Parser, value_parser};
 use std::alloc::{AllocError, Global};
 use tplan::Options;
@@ -17,6 +20,15 @@ use tword::Kind;
 /// Why no command was read: help was asked for, or the words are a mistake, or there was no memory (`kind`).
 /// `print` writes its text where `use_stderr` says.
 pub type CommandFault = clap::Error;
+
+/// What `explore` shows of each outcome below its heading.
+#[derive(Clone, Copy, Debug, PartialEq, Eq)]
+pub enum Show {
+    /// Its dump.
+    Dump,
+    /// Nothing.
+    Nothing,
+}
 
 /// What a command line asks for.
 #[derive(Debug, Drop)]
@@ -43,6 +55,8 @@ pub enum Command {
         steps: u64,
         /// What the names of the log files begin with, one of each outcome, where logs are asked for.
         log: Option<String>,
+        /// What is shown of each outcome.
+        show: Show,
     },
     /// Does the events of a log file on the net of a wiring file.
     Replay {
@@ -83,6 +97,20 @@ fn read_without_help(alloc: Global, words: &[&str]) -> Result<Command, CommandFa
     ensures range { IfOk result IsInRange }
     ensures refused { FailsBy (spec.refusals_without_help (map (λ w. w.now) words.now)) result }
 {
+    match read_taken(alloc, words) {
+        Ok(Some(command)) => Ok(command),
+        Ok(None) => Err(refused_show(alloc)?),
+        Err(fault) => Err(fault),
+    }
+}
+
+/// What words ask for that the parser takes; nothing where a word of `--show` stands for nothing.
+fn read_taken(alloc: Global, words: &[&str]) -> Result<Option<Command>, CommandFault>
+    ensures command { IfOk result (λ c. spec.command_without_help (map (λ w. w.now) words.now)
+        ≡ option_map asked_of c) }
+    ensures range { IfOk result (λ c. IfSome c IsInRange) }
+    ensures refused { FailsBy (fault_of spec.program (map (λ w. w.now) words.now)) result }
+{
     let matches = program(alloc)?.try_get_matches_from(words)?;
     let Some((name, given)) = matches.subcommand() else {
         unreachable!()
@@ -90,25 +118,35 @@ fn read_without_help(alloc: Global, words: &[&str]) -> Result<Command, CommandFa
     Ok(asked(alloc, name, given)?)
 }
 
-/// What the arguments of the command of this name ask for.
-fn asked(alloc: Global, name: &str, given: &ArgMatches) -> Result<Command, AllocError>
+/// The fault of a word of `--show` that stands for nothing.
+fn refused_show(alloc: Global) -> Result<CommandFault, AllocError>
+    ensures { IfOk result (λ fault. kind_of fault ≡ InvalidValue) }
+{
+    explore_parser(alloc)?.bin_name("temu explore")?.error(
+        ErrorKind::InvalidValue,
+        "invalid value for '--show <WHAT>': neither dump nor none",
+    )
+}
+
+/// What the arguments of the command of this name ask for; nothing where a word of `--show` stands for nothing.
+fn asked(alloc: Global, name: &str, given: &ArgMatches) -> Result<Option<Command>, AllocError>
     requires { spec.IsWhole name.now (rows_of (found_of given.now)) }
     ensures command { IfOk result (λ c. spec.command_in (Some (name.now, rows_of (found_of given.now)))
-        ≡ Some (asked_of c)) }
-    ensures range { IfOk result IsInRange }
+        ≡ option_map asked_of c) }
+    ensures range { IfOk result (λ c. IfSome c IsInRange) }
 {
     if name == "run" {
-        run(alloc, given)
+        Ok(Some(run(alloc, given)?))
     } else if name == "free" {
-        free(alloc, given)
+        Ok(Some(free(alloc, given)?))
     } else if name == "explore" {
         explore(alloc, given)
     } else if name == "replay" {
-        replay(alloc, given)
+        Ok(Some(replay(alloc, given)?))
     } else if name == "where" {
-        whereabouts(alloc, given)
+        Ok(Some(whereabouts(alloc, given)?))
     } else {
-        dis(alloc, given)
+        Ok(Some(dis(alloc, given)?))
     }
 }
 
@@ -171,19 +209,45 @@ fn options(given: &ArgMatches, limit: &str) -> Options
     }
 }
 
-/// What the arguments of `explore` ask for.
-fn explore(alloc: Global, given: &ArgMatches) -> Result<Command, AllocError>
+/// What the arguments of `explore` ask for; nothing where the word of `--show` stands for nothing.
+fn explore(alloc: Global, given: &ArgMatches) -> Result<Option<Command>, AllocError>
     requires { spec.IsExplore (rows_of (found_of given.now)) }
-    ensures { IfOk result (λ c. asked_of c ≡ spec.explore_in (rows_of (found_of given.now))) }
+    ensures command { IfOk result (λ c. option_map asked_of c ≡ spec.explore_in (rows_of (found_of given.now))) }
+    ensures range { IfOk result (λ c. IfSome c IsInRange) }
 {
+    let Some(show) = shown(given) else {
+        return Ok(None);
+    };
     let wiring = file(alloc, given, "wiring")?;
     let prefix = optional_file(alloc, given, "log")?;
-    Ok(Command::Explore {
+    Ok(Some(Command::Explore {
         wiring,
         states: number(given, "states"),
         steps: long_number(given, "steps"),
         log: prefix,
-    })
+        show,
+    }))
+}
+
+/// What the word of `--show` stands for, if for anything.
+fn shown(given: &ArgMatches) -> Option<Show>
+    requires { spec.HasText (codes "show") (rows_of (found_of given.now)) }
+    ensures { result ≡ spec.show_of (spec.text_at (codes "show") (rows_of (found_of given.now))) }
+{
+    show_of(given.get_str("show").unwrap())
+}
+
+/// What a word stands for, if for anything.
+fn show_of(word: &str) -> Option<Show>
+    ensures { result ≡ spec.show_of word.now }
+{
+    if word == "dump" {
+        Some(Show::Dump)
+    } else if word == "none" {
+        Some(Show::Nothing)
+    } else {
+        None
+    }
 }
 
 /// What the arguments of `replay` ask for.
@@ -352,8 +416,9 @@ fn explore_parser<'a>(alloc: Global) -> Result<Parser<'a>, AllocError>
         .arg(log_arg(
             alloc,
             "PREFIX",
-            "Writes a log of each outcome, by which `replay` comes to it, into PREFIX1.log, PREFIX2.log, ..",
-        ))
+            "Writes a log of each outcome and freeze, for `replay` and `where`: PREFIX1.log, PREFIX2.log, ..",
+        ))?
+        .arg(show_arg(alloc))
 }
 
 /// The words of `replay`.
@@ -434,6 +499,18 @@ fn log_arg<'a>(alloc: Global, name: &'a str, help: &'a str) -> Arg<'a>
         .long("log")
         .value_name(name)
         .help(help)
+}
+
+/// `--show WHAT`.
+fn show_arg<'a>(alloc: Global) -> Arg<'a>
+    ensures rule { rule_of result ≡ spec.text_rule (codes "show") (codes "dump") }
+    ensures local { spec.IsLocal result }
+{
+    Arg::new(alloc, "show")
+        .long("show")
+        .value_name("WHAT")
+        .default_value("dump")
+        .help("What is shown of each outcome: dump, or none for the headings alone")
 }
 
 /// `--workers N`.

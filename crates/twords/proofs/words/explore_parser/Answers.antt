@@ -2,7 +2,7 @@ use Rattle.std.proofs.Common.{rules, codes, List, []}
 use Rattle.std.proofs.lemmas.Result.{IfOk-weaker}
 use Rattle.clap.specs.Words.{Rule, Shape}
 use Rattle.clap.specs.Simple.{new_shape}
-use Rattle.twords.specs.CommandLines.{HasShape, between, file_rule, number_rule, option_rule}
+use Rattle.twords.specs.CommandLines.{HasShape, between, file_rule, number_rule, option_rule, text_rule}
 use Rattle.twords.proofs.WordParsers.{adds}
 use Rattle.twords.proofs.words.explore_parser.Goals as goal
 
@@ -24,6 +24,8 @@ returns c =
     c.states_arg.ensures.rule c.states_arg.ensures.local one in
     let three = adds _ _ c.steps_arg.result steps c.in_ok-arg-3.field-0 (c.in_ok-arg-3.ensures)
     c.steps_arg.ensures.rule c.steps_arg.ensures.local two in
-    IfOk-weaker c.arg-4.result _ _
-    (λ r h. adds _ _ c.log_arg.result (option_rule (codes "log")) r h c.log_arg.ensures.rule c.log_arg.ensures.local
-    three) c.arg-4.ensures
+    let four = adds _ _ c.log_arg.result (option_rule (codes "log")) c.in_ok-arg-4.field-0 (c.in_ok-arg-4.ensures)
+    c.log_arg.ensures.rule c.log_arg.ensures.local three in
+    IfOk-weaker c.arg-5.result _ _
+    (λ r h. adds _ _ c.show_arg.result (text_rule (codes "show") (codes "dump")) r h c.show_arg.ensures.rule
+    c.show_arg.ensures.local four) c.arg-5.ensures
