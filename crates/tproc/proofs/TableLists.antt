@@ -69,7 +69,7 @@ total_of (x ∷ xs) =
     (λ r k. omega (arith, total_of xs)) (λ k e. omega (arith, total_of xs)) (λ k e. omega (arith, total_of xs))
 
 -- so where no two of the lists share a workspace, no two of the table do
-lists_times : (t : List Entry) (w : ℕ) → occurs w (workspaces t) ≡ occurs w (workspaces_in (lists_of t))
+pub lists_times : (t : List Entry) (w : ℕ) → occurs w (workspaces t) ≡ occurs w (workspaces_in (lists_of t))
 lists_times t w =
     omega (
       arith,

@@ -7,10 +7,12 @@ ghost use Rattle.tword.specs.Accesses.{without_output, without_input};
 ghost use Rattle.tword.specs.declared.breaks.Break.TheVariants.{SavedWord};
 ghost use Rattle.tword.specs.Stores.{word_at, with_word, with_cells, cells, as_cells, byte_at};
 ghost use Rattle.tword.specs.Claims.{saving, has_saved, saved_words, overlap};
-ghost use Rattle.tword.specs.Touches.{Reads, Writes, span_break, word_break, copy_break, deschedule_break};
+ghost use Rattle.tword.specs.Touches.{Reads, Writes, claim_break, span_break, word_break, copy_break};
+ghost use Rattle.tword.specs.Touches.{deschedule_break};
 ghost use Rattle.tword.specs.Touches.{is_inside, byte_span};
 ghost use Rattle.tword.specs.Words.{word_below};
 ghost use Rattle.tword.specs.Actions.{or_break, is_slot, unmet};
+ghost use Rattle.tproc.specs.Placement.{IsWorkspace};
 ghost use Rattle.tproc.specs.Requests.{may_touch};
 
 use crate::workspace::below;
@@ -200,6 +202,18 @@ impl ClaimedMemory {
     #[tactic(auto, using(crate::proofs::Touching::claimable, crate::proofs::Touching::unclaimed))]
     pub fn deschedule(&mut self, workspace: Word)
         requires free { deschedule_break (length self.old.memory) self.old.marks workspace ≡ None }
+        requires room { length self.old.marks.saved < 512 }
+        ensures cells { self.new.memory ≡ self.old.memory }
+        ensures claims { self.new.marks ≡ saving workspace self.old.marks }
+    {
+        self.marks.claim_saved_known(workspace);
+    }
+
+    /// Saves the words of a workspace that lie in the memory, where no claim has a byte of them.
+    #[tactic(auto, using(crate::proofs::Packing::claimable_there))]
+    pub fn save(&mut self, workspace: Word)
+        requires there { IsWorkspace (length self.old.memory) workspace }
+        requires free { claim_break self.old.marks Writes (saved_words workspace) ≡ None }
         requires room { length self.old.marks.saved < 512 }
         ensures cells { self.new.memory ≡ self.old.memory }
         ensures claims { self.new.marks ≡ saving workspace self.old.marks }

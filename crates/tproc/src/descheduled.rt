@@ -69,6 +69,13 @@ impl Descheduled {
         })
     }
 
+    /// Whether these are the processes of the table, in the order in which they came. Where it says so, they are.
+    pub fn has_just(&self, entries: &[Entry]) -> bool
+        ensures { result ≡ true → lists_of entries.now ≡ self.now }
+    {
+        self.table.is_just(entries)
+    }
+
     /// How many there are.
     #[inline]
     pub fn len(&self) -> usize

@@ -5,6 +5,7 @@ ghost use Rattle.std.specs.Prelude.{vec_len, vec_capacity, IfOk, IfSome, None};
 ghost use Rattle.tproc.specs.Entries.{present, is_entry_of, AreSavedOf, IsEntryAt, ShareNoWorkspace};
 
 use crate::claimed_memory::ClaimedMemory;
+use crate::equal::same_entry;
 use crate::hints::Hints;
 use crate::state::workspace_of;
 use crate::waiter::Entry;
@@ -95,6 +96,22 @@ impl ProcessTable {
             }
         }
         Ok(all)
+    }
+
+    /// Whether these are all of them, in the order in which they came. Where it says so, they are.
+    pub fn is_just(&self, entries: &[Entry]) -> bool
+        ensures { result ≡ true → entries.now ≡ self.now }
+    {
+        let mut rest = entries;
+        for entry in self.entries.as_slice() {
+            if let Some(entry) = entry {
+                match rest {
+                    [first, others @ ..] if same_entry(*first, *entry) => rest = others,
+                    _ => return false,
+                }
+            }
+        }
+        rest.is_empty()
     }
 
     /// The entry of a process. All of the table have their words saved, so that a process that runs is not sought.
