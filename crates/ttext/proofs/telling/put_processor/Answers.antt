@@ -6,4 +6,4 @@ pub returns : goal.returns
 returns g c =
     tells_as c.put_processor_dump.ensures
     (processor_dump c.args.number c.args.site.now c.processor.result.now c.broken.result c.know_role.ensures
-    c.processor.ensures c.broken.ensures)
+    c.processor.ensures.machine c.broken.ensures)
