@@ -1,9 +1,11 @@
 -- What is told of configurations: each is told by the first that is one with it, and nothing else is told.
-use Rattle.std.proofs.Common.{◌≡◌, ◌⊎◌, ◌&&◌, ◌||◌, ℕ, zero, suc, refl, sym, ap, subst, ◌∙◌, cond, Bool, true, false}
+use Rattle.std.proofs.Common.{◌≡◌, ◌⊎◌, ◌<◌, ◌&&◌, ◌||◌, ℕ, zero, suc, refl, sym, ap, subst, ◌∙◌, cond, Bool, true, false}
 use Rattle.std.proofs.Common.{List, [], ◌∷◌, ◌++◌, Option, Some, None, inl, inr, arith, true≢false}
-use Rattle.std.specs.Prelude.{map, fold, Contains, slice_get}
+use Rattle.std.proofs.Common.{get_or, length}
+use Rattle.std.specs.Prelude.{map, fold, AllPairs, Contains, slice_get}
 use Rattle.std.specs.List.{list_any}
 use Rattle.std.proofs.lemmas.List.Elements.{Contains-append_left, Contains-push, Contains-push_cases}
+use Rattle.std.proofs.lemmas.List.Quantifiers.{all_pairs_push}
 use Rattle.std.proofs.lemmas.Slice.Eq.{bytes_eq-Decides}
 use Rattle.tword.specs.declared.breaks.Break.{Break}
 use Rattle.tnet.specs.Rendezvous.{Node, Configuration}
@@ -23,6 +25,14 @@ contains_first x ys = (0, omega arith, refl)
 
 pub contains_later : {A : Type 0} (x y : A) (ys : List A) → Contains ys x → Contains (y ∷ ys) x
 contains_later x y ys (k, within, is) = (suc k, omega (arith, within), is)
+
+or_left : (a b : Bool) → (a || b) ≡ false → a ≡ false
+or_left true b e = e
+or_left false b e = refl
+
+or_right : (a b : Bool) → (a || b) ≡ false → b ≡ false
+or_right true b e = absurd (true≢false e)
+or_right false b e = e
 
 -- one of a list has something
 found : {A : Type 0} (test : A → Bool) (xs : List A) → list_any test xs ≡ true → (x : A) × Contains xs x × (test x ≡ true)
@@ -148,6 +158,36 @@ told_of shown t h = elim (from_all (map telling shown) [] t h) [
   | inl none ↦ absurd (omega (arith, none.1))
   | inr here ↦ of_map telling shown t here
 ]
+
+-- ---- each is told once
+
+-- none of a list has something
+none_has : {A : Type 0} (test : A → Bool) (xs : List A) → list_any test xs ≡ false → (k : ℕ) (d : A) → k < length xs
+    → test (get_or xs k d) ≡ false
+none_has test [] e k d within = absurd (omega (arith, within))
+none_has test (x ∷ xs) e zero d within = or_left (test x) (list_any test xs) e
+none_has test (x ∷ xs) e (suc k) d within =
+    none_has test xs (or_right (test x) (list_any test xs) e) k d (omega (arith, within))
+
+abbrev pub AreApart : List Telling → Type 0
+AreApart ts = AllPairs (λ earlier later. is_one earlier later ≡ false) ts
+
+apart_one : (x : Telling) (told : List Telling) → AreApart told → AreApart (with_telling told x)
+apart_one x told h = by (list_any (λ earlier. is_one earlier x) told) refl
+  where
+    by : (b : Bool) → list_any (λ earlier. is_one earlier x) told ≡ b → AreApart (cond b told (told ++ x ∷ []))
+    by true is = h
+    by false is =
+        all_pairs_push (λ earlier later. is_one earlier later ≡ false) told x h
+        (none_has (λ earlier. is_one earlier x) told is)
+
+apart_all : (ts told : List Telling) → AreApart told → AreApart (fold with_telling told ts)
+apart_all [] told h = h
+apart_all (x ∷ xs) told h = apart_all xs (with_telling told x) (apart_one x told h)
+
+-- no two of those that are told are one
+pub told_once : (shown : List Configuration) → AreApart (tellings shown)
+told_once shown = apart_all (map telling shown) [] (λ i j d below within. absurd (omega (arith, within)))
 
 -- ---- of configurations
 

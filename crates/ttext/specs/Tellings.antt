@@ -49,8 +49,8 @@ offers s = offers_at_link s || offers_within (waiting s)
 abbrev pub waits : Node → Bool
 waits s = nat_lt 0 (length (waiting s))
 
--- how it ends where no node is frozen: a message is offered that nobody takes, or processes wait, all of them for
--- messages, or no process is left
+-- how it ends where no node is frozen: a message is offered that nobody takes, or else processes wait, all of them for
+-- messages, or else no process waits
 abbrev pub rest_text : List Node → List ℕ
 rest_text nodes =
     if list_any offers nodes then codes "stuck" else if list_any waits nodes then codes "idle" else codes "ended"
