@@ -15,6 +15,7 @@ pub handed_on : {A B : Type 0} (a : Result A Fault) (b : Result B Fault) → ((f
     → (f : Fault) → IsFaultOf a f → IsDue b f
 handed_on a b to fault.Memory h = tt
 handed_on a b to (fault.Output w) h = absurd h
+handed_on a b to fault.NoLog h = to fault.NoLog h
 handed_on a b to (fault.File n) h = to (fault.File n) h
 handed_on a b to (fault.Wiring w) h = to (fault.Wiring w) h
 handed_on a b to (fault.Image n i) h = to (fault.Image n i) h

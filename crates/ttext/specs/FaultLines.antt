@@ -96,15 +96,17 @@ fault_words (fault.Rounds f) = rounds_words f
 fault_words (fault.Log f) = log_words f
 fault_words (fault.Replay f) = replay_words f
 fault_words (fault.Output f) = codes "output" ∷ []
+fault_words fault.NoLog = codes "no log" ∷ []
 fault_words fault.Memory = memory_words
 
 -- the line of a fault
 abbrev pub fault_line : Fault → List ℕ
 fault_line f = line (codes "temu: " ++ words (fault_words f))
 
--- 3 where the output failed, 4 where there was no memory, else the input was bad
+-- 3 where the output failed or no log was found, 4 where there was no memory, else the input was bad
 abbrev pub status_of : Fault → ℕ
 status_of (fault.Output f) = 3
+status_of fault.NoLog = 3
 status_of fault.Memory = 4
 status_of (fault.Wiring wiring.OutOfMemory) = 4
 status_of (fault.Image n image.OutOfMemory) = 4

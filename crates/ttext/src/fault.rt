@@ -38,6 +38,9 @@ pub enum Fault {
     /// The output failed.
     #[error("{0}")]
     Output(WriteFault),
+    /// No log was found of an outcome or freeze that an exploration tells.
+    #[error("no log was found")]
+    NoLog,
     /// The allocator refused.
     #[error("out of memory")]
     Memory,

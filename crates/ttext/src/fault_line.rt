@@ -18,7 +18,7 @@ use tplan::{BuildFault, WiringFault};
 use trounds::{NetFault, ReplayFault};
 
 /// Writes the line of a fault (own choice of format), as `temu: net N6 EndTwice 1`, and answers the exit status of
-/// the program: 2 for bad input, 3 where the output failed, 4 where there was no memory.
+/// the program: 2 for bad input, 3 where the output failed or no log was found, 4 where there was no memory.
 ///
 /// # Errors
 /// Where the writer fails or takes nothing. Just so many of the first bytes are written as the fault tells.
@@ -48,12 +48,13 @@ fn write_line<W: CountedWrite>(fault: &Fault, out: &mut W) -> Result<(), WriteFa
 }
 
 impl Fault {
-    /// The exit status of the program: 2 for bad input, 3 where the output failed, 4 where there was no memory.
+    /// The exit status of the program: 2 for bad input, 3 where the output failed or no log was found, 4 where there
+    /// was no memory.
     pub fn status(&self) -> u8
         ensures { result ≡ spec.status_of self.now }
     {
         match self {
-            Fault::Output(_) => 3,
+            Fault::Output(_) | Fault::NoLog => 3,
             Fault::Memory
             | Fault::Wiring(WiringFault::OutOfMemory)
             | Fault::Image(_, ImageFault::OutOfMemory)
@@ -82,6 +83,7 @@ fn put_fault<W: CountedWrite>(out: &mut Output<'_, W>, fault: &Fault)
         Fault::Log(fault) => put_log_fault(out, *fault),
         Fault::Replay(fault) => put_replay_fault(out, *fault),
         Fault::Output(_) => out.put(b"output"),
+        Fault::NoLog => out.put(b"no log"),
         Fault::Memory => out.put(b"memory"),
     }
 }
