@@ -4,10 +4,12 @@
 
 mod commands;
 mod log_file;
+mod progress;
 mod streams;
 mod words;
 
 use crate::commands::do_command;
+use crate::progress::ProgressLine;
 use crate::streams::Missing;
 use crate::words::{WordFault, given_words};
 use clap::error::ErrorKind;
@@ -20,7 +22,7 @@ fn main(rt: HostRuntime) -> ExitCode {
     let _missing = Missing::fill(&rt);
     match given_words(&rt) {
         Ok(words) => match command(&rt, words.as_slice()) {
-            Ok(command) => end(&rt, do_command(&rt, &command)),
+            Ok(command) => end(&rt, do_command(&rt, &command, &mut ProgressLine::new(&rt))),
             Err(fault) => refuse(&rt, &fault),
         },
         Err(WordFault::NotText(place)) => refuse_word(&rt, place),
