@@ -7,6 +7,7 @@ pub mod ToldOnce
 mod EntryTests
 mod Headings
 mod OutcomeLists
+mod StandingLists
 mod Lines
 mod RoleDumps
 mod Explorations

@@ -1,7 +1,7 @@
 -- What is told of configurations: each is told by the first that is one with it, and nothing else is told.
-use Rattle.std.proofs.Common.{◌≡◌, ◌⊎◌, ◌<◌, ◌&&◌, ◌||◌, ℕ, zero, suc, refl, sym, ap, subst, ◌∙◌, cond, Bool, true, false}
+use Rattle.std.proofs.Common.{◌≡◌, ◌⊎◌, ◌&&◌, ◌||◌, ℕ, zero, suc, refl, sym, ap, subst, ◌∙◌, cond, Bool, true, false}
 use Rattle.std.proofs.Common.{List, [], ◌∷◌, ◌++◌, Option, Some, None, inl, inr, arith, true≢false}
-use Rattle.std.proofs.Common.{get_or, length}
+use Rattle.std.proofs.Common.{◌<◌, get_or, length}
 use Rattle.std.specs.Prelude.{map, fold, AllPairs, Contains, slice_get}
 use Rattle.std.specs.List.{list_any}
 use Rattle.std.proofs.lemmas.List.Elements.{Contains-append_left, Contains-push, Contains-push_cases}

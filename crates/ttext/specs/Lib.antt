@@ -10,3 +10,4 @@ pub mod Tellings
 pub mod Differences
 pub mod Explores
 pub mod Logged
+pub mod Standings

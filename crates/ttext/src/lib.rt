@@ -6,6 +6,7 @@
 //! - `telling`, `exploring`: what is told of outcomes, and the text of an exploration
 //! - `differing`: in which lines two dumps differ
 //! - `logging`: logs of how a net comes to the outcomes that are told of it
+//! - `standings`: the text of an exploration with where the net stands at each outcome
 //! - `commands`: the commands, from the bytes of their files to what they write
 //! - `verdict`: what commands come to, as their exit statuses tell
 //! - `fault`, `fault_line`, `name`: what may be wrong with the files, and the line that says so
@@ -22,6 +23,7 @@ mod name;
 mod opened;
 pub mod replaying;
 pub mod run;
+pub mod standings;
 pub mod telling;
 pub mod verdict;
 pub mod wheres;
@@ -34,6 +36,7 @@ pub use free::free_text;
 pub use logging::{Logged, explore_logged, write_outcome_log};
 pub use replaying::replay_text;
 pub use run::run_text;
+pub use standings::explore_where;
 pub use telling::Telling;
 pub use verdict::Verdict;
 pub use wheres::where_text;

@@ -27,13 +27,13 @@ text_read m id None e h =
     absurd (true≢false (sym bad))
 text_read m id (Some s) e h = (s, refl, ap (λ o. option_map_or (λ t. t) o []) (e ∙ first_value-rows (found_of m) id))
 
--- a number, as a getter of a type of so many bits reads it
+-- a number of a range, as a getter of a type of so many bits reads it
 pub number_read : (E : Type 0) (G : List ℕ → Result ℕ E → Type 0) (bits most : ℕ) (m : ArgMatches) (id : Text)
     (r : Option ℕ)
     → ((t : Text) → one_text (found_of m) id ≡ Some t → ReadsOne G t r)
     → ((u : List ℕ) (x : Result ℕ E) → G u x → ParsesUnsigned bits 10 u x) → most < 2 ^ bits
     → HasNumber 0 most id (rows_of (found_of m)) → (n : ℕ) × (r ≡ Some n)
-    × (n ≡ number_at id (rows_of (found_of m)))
+    × (n ≡ number_at id (rows_of (found_of m))) × (n ≤ most)
 number_read E G bits most m id r gives only fits h =
     let read : ReadsOne G (without_minus h.text) r =
     gives (without_minus h.text) (one_text-rows (found_of m) id ∙ h.read) in
@@ -43,6 +43,7 @@ number_read E G bits most m id r gives only fits h =
       got.1,
       (only (without_minus h.text) (Ok got.0) is).1
           ∙ sym (ap (λ o. option_map_or (λ t. digits_value 10 (without_leading_plus t)) o 0) h.read),
+      got.3,
     )
 
 -- the number of a text in a range

@@ -22,7 +22,7 @@ use Rattle.tplan.specs.declared.options.Options.{Options}
 use Rattle.tword.specs.declared.kind.Kind.{Kind}
 use Rattle.tword.specs.declared.kind.Kind.TheVariants.{One, Two}
 use Rattle.twords.specs.declared.words.Show.{Show}
-use Rattle.twords.specs.declared.words.Show.TheVariants.{Dump, Nothing}
+use Rattle.twords.specs.declared.words.Show.TheVariants as show
 use Rattle.twords.specs.declared.words.Command.{Command}
 use Rattle.twords.specs.declared.words.Command.TheVariants.{Run, Free, Explore, Replay, Where, Dis}
 
@@ -129,8 +129,8 @@ pub data Asked : Type 0 where
 abbrev pub asked_of : Command → Asked
 asked_of (Run wiring options log) = run wiring.bytes.items options (option_map (λ s. s.bytes.items) log)
 asked_of (Free wiring options log) = free wiring.bytes.items options (option_map (λ s. s.bytes.items) log)
-asked_of (Explore wiring states steps log show) =
-    explore wiring.bytes.items states steps (option_map (λ s. s.bytes.items) log) show
+asked_of (Explore wiring states steps log what) =
+    explore wiring.bytes.items states steps (option_map (λ s. s.bytes.items) log) what
 asked_of (Replay wiring log) = replay wiring.bytes.items log.bytes.items
 asked_of (Where wiring log events) = whereabouts wiring.bytes.items log.bytes.items events
 asked_of (Dis image kind) = dis image.bytes.items kind
@@ -162,7 +162,10 @@ free_in rows = free (text_at (codes "wiring") rows) (options_in (codes "turns") 
 -- what a word of `--show` stands for, if for anything
 abbrev pub show_of : Text → Option Show
 show_of word =
-    if bytes_eq word (codes "dump") then Some Dump else if bytes_eq word (codes "none") then Some Nothing else None
+    if bytes_eq word (codes "dump") then Some show.Dump
+    else if bytes_eq word (codes "where") then Some show.Where
+    else if bytes_eq word (codes "none") then Some show.Nothing
+    else None
 
 -- where it stands for something
 abbrev pub explore_in : List Row → Option Asked
@@ -234,12 +237,13 @@ pub record AreOptions (o : Options) : Type 0 where
   pub rounds : o.rounds ≤ 4294967295
   pub slice : (1 ≤ o.slice) × (o.slice ≤ 65536)
 
+-- and so do the numbers of a command
 abbrev pub IsInRange : Command → Type 0
 IsInRange (Run wiring options log) = AreOptions options
 IsInRange (Free wiring options log) = AreOptions options
-IsInRange (Explore wiring states steps log show) = Unit {0}
+IsInRange (Explore wiring states steps log what) = (states ≤ 4294967295) × (steps ≤ 9223372036854775807)
 IsInRange (Replay wiring log) = Unit {0}
-IsInRange (Where wiring log events) = Unit {0}
+IsInRange (Where wiring log events) = events ≤ 4294967295
 IsInRange (Dis image kind) = Unit {0}
 
 -- ---- what the private functions speak of
@@ -326,20 +330,27 @@ example_free_defaults = refl
 
 -- all states, or so many; all steps, or so many
 example_explore : command_of (codes "temu" ∷ codes "explore" ∷ codes "pair.toml" ∷ [])
-    ≡ Some (explore (codes "pair.toml") 1000000 9223372036854775807 None Dump)
+    ≡ Some (explore (codes "pair.toml") 1000000 9223372036854775807 None show.Dump)
 unfolding clap_on_literals
 example_explore = refl
 
 example_explore_some : command_of (codes "temu" ∷ codes "explore" ∷ codes "--steps=4294967296" ∷ codes "pair.toml"
     ∷ codes "--states" ∷ codes "0" ∷ [])
-    ≡ Some (explore (codes "pair.toml") 0 4294967296 None Dump)
+    ≡ Some (explore (codes "pair.toml") 0 4294967296 None show.Dump)
 unfolding clap_on_literals
 example_explore_some = refl
+
+-- where the net stands
+example_explore_where : command_of (codes "temu" ∷ codes "explore" ∷ codes "pair.toml" ∷ codes "--show" ∷ codes "where"
+    ∷ [])
+    ≡ Some (explore (codes "pair.toml") 1000000 9223372036854775807 None show.Where)
+unfolding clap_on_literals
+example_explore_where = refl
 
 -- with logs, and no dumps
 example_explore_log : command_of (codes "temu" ∷ codes "explore" ∷ codes "--log=found" ∷ codes "pair.toml"
     ∷ codes "--show" ∷ codes "none" ∷ [])
-    ≡ Some (explore (codes "pair.toml") 1000000 9223372036854775807 (Some (codes "found")) Nothing)
+    ≡ Some (explore (codes "pair.toml") 1000000 9223372036854775807 (Some (codes "found")) show.Nothing)
 unfolding clap_on_literals
 example_explore_log = refl
 

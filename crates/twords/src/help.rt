@@ -122,11 +122,13 @@ memories, sources and sinks as `temu run` prints them:
   outcome 1 ended                        no process waits any more
   outcome 2 idle                         processes wait, all of them for messages
   outcome 3 stuck                        a message is offered that nobody takes
-  outcome 4 freeze 0 InTransit #8000009b node 0 broke this rule, with the instruction at this address
+  outcome 4 freeze 0 InTransit #8000009b node 0 broke this rule, at this instruction if there is one
 
 Where an earlier outcome agrees with one in all but the bytes of some lines of memories, `as 1 but`
 tells its number in place of the whole, and below it stand just the lines that differ, those of a
-node behind the node's own line. With `--show none` nothing stands below the headings.
+node behind the node's own line. With `--show where` it tells in place of the memories where the
+processes and links stand, as `temu where` does, of each outcome whole; with `--show none` nothing
+stands below the headings.
 
 Behind them `endless`, where a run was found that goes on for ever (there may be one where it is not
 told). Last `end outcomes 2 states 13`: these 2 are all, and from 13 states several steps were tried,
@@ -137,7 +139,8 @@ Each run by `temu run` or `temu free` that ends quiet, with no frozen node, ends
 outcomes. A run is followed up to its first freeze: where some run freezes a node at least one freeze
 is told, but not each of them.
 
-Exit status: 0 there is one outcome, and no freeze; 1 there are others; 5 the exploration was cut.
+Exit status: 0 there is one outcome, and no freeze; 1 there is a freeze, or not just one outcome;
+5 the exploration was cut.
 
 Example:
   temu explore pair.toml --states 100000";

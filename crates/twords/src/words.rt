@@ -1,6 +1,6 @@
 //! The words of a command line, and what they ask for.
 
-ghost use Rattle.std.specs.Prelude.{◌≡◌, IfOk, IfSome, Some, codes, map, option_map};
+ghost use Rattle.std.specs.Prelude.{◌≡◌, ◌≤◌, IfOk, IfSome, Some, codes, map, option_map};
 ghost use Rattle.clap.specs.Values.{kind_of};
 ghost use Rattle.clap.specs.Words.{FailsBy, app_of, fault_of, first_of, found_of, rows_of, rule_of};
 ghost use Rattle.clap.specs.declared.error.kind.ErrorKind.TheVariants.{InvalidValue};
@@ -26,6 +26,8 @@ pub type CommandFault = clap::Error;
 pub enum Show {
     /// Its dump.
     Dump,
+    /// Where the net stands, as `where` prints it.
+    Where,
     /// Nothing.
     Nothing,
 }
@@ -124,7 +126,7 @@ fn refused_show(alloc: Global) -> Result<CommandFault, AllocError>
 {
     explore_parser(alloc)?.bin_name("temu explore")?.error(
         ErrorKind::InvalidValue,
-        "invalid value for '--show <WHAT>': neither dump nor none",
+        "invalid value for '--show <WHAT>': not dump, where or none",
     )
 }
 
@@ -243,6 +245,8 @@ fn show_of(word: &str) -> Option<Show>
 {
     if word == "dump" {
         Some(Show::Dump)
+    } else if word == "where" {
+        Some(Show::Where)
     } else if word == "none" {
         Some(Show::Nothing)
     } else {
@@ -328,7 +332,8 @@ fn number(given: &ArgMatches, id: &str) -> u32
 /// The number of an option that may be longer.
 fn long_number(given: &ArgMatches, id: &str) -> u64
     requires { spec.HasNumber 0 9223372036854775807 id.now (rows_of (found_of given.now)) }
-    ensures { result ≡ spec.number_at id.now (rows_of (found_of given.now)) }
+    ensures value { result ≡ spec.number_at id.now (rows_of (found_of given.now)) }
+    ensures range { result ≤ 9223372036854775807 }
 {
     given.get_one::<u64>(id).unwrap()
 }
@@ -510,7 +515,7 @@ fn show_arg<'a>(alloc: Global) -> Arg<'a>
         .long("show")
         .value_name("WHAT")
         .default_value("dump")
-        .help("What is shown of each outcome: dump, or none for the headings alone")
+        .help("What is shown of each outcome: dump, where, or none for the headings alone")
 }
 
 /// `--workers N`.
