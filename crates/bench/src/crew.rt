@@ -21,24 +21,25 @@ const RUNS: u32 = 262_144;
 /// What the nodes do.
 #[derive(Clone, Copy, Debug, PartialEq, Eq)]
 pub enum Load {
-    /// All of them compute.
+    /// All nodes compute.
     Computing,
-    /// One message goes round, so that nearly all of them wait.
+    /// One message goes round, so that nearly all nodes wait.
     Waiting,
-    /// Each sends and receives so many messages, and stops.
+    /// Each node sends and receives so many messages, and stops.
     Exchanging,
 }
 
 /// How the workers go on.
 #[derive(Clone, Copy, Debug, PartialEq, Eq)]
 pub enum Manner {
-    /// In rounds, each of which all of them end before the next begins.
+    /// The workers go on in rounds, each of which all of them end before the next begins.
     Rounds,
-    /// In turns of their own.
+    /// Each worker goes on in turns of its own.
     Free,
 }
 
-/// So many workers, which let a node do so many Runs at most in a round or a turn.
+/// Workers of a net: how they go on, what the nodes do, the most Runs of a node in a round or a turn, and how many
+/// workers there are.
 #[derive(Clone, Copy, Debug, PartialEq, Eq)]
 pub struct Crew {
     pub manner: Manner,
@@ -56,7 +57,8 @@ fn waiting(alloc: Global, number: u32) -> Result<NodePlan, AllocError> {
     }
 }
 
-/// By turns a node that sends first, and one that receives first; both do so as often, and stop.
+/// The plan of a node that sends and receives `count` messages, and stops: a node of even number sends first, one of
+/// odd number receives first.
 fn exchanging(alloc: Global, number: u32, count: u32) -> Result<NodePlan, AllocError> {
     let (code, first, second): (&[u8], u32, u32) = if number % 2 == 0 {
         (&COUNTED_PING, ONWARD, BACK)
@@ -79,7 +81,7 @@ fn plan(alloc: Global, load: Load, thousands: u32) -> Result<Plan, AllocError> {
     wired(alloc, nodes)
 }
 
-/// So many rounds, or turns of each worker: how many events that was, and the net after them.
+/// Does so many rounds, or so many turns of each worker: answers how many events that was, and the net after them.
 fn went_on<R: Threads + Sync>(
     rt: &R,
     alloc: Global,

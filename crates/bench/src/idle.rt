@@ -13,7 +13,7 @@ const LENGTH: u32 = 4;
 /// How many Runs a node does at most in a turn.
 const SLICE: u32 = 64;
 
-/// So many nodes that wait for a message.
+/// The plan of so many nodes that each wait for a message.
 fn plan(alloc: Global, nodes: u8) -> Result<Plan, AllocError> {
     let mut waiting = Vec::new(alloc);
     for _node in 0..nodes {

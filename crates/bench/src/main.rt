@@ -41,7 +41,7 @@ fn looping(others: Others) -> Benchmark {
     Benchmark::Processor(Job::Loop(others))
 }
 
-/// So many processes that yield.
+/// The benchmark of so many processes that yield.
 fn switching(count: u16) -> Benchmark {
     Benchmark::Processor(Job::Switch(count))
 }
@@ -56,7 +56,7 @@ fn ring(nodes: u8, length: u32) -> Benchmark {
     Benchmark::Net(Ring { nodes, length })
 }
 
-/// So many workers, round by round.
+/// The benchmark of so many workers that go on in rounds.
 fn in_rounds(load: Load, slice: u32, workers: usize) -> Benchmark {
     Benchmark::Crew(Crew {
         manner: Manner::Rounds,
@@ -66,7 +66,7 @@ fn in_rounds(load: Load, slice: u32, workers: usize) -> Benchmark {
     })
 }
 
-/// So many free workers.
+/// The benchmark of so many free workers.
 fn in_turns(load: Load, slice: u32, workers: usize) -> Benchmark {
     Benchmark::Crew(Crew {
         manner: Manner::Free,
@@ -76,7 +76,7 @@ fn in_turns(load: Load, slice: u32, workers: usize) -> Benchmark {
     })
 }
 
-/// All of them, by name.
+/// The benchmarks, by name.
 fn benchmarks() -> [(&'static str, Benchmark); 34] {
     [
         ("decode", Benchmark::Decode),

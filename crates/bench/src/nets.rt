@@ -24,7 +24,7 @@ pub const BACK: u32 = 0x8000_0018;
 /// How many Runs a node does at most in one turn.
 const SLICE: u32 = 64;
 
-/// So many nodes, each wired from its link 1 to link 2 of the next, with messages of so many bytes.
+/// A ring of so many nodes, each wired from its link 1 to link 2 of the next, with messages of so many bytes.
 #[derive(Clone, Copy, Debug, PartialEq, Eq)]
 pub struct Ring {
     pub nodes: u8,
@@ -62,7 +62,7 @@ pub fn node(alloc: Global, code: &[u8], words: &[u32]) -> Result<NodePlan, Alloc
     })
 }
 
-/// These nodes, each wired from its link 1 to link 2 of the next.
+/// The plan of these nodes, each wired from its link 1 to link 2 of the next.
 pub fn wired(alloc: Global, nodes: Vec<NodePlan>) -> Result<Plan, AllocError> {
     let count = u32::try_from(nodes.len()).unwrap_or(u32::MAX);
     let mut wires = Vec::new(alloc);
@@ -93,7 +93,8 @@ pub fn passes_on(alloc: Global, length: u32) -> Result<NodePlan, AllocError> {
     node(alloc, &PONG, &[BACK, ONWARD, BUFFER, length])
 }
 
-/// By turns a node that sends on what it has, and then waits for the next, and one that waits first.
+/// The plan of a ring: a node of even number sends what it has and then waits for a message, and one of odd number
+/// waits first.
 fn plan(alloc: Global, ring: Ring) -> Result<Plan, AllocError> {
     let mut nodes = Vec::new(alloc);
     for number in 0..ring.nodes {
@@ -107,7 +108,7 @@ fn plan(alloc: Global, ring: Ring) -> Result<Plan, AllocError> {
     wired(alloc, nodes)
 }
 
-/// One event, if it is enabled: how many were done.
+/// Does one event, if it is enabled: answers how many were done.
 #[inline(always)]
 pub fn tried(net: &mut Net, node: u8, act: Act) -> u32 {
     match net.step(Event { node, act }) {
@@ -116,7 +117,7 @@ pub fn tried(net: &mut Net, node: u8, act: Act) -> u32 {
     }
 }
 
-/// One node does what comes and what it can: how many events that was.
+/// Lets one node do what comes and what it can: answers how many events that was.
 #[inline(always)]
 pub fn turn(net: &mut Net, node: u8) -> u32 {
     let mut done = tried(net, node, Act::Ack(1));
@@ -131,7 +132,7 @@ pub fn turn(net: &mut Net, node: u8) -> u32 {
     done.wrapping_add(tried(net, node, Act::Send(1)))
 }
 
-/// So many turns, one node after the other: how many events were done.
+/// Lets the nodes make so many turns, one node after the other: answers how many events were done.
 #[inline(never)]
 fn turns(net: &mut Net, ring: Ring, count: u64) -> u64 {
     let mut done = 0u64;
@@ -146,7 +147,7 @@ fn turns(net: &mut Net, ring: Ring, count: u64) -> u64 {
     done
 }
 
-/// So many events, with a checksum of the memories after them.
+/// The answer of so many events: their number, with a checksum of the memories after them.
 pub fn answered(net: &Net, operations: u64) -> Answer {
     let mut sum = mixed(BEGIN, (operations % 4_294_967_296) as u32);
     for node in net.nodes() {

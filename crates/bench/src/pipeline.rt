@@ -49,7 +49,7 @@ const SINK: SinkPlan = SinkPlan {
     capacity: MESSAGES * LENGTH,
 };
 
-/// The nodes in a row between both.
+/// The plan of a source, the nodes in a row, and a sink.
 fn plan(alloc: Global) -> Result<Plan, AllocError> {
     let mut nodes = Vec::new(alloc);
     let mut wires = Vec::new(alloc);
@@ -76,7 +76,7 @@ fn plan(alloc: Global) -> Result<Plan, AllocError> {
     })
 }
 
-/// The source, the nodes and the sink do what they can: how many events that was.
+/// Lets the source, the nodes and the sink do what they can: answers how many events that was.
 #[inline]
 fn pass(net: &mut Net) -> u32 {
     let mut done = tried(net, NODES, Act::Ack(0));
@@ -88,7 +88,7 @@ fn pass(net: &mut Net) -> u32 {
     done.wrapping_add(tried(net, NODES + 1, Act::Take(0)))
 }
 
-/// They do so until nothing is left: how many events were done.
+/// Lets source, nodes and sink do what they can until nothing is left: answers how many events were done.
 #[inline(never)]
 fn passes(net: &mut Net) -> u64 {
     let mut done = 0u64;

@@ -34,7 +34,7 @@ const CROWD: u32 = 0x8000_4000;
 /// What a channel word holds that nobody waits for.
 const NOT_PROCESS: u32 = 0x8000_0000;
 
-/// Which other processes there are.
+/// Which processes there are beside those that do the job.
 #[derive(Clone, Copy, Debug, PartialEq, Eq)]
 pub enum Others {
     Nobody,

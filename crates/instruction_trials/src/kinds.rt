@@ -10,7 +10,7 @@ use tword::{Break, Kind, Marks, Memory, MemoryFault, Word};
 /// `dup`, behind its prefix.
 const DUP: [u8; 2] = [0x25, 0xfa];
 
-/// Where it lies.
+/// The address of the code.
 const CODE: u32 = 0x8000_0080;
 
 /// `dup` as it is decoded.
@@ -22,7 +22,7 @@ fn dup() -> Instruction {
     }
 }
 
-/// Registers before it, with this stack.
+/// Registers before `dup`, with this stack.
 fn before(a: u32, b: u32, c: u32) -> Registers {
     Registers {
         a: Word::new(a),

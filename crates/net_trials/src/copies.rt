@@ -73,7 +73,7 @@ fn are_processors_alike(one: Option<&Processor>, other: Option<&Processor>) -> b
     }
 }
 
-/// Whether the same messages are shown.
+/// Whether two scripts show the same messages.
 fn are_messages_alike(mut mine: Messages<'_>, mut theirs: Messages<'_>) -> bool {
     let count = mine.count();
     if count != theirs.count() {
@@ -167,7 +167,8 @@ fn behind_a_round<R: Threads + Sync>(rt: &R, alloc: Global, net: Net) -> Result<
     }
 }
 
-/// Behind each round of a node between a source and a sink.
+/// Behind each round of a net with a source and a sink, a copy of each node is as the node, until one of them does an
+/// event.
 #[test]
 fn copies_of_nodes(rt: HostRuntime) -> Result<(), Fail> {
     let alloc = rt.alloc();

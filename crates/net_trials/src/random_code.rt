@@ -16,9 +16,10 @@ use tword::Kind;
 enum Setup {
     /// Four wires join the links of two nodes of kind 1.
     Wired,
-    /// The same of kind 2.
+    /// Four wires join the links of two nodes of kind 2.
     WiredOfKind2,
-    /// Three wires do; a source feeds link 3 of the first node, and a sink drains link 3 of the second.
+    /// Three wires join links of two nodes; a source feeds link 3 of the first node, and a sink drains link 3 of the
+    /// second.
     Scripted,
 }
 

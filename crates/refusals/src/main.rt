@@ -68,7 +68,8 @@ fn told<R: Threads + Sync>(rt: &R, alloc: Global, asked: Asked) -> Result<Vec<u8
     story.page(alloc)
 }
 
-/// The same. Where memory was refused beside the calls that are looked at, all begins anew.
+/// What the calls came to, as a page, by a second attempt where memory was refused beside the calls that are looked
+/// at.
 fn told_at_last<R: Threads + Sync>(rt: &R, alloc: Global, asked: Asked) -> Result<Vec<u8>, Fault> {
     match told(rt, alloc, asked) {
         Err(Fault::Memory) => told(rt, alloc, asked),

@@ -46,14 +46,14 @@ pub fn require(holds: bool, what: &'static str) -> Result<(), Fault> {
 #[derive(Clone, Copy, Debug, PartialEq, Eq)]
 pub enum Call {
     Build,
-    /// So many rounds were done before.
+    /// A call of `run_rounds`, before which so many rounds were done.
     Rounds(u32),
     Open,
     Turn,
     Gather,
 }
 
-/// Which call was refused, and the text of what they came to.
+/// The call that was refused, if one was, and the text of what the calls came to.
 #[derive(Drop)]
 pub struct Story {
     refused: Option<Call>,
@@ -95,7 +95,7 @@ impl Story {
         Ok(())
     }
 
-    /// Which call was refused, as a line.
+    /// The line that tells which call was refused.
     fn refusal(&self, alloc: Global) -> Result<String, AllocError> {
         match self.refused {
             None => format!(in alloc; "refused no call\n"),

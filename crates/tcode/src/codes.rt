@@ -135,7 +135,7 @@ pub fn operation_of(operand: Word, kind: Kind) -> Option<Operation>
     }
 }
 
-/// The same, of the operations that not every kind has.
+/// The operation of a number for a kind of node, among those that not every kind has.
 #[cold]
 #[inline(never)]
 #[tactic(auto, unfolding(crate::specs::Table::operation_at))]

@@ -62,11 +62,11 @@ pub fn decode(memory: &Memory, marks: &Marks, iptr: Word) -> Result<Instruction,
     decode_for(&memory.kind, &memory.bytes, marks, iptr)
 }
 
-/// The same, by the kind and the bytes of the memory apart. The kind is looked at only where an operation is met that
-/// not every kind has.
+/// The instruction at an address, by the kind of the node and the bytes of the memory apart. The kind is looked at
+/// only where an operation is met that not every kind has.
 ///
 /// # Errors
-/// As `decode`.
+/// The breaks of `decode`.
 // Chains of three bytes and more stay out of line, so that the common cases are small where they are inlined.
 #[inline(always)]
 #[tactic(auto, unfolding(crate::specs::Decoding::decode))]

@@ -41,10 +41,10 @@ pub fn local(
     )
 }
 
-/// The same, by the bytes of the memory and the kind apart.
+/// Does a local instruction as `local` does, by the bytes of the memory and the kind apart.
 ///
 /// # Errors
-/// As `local`.
+/// The breaks of `local`.
 #[inline(always)]
 #[tactic(auto, unfolding(crate::specs::Effects::effect))]
 pub fn local_for(

@@ -27,10 +27,10 @@ pub fn jumps(
     jumps_for(&memory.kind, registers, &memory.bytes, marks, instruction)
 }
 
-/// The same, by the bytes of the memory and the kind apart.
+/// Whether an instruction would jump, as `jumps` tells it, by the bytes of the memory and the kind apart.
 ///
 /// # Errors
-/// As `jumps`.
+/// The breaks of `jumps`.
 #[tactic(auto, unfolding(crate::specs::Effects::effect, crate::specs::Functions::function_effect))]
 pub fn jumps_for(
     kind: &Kind,
@@ -78,7 +78,7 @@ pub fn jumps_for(
     }
 }
 
-/// The same of an operation, whatever address follows it.
+/// Whether an operation would jump so that a timeslice may end, whatever address follows it.
 #[tactic(auto, unfolding(crate::specs::Operations::operation_effect))]
 fn operation_jumps(
     registers: &Registers,

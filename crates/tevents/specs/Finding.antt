@@ -69,7 +69,7 @@ events_for (moves.Copy e) net = events_between (far_end net.wires e) e
 events_for (moves.Wake f) net = record { node = f.node; act = Ack f.link } ∷ []
 events_for (moves.Mismatch e) net = events_between (far_end net.wires e) e
 
--- the one that does
+-- the event that comes next for a move
 abbrev pub next_event : Move → NetState → Option Event
 next_event m net = first_enabled (events_for m net) net
 

@@ -1,6 +1,6 @@
 -- How steps of the rendezvous machine are done by events of a net of packets.
 pub mod Events
--- how these events are found
+-- how the events of a step are found
 pub mod Finding
--- and logged
+-- how the events of steps are done and logged
 pub mod Doing

@@ -9,12 +9,13 @@ pub fn steps_are_events()
     ensures { StepsAreEvents }
 {}
 
-/// So is each run to where no node is frozen.
+/// Each run of what is seen of a net to where no node is frozen is done by events of the net.
 pub fn runs_are_events()
     ensures { RunsAreEvents }
 {}
 
-/// And each run up to the first node that freezes.
+/// A run of what is seen of a net to where no node is frozen, and one more step, are done by events of the net: so
+/// each run up to the first node that freezes is.
 pub fn runs_to_freezes_are_events()
     ensures { RunsToFreezesAreEvents }
 {}

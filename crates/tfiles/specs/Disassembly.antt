@@ -26,7 +26,7 @@ abbrev pub head_text : Result Instruction DecodeFault → ℕ → List ℕ
 head_text (Ok i) byte = instruction_text i
 head_text (Err fault) byte = byte_text byte
 
--- how many bytes that is
+-- how many bytes stand at the head: those of an instruction, or else one
 abbrev pub head_size : Result Instruction DecodeFault → ℕ
 head_size (Ok i) = i.length
 head_size (Err fault) = 1

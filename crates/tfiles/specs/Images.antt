@@ -10,7 +10,7 @@ use Rattle.tnet.specs.Building.{AreBytes, AreImageWords}
 use Rattle.tfiles.specs.declared.image.ImageFault.{ImageFault}
 use Rattle.tfiles.specs.declared.image.ImageFault.TheVariants.{BadMagic, TooMany, Truncated, Trailing, OutOfMemory}
 
--- the first eight bytes
+-- the first eight bytes of an image
 abbrev pub magic : List ℕ
 magic = codes "TEMUIMG1"
 
@@ -43,7 +43,7 @@ pub record Fits (i : Image) : Type 0 where
 abbrev pub Reading : Type 0 → Type 0
 Reading A = Option (A × List ℕ)
 
--- one part and then another
+-- one part is read, and then another from the bytes after it
 abbrev pub then_read : {A B : Type 0} → Reading A → (A → List ℕ → Reading B) → Reading B
 then_read None f = None
 then_read (Some (x, rest)) f = f x rest
@@ -52,7 +52,7 @@ then_read (Some (x, rest)) f = f x rest
 abbrev pub word_in : List ℕ → Reading ℕ
 word_in bytes = if nat_lt (length bytes) 4 then None else Some (from_le_bytes w32 (take 4 bytes), drop 4 bytes)
 
--- some bytes are read
+-- so many bytes are read
 abbrev pub bytes_in : ℕ → List ℕ → Reading (List ℕ)
 bytes_in n bytes = if nat_lt (length bytes) n then None else Some (take n bytes, drop n bytes)
 
@@ -69,7 +69,7 @@ process_in bytes =
     then_read (word_in bytes) (λ wdesc rest.
     then_read (word_in rest) (λ iptr rest. Some (record { wdesc = wdesc; iptr = iptr }, rest)))
 
--- some parts of one kind
+-- so many parts of one kind are read
 abbrev pub parts_in : {A : Type 0} → (List ℕ → Reading A) → ℕ → List ℕ → Reading (List A)
 parts_in part zero bytes = Some ([], bytes)
 parts_in part (suc n) bytes =
@@ -80,7 +80,7 @@ abbrev pub behind : {A : Type 0} → Reading A → Option (List ℕ)
 behind None = None
 behind (Some (x, rest)) = Some rest
 
--- after the two counts
+-- the image whose parts end with the bytes, or what is wrong behind its two counts
 abbrev pub ends_with : Reading Image → Result Image ImageFault
 ends_with None = Err Truncated
 ends_with (Some (i, [])) = Ok i
@@ -119,7 +119,7 @@ IsPartFault reading Truncated = reading ≡ None
 IsPartFault reading OutOfMemory = Unit {0}
 IsPartFault reading _ = ⊥
 
--- what is read is spelled so, and what is spelled so is read
+-- bytes that are read are the spelling of their image, and each spelling is read as its image
 abbrev pub ReadsImages : Type 0
 ReadsImages =
     ((bytes : List ℕ) (i : Image) → AreBytes bytes → image_of bytes ≡ Ok i → (bytes ≡ spelling i) × Fits i)

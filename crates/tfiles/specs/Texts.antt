@@ -100,7 +100,7 @@ node_text None false = codes "ok"
 abbrev pub node_line : ℕ → Option Break → Bool → List ℕ
 node_line n broken halted = line (words (codes "node" ∷ decimal n ∷ node_text broken halted ∷ []))
 
--- the dump of a node that stands so, with this store
+-- the dump of a node with this store, by its number and how it stands
 abbrev pub dump_of : ℕ → Option Break → Bool → Store → List ℕ
 dump_of n broken halted store = node_line n broken halted ++ lines_of store
 
@@ -140,19 +140,19 @@ dump_from n (s ∷ ss) = node_dump n s ++ dump_from (suc n) ss
 abbrev pub dump_text : Configuration → List ℕ
 dump_text w = dump_from 0 w.nodes
 
--- the last line of a run by rounds
+-- the last line of what is printed of a run by rounds
 abbrev pub rounds_end : Bool → ℕ → List ℕ
 rounds_end quiet rounds =
     line (words (codes "end" ∷ (if quiet then codes "quiet" else codes "rounds") ∷ decimal rounds ∷ []))
 
--- the last line of free workers
+-- the last line of what is printed of free workers
 abbrev pub free_end : Bool → List ℕ
 free_end quiet = line (words (codes "end" ∷ (if quiet then codes "quiet" else codes "turns") ∷ []))
 
--- the last line of a replay
+-- the last line of what is printed of a replay
 abbrev pub replay_end : ℕ → List ℕ
 replay_end events = line (words (codes "end" ∷ codes "replay" ∷ decimal events ∷ []))
 
--- all that is printed
+-- all that is printed of a run: its trace, the dumps and a last line
 abbrev pub run_text : List Note → Configuration → List ℕ → List ℕ
 run_text notes w last = trace_text notes ++ (dump_text w ++ last)

@@ -11,8 +11,8 @@ use std::io::{Read, Write};
 
 /// A writer that may count how many of its writes failed.
 pub trait CountedWrite: Write {
-    /// How many of its writes failed, an interrupted one too, or took none of some bytes; none where it does not
-    /// count them.
+    /// How many of the writer's writes failed, an interrupted one too, or took none of some bytes; none where it does
+    /// not count them.
     ghost failures: { Self → Option ℕ };
 
     /// Writes some of these bytes, as `write` does, and counts a failure.
@@ -27,7 +27,7 @@ pub trait CountedWrite: Write {
 
 /// A reader that may count how many of its reads failed.
 pub trait CountedRead: Read {
-    /// How many of its reads failed, an interrupted one too; none where it does not count them.
+    /// How many of the reader's reads failed, an interrupted one too; none where it does not count them.
     ghost failures: { Self → Option ℕ };
 
     /// Reads some bytes, as `read` does, and counts a failure.

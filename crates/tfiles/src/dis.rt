@@ -68,7 +68,7 @@ fn size_of_head(head: &Result<Instruction, DecodeFault>) -> usize
     }
 }
 
-/// One line.
+/// Writes the line of an address: the instruction there, or else the byte.
 fn put_line<W: CountedWrite>(
     out: &mut Output<'_, W>,
     address: Word,

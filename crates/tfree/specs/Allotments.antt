@@ -38,7 +38,7 @@ module _ (opened : NetState) (count : ℕ) (ins : List (Option InView)) (outs : 
     pub ins_are : ins_view a.ins.items ≡ ins_of k
     pub outs_are : outs_view a.outs.items ≡ outs_of k
 
-  -- workers from k on
+  -- the allotments of the workers from k on
   abbrev pub AreAllotments : ℕ → List Allotment → Type 0
   AreAllotments k [] = Unit {0}
   AreAllotments k (a ∷ rest) = IsAllotment k a × AreAllotments (suc k) rest
@@ -51,7 +51,7 @@ pub record AreAllotted (opened : NetState) (count : ℕ) (allotments : List Allo
   pub allotments_are : AreAllotments opened count ins outs 0 allotments
   pub all : length allotments ≡ count
 
--- the first k workers have theirs, with their nodes; the other nodes and allotments are left
+-- the first k workers have their shares, with their nodes; the other nodes and allotments are left
 pub record AreSharedOut (opened : NetState) (count k : ℕ) (nodes : List NodeState) (allotments : List Allotment)
     (ws : List View) : Type 0 where
   pub ins : List (Option InView)

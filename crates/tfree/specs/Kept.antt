@@ -99,7 +99,7 @@ link_of (Ack l) = l
 pub record Kept (s : Share) (nodes : List NodeState) (clock : ℕ) (ins : List (Option InView))
     (outs : List (Option OutView)) (events : List OwnEvent) (told : List StampedNote) : Type 0 where
   pub counted : length nodes ≡ s.owned
-  -- its events were enabled one after another, and left its nodes as they are
+  -- the events of the worker were enabled one after another, and left its nodes as they are
   pub done : AreDone s.opened.nodes events (nodes_after s.opened.nodes events)
   pub left : (i : ℕ) → i < s.owned → slice_get (nodes_after s.opened.nodes events) (s.first + i) ≡ slice_get nodes i
   pub mine : All (λ d. IsMine s d.node) events

@@ -14,7 +14,7 @@ use Rattle.tfree.specs.Shares.{share, first_nodes}
 use Rattle.tfree.specs.Views.{Share, View}
 use Rattle.tfree.specs.Kept.{nodes_after, IsMine, link_place}
 
--- the first node of a worker, of so many nodes and workers; that of the next one is where its nodes end
+-- the first node of a worker, of so many nodes and workers; that of the next worker is where its nodes end
 abbrev pub first_of : (nodes workers k : ℕ) → ℕ
 first_of nodes workers k = min nodes (k * share nodes workers)
 
@@ -41,7 +41,7 @@ pub record AreShares (opened : NetState) (o : List Share) : Type 0 where
       → slice_index_or s.ins (link_place (e.node - s.first) e.link) None
       ≡ slice_index_or t.outs (link_place (f.node - t.first) f.link) None
 
--- no two are equal
+-- no two numbers of a list are equal
 abbrev pub AreApart : List ℕ → Type 0
 AreApart [] = Unit {0}
 AreApart (x ∷ xs) = All (λ y. y ≢ x) xs × AreApart xs
@@ -85,12 +85,12 @@ abbrev pub worker_of : ℕ → List View → Option View
 worker_of n [] = None
 worker_of n (w ∷ ws) = if w.share.number == n then Some w else worker_of n ws
 
--- its events
+-- the events of a worker, if it is there
 abbrev pub events_of : Option View → List OwnEvent
 events_of None = []
 events_of (Some v) = v.events
 
--- its log
+-- the log of worker k, by its events
 abbrev pub log_at : NetState → ℕ → List OwnEvent → WorkerLog
 log_at opened k events =
     record { number = k; opened = opened.nodes; left = nodes_after opened.nodes events; events = events }

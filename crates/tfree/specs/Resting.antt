@@ -44,7 +44,7 @@ pub record NodeRests (ws : List View) (w : View) (i : ℕ) : Type 0 where
 abbrev pub HasNothingLeft : List View → View → Type 0
 HasNothingLeft ws w = (i : ℕ) → i < w.share.owned → NodeRests ws w i
 
--- the same, unless it stopped for a fault
+-- a worker has nothing left to do, unless it stopped for a fault
 abbrev pub IsIdle : List View → Ended → View → Type 0
 IsIdle ws (Ok x) w = HasNothingLeft ws w
 IsIdle ws (Err f) w = Unit {0}

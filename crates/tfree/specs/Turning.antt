@@ -12,7 +12,7 @@ use Rattle.tfree.specs.Turns.{Phase, Step, Times, IsTurn, IsClockFull}
 abbrev pub WholeTurn : Share → ℕ → Step
 WholeTurn s slice es es' = IsTurn s slice es true es'
 
--- so many turns; or fewer, and then the beginning of one more
+-- a worker makes so many turns; or fewer, and then the beginning of one more
 abbrev pub AreTurns : Share → (turns slice : ℕ) → Phase
 AreTurns s turns slice es true es' = Times turns (WholeTurn s slice) es es'
 AreTurns s turns slice es false es' = (k : ℕ) × (k < turns)
@@ -39,7 +39,7 @@ abbrev pub GoesOn : (turns slice : ℕ) → View → Ended → Ended → View �
 GoesOn turns slice v (Ok x) e w = IsTurned turns slice v e w
 GoesOn turns slice v (Err f) e w = (e ≡ Err f) × (w ≡ v)
 
--- so do workers, by how they had ended before and how they end
+-- each worker makes so many turns more, unless it stopped before, by how they had ended before and how they end
 abbrev pub AreEachGoneOn : (turns slice : ℕ) → List View → List Ended → List Ended → List View → Type 0
 AreEachGoneOn turns slice [] [] [] [] = Unit {0}
 AreEachGoneOn turns slice (v ∷ vs) (d ∷ ds) (e ∷ es) (w ∷ ws) = GoesOn turns slice v d e w
@@ -52,7 +52,7 @@ AreEachTurned turns slice [] [] [] = Unit {0}
 AreEachTurned turns slice (v ∷ vs) (e ∷ es) (w ∷ ws) = IsTurned turns slice v e w × AreEachTurned turns slice vs es ws
 AreEachTurned turns slice _ _ _ = ⊥
 
--- all workers made their turns, and whether all of them had memory
+-- all workers made their turns, and it is told whether all of them had memory
 pub record AreTurned (turns slice : ℕ) (vs : List View) (whole : Bool) (ws : List View) : Type 0 where
   pub endings : List Ended
   pub each : AreEachTurned turns slice vs endings ws

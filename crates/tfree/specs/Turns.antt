@@ -46,11 +46,11 @@ module _ (s : Share) where
   abbrev pub IsInner : End → End → Type 0
   IsInner e f = (far_end s.opened.wires e ≡ Some f) × IsMine s f.node
 
-  -- of the ring that leads to an end from another, both of them the worker's: this packet lies in front
+  -- this packet lies in front of the ring that leads to an end from another, both of them the worker's
   abbrev pub LiesInFront : (e f : End) → Sent → List OwnEvent → Type 0
   LiesInFront e f p es = (rest : List Sent) × (takes e es ++ p ∷ rest ≡ put_to s.opened f es)
 
-  -- there is room in the ring that leads from an end to another: fewer than two lie there
+  -- there is room in the ring that leads from an end to another: fewer than two packets lie there
   abbrev pub HasPlace : (f e : End) → List OwnEvent → Type 0
   HasPlace f e es = length (put_to s.opened f es) < length (takes e es) + 2
 
@@ -70,7 +70,7 @@ module _ (s : Share) where
     pub does : Does n e es es'
     pub room : (f : End) → IsInner (end_at n l) f → HasPlace (end_at n l) f es
 
-  -- room is certain: fewer than two were ever put there, or the ring is an inner one and fewer than two lie there
+  -- room is certain: fewer than two packets were ever put there, or the ring is an inner one with fewer than two
   abbrev pub IsRoomCertain : (n l : ℕ) → List OwnEvent → Type 0
   IsRoomCertain n l es = (length (put_to s.opened (end_at n l) es) < 2)
       ⊎ ((f : End) × IsInner (end_at n l) f × HasPlace (end_at n l) f es)
@@ -83,12 +83,12 @@ module _ (s : Share) where
 abbrev pub once : Step → Phase
 once step es whole es' = step es es'
 
--- so many steps
+-- a step is made so many times
 abbrev pub Times : ℕ → Step → Step
 Times zero step es es' = es' ≡ es
 Times (suc k) step es es' = (mid : List OwnEvent) × Times k step es mid × step mid es'
 
--- as many steps as are due, up to a number; not more than that number, and more only where a step is free
+-- a step is made at most so many times, and no fewer as long as it is due
 abbrev pub UpTo : ℕ → Step → (List OwnEvent → Type 0) → Phase
 UpTo most step IsDue es whole es' = (k : ℕ) × (k ≤ most) × Times k step es es'
     × ((k ≡ most) ⊎ (IsTrue whole → IsDue es' → ⊥))
@@ -111,7 +111,7 @@ module _ (s : Share) where
   abbrev pub emission_of : (n l : ℕ) → NodeEvent → Phase
   emission_of n l e = UpTo 1 (Emits s n l e) (IsEmissionDue s n l e)
 
-  -- at most so many runs
+  -- the runs of a node, at most so many
   abbrev pub runs_of : (slice n : ℕ) → Phase
   runs_of slice n = UpTo slice (Does s n Run) (IsEnabled s n Run)
 
@@ -129,7 +129,7 @@ module _ (s : Share) where
   abbrev pub NodeTurn : ℕ → ℕ → Phase
   NodeTurn slice n = Then (all_packets n) (Then (all_takes n) (Then (runs_of slice n) (all_sends n)))
 
-  -- the first nodes of the worker, each to its end
+  -- the parts of the first nodes of the worker, so many, each to its end
   abbrev pub FirstNodes : ℕ → ℕ → Step
   FirstNodes slice zero es es' = es' ≡ es
   FirstNodes slice (suc k) es es' = (mid : List OwnEvent) × FirstNodes slice k es mid
@@ -145,7 +145,7 @@ module _ (s : Share) where
 abbrev pub Phased : (Share → Phase) → View → Bool → View → Type 0
 Phased phase v whole w = (w.share ≡ v.share) × phase v.share v.events whole w.events
 
--- what the list held is its beginning
+-- a list begins with what it held before
 abbrev pub Extends : List OwnEvent → List OwnEvent → Type 0
 Extends es es' = (more : List OwnEvent) × (es' ≡ es ++ more)
 
@@ -165,7 +165,7 @@ MayTake v i (Ack l) stamp =
     IsFront (record { packet = packet.Ack; stamp = stamp }) (slice_index_or v.seen (link_place i l) [])
 MayTake v i _ stamp = stamp ≡ 0
 
--- one event more on the list of a worker
+-- a worker with one event more on its list
 abbrev pub with_event : OwnEvent → View → View
 with_event d v = record v { events = v.events ++ d ∷ [] }
 

@@ -29,7 +29,7 @@ fn drain(end: &mut InEnd, out: &mut OutEnd) -> Inbox
     lies
 }
 
-/// The same of ends that may not be there.
+/// Takes out of a ring all that is left in it, as an inbox, where both its ends are there; else an empty inbox.
 fn drain_slot(end: &mut Option<InEnd>, out: &mut Option<OutEnd>) -> Inbox
     requires { ArePaired (option_map in_view end.old) (option_map out_view out.old) }
     ensures drained { WasDrained (option_map in_view end.old) (option_map out_view out.old) result }

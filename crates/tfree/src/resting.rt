@@ -47,7 +47,7 @@ impl Worker {
         false
     }
 
-    /// Whether no event of a link is enabled but such as take a packet, and no packet lies there for these.
+    /// Whether at a link no event is enabled but those that take a packet, and no packet lies there for them.
     fn link_rests(&self, i: usize, link: u8, workers: &[Worker]) -> bool
         requires i { i < self.now.share.owned }
         requires link { link < 4 }
@@ -59,7 +59,7 @@ impl Worker {
         !self.may_take(i, link) || self.is_ring_empty(i, link, workers)
     }
 
-    /// The same of a node.
+    /// Whether no event of a node is enabled but those that take a packet, and no packet lies at its links for them.
     fn node_rests(&self, i: usize, workers: &[Worker]) -> bool
         requires { i < self.now.share.owned }
         ensures { IsTrue result → NodeRests workers.now self.now i }

@@ -63,7 +63,7 @@ fn ring_with(alloc: Global, lies: Inbox) -> Result<(OutEnd, InEnd), AllocError>
     Ok((out, InEnd::new(consumer)))
 }
 
-/// So many slots, all empty.
+/// A list of so many empty slots.
 fn empty_slots<T: Drop>(alloc: Global, count: usize) -> Result<Vec<Option<T>>, AllocError>
     ensures { IfOk result (λ slots. slots.items ≡ replicate count None) }
 {

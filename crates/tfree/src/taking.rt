@@ -19,9 +19,9 @@ use tword::limits::MOST_NODES;
 #[derive(Drop)]
 pub(crate) struct Brought {
     pub(crate) nodes: Vec<Node>,
-    /// The ends that take, four for each node.
+    /// The ends of rings that take, four for each node.
     pub(crate) ins: Vec<Option<InEnd>>,
-    /// The ends that put, four for each node.
+    /// The ends of rings that put, four for each node.
     pub(crate) outs: Vec<Option<OutEnd>>,
     /// What each worker did and told.
     pub(crate) unmerged: Vec<Unmerged>,

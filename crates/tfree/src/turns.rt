@@ -12,6 +12,7 @@ use tlink::NodeEvent;
 /// What a turn did.
 #[derive(Clone, Copy, Debug, PartialEq, Eq)]
 pub struct Turned {
+    /// How many events were done.
     pub events: u64,
 }
 

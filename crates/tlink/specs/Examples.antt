@@ -81,7 +81,7 @@ sink-part : kept_part (left_behind four_bytes (fresh_sink 3)) ≡ 9 ∷ []
 unfolding happens
 sink-part = refl
 
--- in the order in which they come
+-- a sink keeps messages in the order in which they come
 sink-orders : kept_messages
     (left_behind (Data 0 7 true ∷ Take 0 ∷ Data 0 8 false ∷ Take 0 ∷ Data 0 9 true ∷ Take 0 ∷ [])
     (fresh_sink 3)) ≡ (7 ∷ []) ∷ (8 ∷ 9 ∷ []) ∷ []

@@ -99,14 +99,14 @@ abbrev pub sink_of : NodeState → Role → Option NodeState
 sink_of n (Sink kept) = Some n
 sink_of n _ = None
 
--- all messages lie in the bytes, and those that are not over from this place on
+-- the messages of a source lie in its bytes, and those that are not over from this place on
 pub record IsSourceWithin (bytes lengths : List ℕ) (done start : ℕ) : Type 0 where
   pub all : sum lengths ≤ length bytes
   pub few : done ≤ length lengths
   pub within : start + sum (drop done lengths) ≤ length bytes
 
--- the first so many lengths are those of the messages that were kept, which are the first bytes; there is room for as
--- many lengths as for bytes
+-- the messages that a sink has kept are its first bytes, and the first lengths, so many, are theirs; there is room for
+-- as many lengths as for bytes
 pub record IsSinkWithin (bytes lengths : List ℕ) (messages kept : ℕ) : Type 0 where
   pub all : sum (take messages lengths) ≡ kept
   pub each : messages ≤ kept

@@ -8,9 +8,9 @@ use std::marker::Model;
 /// The messages that a source has, or that a sink has kept, in order: those that were not taken from here yet.
 #[derive(Drop)]
 pub struct Messages<'a> {
-    /// How long each of them is.
+    /// The length of each message.
     lengths: &'a [u32],
-    /// Their bytes, one message behind another.
+    /// The bytes of the messages, one message behind another.
     bytes: &'a [u8],
 }
 
@@ -34,14 +34,14 @@ impl<'a> Messages<'a> {
         Messages { lengths, bytes }
     }
 
-    /// How many there are.
+    /// The number of messages that were not taken yet.
     pub fn count(&self) -> usize
         ensures { result ≡ length self.now }
     {
         self.lengths.len()
     }
 
-    /// Takes the first one, and leaves the others.
+    /// Takes the first message, and leaves the others.
     pub fn take_first(&mut self) -> Option<&'a [u8]>
         ensures { MatchOption result ((self.old ≡ []) × (self.new ≡ [])) (λ m. self.old ≡ m.now ∷ self.new) }
     {

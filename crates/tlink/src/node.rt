@@ -172,7 +172,7 @@ impl Node {
         }
     }
 
-    /// The source, if it is one.
+    /// The source, if the node is one.
     pub fn source(&self) -> Option<&Source>
         ensures { option_copied result ≡ source_of self.now self.now.role }
     {
@@ -192,7 +192,7 @@ impl Node {
         }
     }
 
-    /// The sink, if it is one.
+    /// The sink, if the node is one.
     pub fn sink(&self) -> Option<&Sink>
         ensures { option_copied result ≡ sink_of self.now self.now.role }
     {

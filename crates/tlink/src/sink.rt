@@ -34,7 +34,7 @@ pub struct Sink {
     lengths: Vec<u32>,
     /// How many messages were kept.
     messages: usize,
-    /// How many bytes they have.
+    /// The number of bytes of the messages that were kept.
     kept: usize,
     /// What link 0 has counted.
     counts: Counts,
@@ -49,7 +49,7 @@ pub struct SinkParts {
     pub lengths: Vec<u32>,
     /// How many messages were kept.
     pub messages: usize,
-    /// How many bytes they have.
+    /// The number of bytes of the messages that were kept.
     pub kept: usize,
 }
 
@@ -115,7 +115,7 @@ impl Sink {
         })
     }
 
-    /// A copy of what it holds.
+    /// A copy of what the sink holds.
     ///
     /// # Errors
     /// Where the allocator refuses.
@@ -135,14 +135,14 @@ impl Sink {
         })
     }
 
-    /// For how many bytes it has room, those that it has kept included.
+    /// For how many bytes the sink has room, those that it has kept included.
     pub fn capacity(&self) -> u32
         ensures { result ≡ length self.now.machine.store }
     {
         self.bytes.len() as u32
     }
 
-    /// The messages that it has kept, in order.
+    /// The messages that the sink has kept, in order.
     pub fn kept(&self) -> Messages<'_>
         ensures { result ≡ kept_messages self.now }
     {
@@ -162,7 +162,7 @@ impl Sink {
         }
     }
 
-    /// All bytes of its memory.
+    /// All bytes of the sink's memory.
     pub(crate) fn bytes(&self) -> &[u8]
         ensures { as_cells result.now ≡ self.now.machine.store }
     {
@@ -192,7 +192,7 @@ impl Sink {
         if link == 0 { self.counts } else { NO_COUNTS }
     }
 
-    /// It is a sink, and no break has frozen it.
+    /// A sink's role is that of a sink, and no break has frozen it.
     pub(crate) fn know_role(&self)
         ensures role { self.now.role ≡ roles.Sink (kept_lengths self.now.role) }
         ensures whole { self.now.broken ≡ None }
@@ -200,15 +200,15 @@ impl Sink {
         let _counts = &self.counts;
     }
 
-    /// It does no run.
+    /// A sink does no run.
     pub(crate) fn know_no_run(&self)
         ensures { happens Run self.now ≡ Err NotEnabled }
     {
         let _counts = &self.counts;
     }
 
-    /// One event. It receives bytes, keeps them and acknowledges them, and does nothing else. What it does stands out
-    /// of line, with small answers, as that of a source.
+    /// Does one event: a sink receives bytes, keeps them and acknowledges them, and does nothing else. What it does
+    /// stands out of line, with small answers, as that of a source.
     #[inline(always)]
     pub(crate) fn step(&mut self, event: NodeEvent) -> Result<Emitted, StepFault>
         ensures { DoesNode (happens event self.old) self.old result self.new }

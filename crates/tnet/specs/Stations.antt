@@ -45,7 +45,7 @@ asked (Data l) boxes = with_carried l (box_at boxes l).carried
 asked (Take l) boxes = Some (at_node.Take l)
 asked (Ack l) boxes = if (box_at boxes l).acknowledged then Some (at_node.Ack l) else None
 
--- what lies there without the packet that an act takes
+-- what lies at a link without the packet that an act takes
 abbrev pub emptied : Act → List Inbox → List Inbox
 emptied (Data l) boxes = slice_set boxes l (record (box_at boxes l) { carried = None })
 emptied (Ack l) boxes = slice_set boxes l (record (box_at boxes l) { acknowledged = false })
@@ -112,7 +112,7 @@ abbrev pub after_run : (NodeState → NodeState × RunsDone) → Option Note →
 after_run rest None node = one_more (rest node)
 after_run rest (Some t) node = (node, record { count = 1; note = Some t })
 
--- so does one that is not enabled
+-- a run that is not enabled ends the row, and so does one that told something; another is followed by the others
 abbrev pub after_asked : (NodeState → NodeState × RunsDone) → Option Done → NodeState → NodeState × RunsDone
 after_asked rest None node = (node, record { count = 0; note = None })
 after_asked rest (Some d) node = after_run rest d.note node

@@ -64,14 +64,14 @@ fn is_bad_message(message: &Items<u8>) -> bool
     size < 1 || size > LONGEST_MESSAGE
 }
 
-/// Whether some message has not.
+/// Whether some message does not have 1 to 4,096 bytes.
 fn any_bad_message(messages: &[Items<u8>]) -> bool
     ensures { result ≡ list_any is_bad_message messages.now }
 {
     messages.iter().any(is_bad_message)
 }
 
-/// Whether a source has too many messages, or one that is none.
+/// Whether a source has too many messages, or one that does not have 1 to 4,096 bytes.
 fn has_too_many(source: &SourcePlan) -> bool
     ensures { result ≡ has_too_many source.now }
 {
@@ -79,7 +79,7 @@ fn has_too_many(source: &SourcePlan) -> bool
     messages.len() > MOST_MESSAGES || any_bad_message(messages)
 }
 
-/// Whether some source has.
+/// Whether some source has too many messages, or one that does not have 1 to 4,096 bytes.
 fn any_has_too_many(sources: &[SourcePlan]) -> bool
     ensures { result ≡ list_any has_too_many sources.now }
 {
@@ -121,7 +121,7 @@ fn is_bad_size(node: &NodePlan) -> bool
         || node.memory % 4 != 0
 }
 
-/// The first node with such a memory.
+/// The first node whose memory has a size that none of its kind may have.
 fn first_bad_size(nodes: &[NodePlan]) -> Option<usize>
     ensures { result ≡ position is_bad_size nodes.now }
 {
@@ -142,14 +142,14 @@ fn is_bad_end(nodes: usize, end: End) -> bool
     end.node as usize >= nodes || end.link >= 4
 }
 
-/// Whether one of a wire's two ends is.
+/// Whether one of a wire's two ends is no link of a node.
 fn has_bad_end(nodes: usize, wire: Wire) -> bool
     ensures { result ≡ (is_bad_end nodes wire.a || is_bad_end nodes wire.b) }
 {
     is_bad_end(nodes, wire.a) || is_bad_end(nodes, wire.b)
 }
 
-/// Whether a wire, a source or a sink names such an end.
+/// Whether a wire, a source or a sink names an end that is no link of a node.
 fn names_bad_end(plan: &Plan, place: usize) -> bool
     requires few { too_many plan.now ≡ false }
     requires within { place < length (all_wires plan.now) }
@@ -163,7 +163,7 @@ fn names_bad_end(plan: &Plan, place: usize) -> bool
     is_bad_end(nodes, wire.b)
 }
 
-/// The first wire, source or sink that does.
+/// The first wire, source or sink that names an end that is no link of a node.
 fn first_bad_end(plan: &Plan) -> Option<usize>
     requires { too_many plan.now ≡ false }
     ensures { result ≡ position (list_any (is_bad_end (length plan.now.nodes))) (named_ends plan.now) }
@@ -197,7 +197,7 @@ fn share_an_end(v: Wire, w: Wire) -> bool
     is_same_end(v.a, w.a) || is_same_end(v.b, w.a) || is_same_end(v.a, w.b) || is_same_end(v.b, w.b)
 }
 
-/// Whether a wire has an end of one of the first ones.
+/// Whether a wire has an end in common with one of the wires before a place.
 fn is_end_twice(plan: &Plan, place: usize, wire: Wire) -> bool
     requires few { too_many plan.now ≡ false }
     requires within { place ≤ length (all_wires plan.now) }
@@ -236,7 +236,7 @@ fn is_bad_segment(memory: u32, segment: &Segment) -> bool
             || start - u64::from(MOST_NEG) > u64::from(memory) - size)
 }
 
-/// The first such segment of a node.
+/// The first segment of a node that does not lie in the memory that programs may use.
 fn bad_segment(node: &NodePlan) -> Option<usize>
     ensures { result ≡ bad_segment node.now }
 {
@@ -248,7 +248,7 @@ fn bad_segment(node: &NodePlan) -> Option<usize>
         .position(|segment| is_bad_segment(memory, segment))
 }
 
-/// The first such segment of all nodes, with its node.
+/// The first segment of all nodes, with its node, that does not lie in the memory that programs may use.
 fn first_bad_segment(nodes: &[NodePlan]) -> Option<(usize, usize)>
     ensures { result ≡ first_fault_from 0 bad_segment nodes.now }
 {
@@ -267,7 +267,7 @@ fn is_bad_capacity(sink: &SinkPlan) -> bool
     sink.capacity < 1 || sink.capacity > LARGEST_CAPACITY
 }
 
-/// The first sink with such a capacity.
+/// The first sink with a capacity that none may have.
 pub fn first_bad_capacity(sinks: &[SinkPlan]) -> Option<usize>
     ensures { result ≡ position is_bad_capacity sinks.now }
 {

@@ -61,7 +61,7 @@ impl Net {
         // memory is wanted only for a plan without the faults that show before anything is built
         ensures wanted { result ≡ Err OutOfMemory → IsWellFormed plan }
 
-        // what is seen of it is the rendezvous machine's opening of the same plan
+        // what is seen of the net is the rendezvous machine's opening of the same plan
         ensures alike { IfOk result (λ net. view net ≡ opening_configuration plan) }
     {
         match first_fault(&plan) {
@@ -95,7 +95,7 @@ impl Net {
         ensures told { result ≡ answered (net_happens event self.old) }
         ensures left { self.new ≡ net_left_by event self.old (net_happens event self.old) }
 
-        // what the net shows of it is no step, or one lawful step, of the rendezvous machine
+        // what the net shows of the event is no step, or one lawful step, of the rendezvous machine
         ensures run { IsSeenRun self.old (done_one event result) self.new }
     {
         self.parts.step(event)

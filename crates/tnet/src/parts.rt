@@ -285,7 +285,7 @@ impl Parts {
         true
     }
 
-    /// One event of the node with this number.
+    /// Does one event of the node with this number.
     #[inline(always)]
     fn step_node(&mut self, node: u8, event: NodeEvent) -> Result<Emitted, StepFault>
         ensures { DoesAt node event (node_at self.old node) self.old result self.new }
@@ -297,7 +297,7 @@ impl Parts {
         self.nodes[place].step(event)
     }
 
-    /// One event. That of a script stands out of line, so that those of processors stay small.
+    /// Does one event. That of a script stands out of line, so that those of processors stay small.
     #[inline(always)]
     pub fn step(&mut self, event: Event) -> Result<Emitted, StepFault>
         ensures { DoesNet event (net_happens event self.old) self.old result self.new }
@@ -313,7 +313,7 @@ impl Parts {
         }
     }
 
-    /// The same of a script.
+    /// Does one event of a script.
     #[inline(never)]
     fn step_script(&mut self, event: Event) -> Result<Emitted, StepFault>
         ensures { DoesNet event (net_happens event self.old) self.old result self.new }
@@ -321,7 +321,7 @@ impl Parts {
         self.step_any(event)
     }
 
-    /// The same of any node.
+    /// Does one event of any node.
     #[inline(always)]
     #[tactic(auto, using(crate::proofs::Stepping::event_done), unfolding(crate::specs::Packets::net_happens))]
     fn step_any(&mut self, event: Event) -> Result<Emitted, StepFault>

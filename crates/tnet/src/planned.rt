@@ -6,7 +6,7 @@ ghost use Rattle.tnet.specs.Building.{too_many, script_ends, all_wires};
 use std::alloc::{AllocError, Global};
 use tplan::{End, Plan, Wire};
 
-/// How many wires there are.
+/// The number of all wires of a plan.
 pub fn wire_count(plan: &Plan) -> usize
     requires { too_many plan.now ≡ false }
     ensures { result ≡ length (all_wires plan.now) }
@@ -26,7 +26,7 @@ fn script_end(plan: &Plan, script: usize) -> End
     plan.sinks.as_slice()[script - sources.len()].end
 }
 
-/// One of all wires.
+/// The wire at a place among all wires of a plan.
 pub fn wire_at(plan: &Plan, place: usize) -> Wire
     requires few { too_many plan.now ≡ false }
     requires within { place < length (all_wires plan.now) }
@@ -44,7 +44,7 @@ pub fn wire_at(plan: &Plan, place: usize) -> Wire
     }
 }
 
-/// All of them.
+/// All wires of a plan.
 pub fn all_wires(alloc: Global, plan: &Plan) -> Result<Vec<Wire>, AllocError>
     requires { too_many plan.now ≡ false }
     ensures { IfOk result (λ wires. wires.items ≡ all_wires plan.now) }

@@ -13,7 +13,7 @@ use tplan::End;
 pub struct Sources<'a> {
     /// The net.
     parts: &'a Parts,
-    /// Its last nodes, with these sources among them.
+    /// The last nodes of the net, with these sources among them.
     nodes: &'a [Node],
     /// The number of the first of these nodes.
     number: u32,
@@ -24,7 +24,7 @@ pub struct Sources<'a> {
 pub struct Sinks<'a> {
     /// The net.
     parts: &'a Parts,
-    /// Its last nodes, with these sinks among them.
+    /// The last nodes of the net, with these sinks among them.
     nodes: &'a [Node],
     /// The number of the first of these nodes.
     number: u32,
@@ -68,7 +68,7 @@ impl<'a> Sources<'a> {
         }
     }
 
-    /// Takes the first one, with the end that it sends to, and leaves the others.
+    /// Takes the first source, with the end that it sends to, and leaves the others.
     pub fn take_first(&mut self) -> Option<(Option<End>, &'a Source)>
         ensures { MatchOption result ((self.old ≡ []) × (self.new ≡ [])) (λ s. self.old ≡ (s.0, s.1.now) ∷ self.new) }
     {
@@ -96,7 +96,7 @@ impl<'a> Sinks<'a> {
         }
     }
 
-    /// Takes the first one, with the end that it takes from, and leaves the others.
+    /// Takes the first sink, with the end that it takes from, and leaves the others.
     pub fn take_first(&mut self) -> Option<(Option<End>, &'a Sink)>
         ensures { MatchOption result ((self.old ≡ []) × (self.new ≡ [])) (λ s. self.old ≡ (s.0, s.1.now) ∷ self.new) }
     {

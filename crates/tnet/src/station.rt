@@ -22,18 +22,18 @@ use tword::Items;
 /// What an event of a node did, as others see it.
 #[derive(Drop)]
 pub struct Done {
-    /// The packet that it emitted, with its link.
+    /// The packet that the event emitted, with its link.
     pub packet: Option<(u8, Packet)>,
-    /// What it told.
+    /// The note that tells of the event.
     pub note: Option<Note>,
 }
 
 /// What runs of a node in a row did, as others see them.
 #[derive(Drop)]
 pub struct RunsDone {
-    /// How many were done.
+    /// How many runs were done.
     pub count: u32,
-    /// What the last one told.
+    /// The note that tells of the last run.
     pub note: Option<Note>,
 }
 
@@ -200,7 +200,7 @@ pub fn run(number: u8, node: &mut Node, most: u32) -> RunsDone
     }
 }
 
-/// So many runs that told nothing, and the answer of the one behind them, as others see them.
+/// What others see of so many runs that told nothing, and of the answer of the one behind them.
 fn last_told(number: u8, count: u32, answer: Result<Emitted, StepFault>) -> RunsDone
     requires { count + 1 < 2 ^ 32 }
     ensures { result ≡ last_told number count answer }

@@ -14,6 +14,7 @@ use tword::Items;
 #[derive(Drop)]
 pub struct Wires {
     pub wires: Items<Wire>,
+    /// For each node, the far ends of its four links, where they have a wire.
     pub far: Vec<[Option<End>; 4]>,
 }
 
@@ -34,10 +35,12 @@ impl Model for Wires {
 pub struct NetParts {
     pub nodes: Vec<Node>,
     pub wires: Wires,
+    /// For each node, what lies at its four links.
     pub inboxes: Vec<[Inbox; 4]>,
 }
 
 impl Wires {
+    /// Some wires, with the table of their far ends.
     pub fn new(wires: Items<Wire>, far: Vec<[Option<End>; 4]>) -> Self
         requires { AgreesWith wires far.items }
         ensures { result ≡ wires }
@@ -45,6 +48,7 @@ impl Wires {
         Wires { wires, far }
     }
 
+    /// The wires, and the table of their far ends.
     pub fn into_fields(self) -> (Items<Wire>, Vec<[Option<End>; 4]>)
         ensures wires { result.0 ≡ self }
         ensures table { AgreesWith self result.1.items }

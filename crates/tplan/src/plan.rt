@@ -9,7 +9,9 @@ use tword::{Break, Items, Kind, Word};
 /// The end of a wire: a node and one of its links.
 #[derive(Clone, Copy, Debug, PartialEq, Eq)]
 pub struct End {
+    /// The number of the node, from 0 on.
     pub node: u32,
+    /// The number of the link, 0 to 3.
     pub link: u32,
 }
 
@@ -23,6 +25,7 @@ pub struct Wire {
 /// Bytes that are loaded at an address.
 #[derive(Drop)]
 pub struct Segment {
+    /// The address of the first byte.
     pub address: Word,
     pub bytes: Items<u8>,
 }
@@ -30,7 +33,9 @@ pub struct Segment {
 /// A process that is added, with its first address.
 #[derive(Clone, Copy, Debug, PartialEq, Eq)]
 pub struct Process {
+    /// The descriptor: the address of the workspace, plus 1 for a low process.
     pub wdesc: Word,
+    /// The address of the process's first instruction.
     pub iptr: Word,
 }
 
@@ -44,6 +49,7 @@ pub struct Image {
 /// One node of a plan: the number of bytes of its memory, its kind, and what is loaded.
 #[derive(Drop)]
 pub struct NodePlan {
+    /// The number of bytes of the memory, a multiple of 4.
     pub memory: u32,
     pub kind: Kind,
     pub image: Image,
@@ -52,7 +58,7 @@ pub struct NodePlan {
 /// A source, which stands at the far side of a node's link and offers messages there, one after another.
 #[derive(Drop)]
 pub struct SourcePlan {
-    /// The end that it feeds.
+    /// The end that the source feeds.
     pub end: End,
     /// The bytes of each message: 1 to 4,096.
     pub messages: Items<Items<u8>>,
@@ -61,15 +67,16 @@ pub struct SourcePlan {
 /// A sink, which stands at the far side of a node's link and keeps the messages that come there.
 #[derive(Clone, Copy, Debug, PartialEq, Eq)]
 pub struct SinkPlan {
-    /// The end that it takes from.
+    /// The end that the sink takes from.
     pub end: End,
-    /// How many bytes it takes: 1 to 65,536.
+    /// How many bytes the sink takes: 1 to 65,536.
     pub capacity: u32,
 }
 
 /// A net before it is built.
 #[derive(Drop)]
 pub struct Plan {
+    /// After how many instructions a low process may lose the processor: 1 to 65,536.
     pub timeslice: u32,
     pub nodes: Items<NodePlan>,
     pub wires: Items<Wire>,
@@ -96,9 +103,9 @@ pub enum BuildFault {
     SameEnd(usize),
     /// An end of this wire, source or sink is one of an earlier one.
     EndTwice(usize),
-    /// Of this node, this segment does not lie in the memory that programs may use. An empty one may lie anywhere.
+    /// This segment of this node does not lie in the memory that programs may use. An empty one may lie anywhere.
     BadSegment(usize, usize),
-    /// Of this node, this process is refused, with this break.
+    /// This process of this node is refused, with this break.
     BadProcess(usize, usize, Break),
     /// The capacity of this sink is not 1 to 65,536 bytes.
     BadCapacity(usize),

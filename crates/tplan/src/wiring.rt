@@ -41,14 +41,17 @@ pub enum WiringFault {
 /// A node of a wiring: the number of bytes of its memory, its kind and the name of its image.
 #[derive(Drop)]
 pub struct WiringNode {
+    /// The number of bytes of the memory, a multiple of 4.
     pub memory: u32,
     pub kind: Kind,
+    /// The name of the image's file, as the text has it.
     pub image: Items<u8>,
 }
 
 /// What a wiring file says.
 #[derive(Drop)]
 pub struct Wiring {
+    /// After how many instructions a low process may lose the processor: 1 to 65,536.
     pub timeslice: u32,
     pub nodes: Items<WiringNode>,
     pub wires: Items<Wire>,

@@ -14,12 +14,12 @@ pub record AgreesOn (claims : Claims) (workspaces : List ℕ) (links : List Link
   pub inputs : claims.inputs ≡ map (λ e. option_map buffer_of e.input) links
   pub outputs : claims.outputs ≡ map (λ e. option_map buffer_of e.output) links
 
--- and those of a control, where the words of these further workspaces are saved: of a process that is about to be
--- queued or to wait, or that has just left its queue
+-- the claims that a memory keeps are those of a control, where the words of these further workspaces are saved: of a
+-- process that is about to be queued or to wait, or that has just left its queue
 pub record AgreesWith (others : List ℕ) (claims : Claims) (m : Control) : Type 0 where
   pub on : AgreesOn claims (others ++ descheduled m) m.links
 
--- and those of a control alone
+-- the claims that a memory keeps are those of a control
 abbrev pub Agrees : Claims → Control → Type 0
 Agrees claims m = AgreesWith [] claims m
 
@@ -43,7 +43,7 @@ Leaves w m m' = (is_among w (descheduled m') ≡ false) × Unsettles w m m'
 abbrev pub AreSaved : Claims → Control → Type 0
 AreSaved claims m = (w : ℕ) → is_among w (descheduled m) ≡ true → has_saved claims w ≡ true
 
--- and has them still
+-- where each process that is queued or waits had its words saved, each has so still
 abbrev pub StillSaved : Control → Control → Type 0
 StillSaved m m' = (c : Claims) → AreSaved c m → AreSaved c m'
 
@@ -61,11 +61,11 @@ pub record IsReady (claims : Claims) (m : Control) : Type 0 where
   pub plain : IsPlain m
   pub agrees : Agrees claims m
 
--- how many are queued or wait
+-- how many processes are queued or wait
 abbrev pub descheduled_count : Control → ℕ
 descheduled_count m = length m.high + length m.low + length m.waiting
 
--- there is a place in each list for one more
+-- one more process may be queued or wait
 abbrev pub HasPlace : Control → Type 0
 HasPlace m = descheduled_count m < 512
 

@@ -52,7 +52,7 @@ DoesAction {A} x claims cells result claims' cells' =
     (f : A → StepAction) (old : Store) → length old ≡ length cells
     → run_from (x >>= f) old claims cells ≡ onward result (λ a. run_from (f a) old claims' cells')
 
--- the same, where the row has first laid a word down. from: the store with it
+-- the part of an action is done where the row has first laid a word down. from: the store with that word
 abbrev pub DoesActionFrom : {A : Type 0} → Action A → Claims → Store → Store → Result A Break → Claims → Store → Type 0
 DoesActionFrom {A} x claims cells from result claims' cells' =
     (f : A → StepAction) (old : Store) → length old ≡ length cells
@@ -63,7 +63,8 @@ abbrev pub Refuses : {A : Type 0} → Action A → Claims → Store → Break �
 Refuses {A} x claims cells b =
     (f : A → StepAction) (old new : Store) → length old ≡ length cells → run_from (x >>= f) old claims new ≡ Err b
 
--- and so does one that comes right after a part
+-- a part of an action that comes right after another breaks a rule, whatever the step has changed so far and whatever
+-- follows
 abbrev pub RefusesAfter : {A B : Type 0} → Action A → Action B → Claims → Store → Break → Type 0
 RefusesAfter {A} {B} x y claims cells b =
     (f : B → StepAction) (old new : Store) → length old ≡ length cells

@@ -15,7 +15,7 @@ use Rattle.tproc.specs.declared.waiter.Waiter.{Waiter}
 use Rattle.tproc.specs.declared.waiter.Entry.{Entry}
 use Rattle.tproc.specs.declared.run_queue.RunQueue.{RunQueue}
 
--- these are the ends of this queue
+-- what is kept of a queue is its length and its two ends
 pub record IsQueue (q : List ℕ) (r : RunQueue) : Type 0 where
   pub count : r.count ≡ length q
   pub front : IfSome (slice_get q 0) (λ w. r.front ≡ w)
@@ -38,23 +38,23 @@ IsEntryAt entries i process = (i < length entries) × IsTrue (is_entry_of proces
 abbrev pub workspaces : List Entry → List ℕ
 workspaces table = map (λ e. workspace_of e.process) table
 
--- no two of a table share a workspace
+-- no two processes of a table share a workspace
 abbrev pub ShareNoWorkspace : List Entry → Type 0
 ShareNoWorkspace table = AllPairs (λ v w. v ≢ w) (workspaces table)
 
--- these workspaces are saved
+-- the words of each of these workspaces are saved
 abbrev pub AreAllSaved : Claims → List ℕ → Type 0
 AreAllSaved claims ws = (w : ℕ) → is_among w ws ≡ true → has_saved claims w ≡ true
 
--- and so are those of a table
+-- the words of each process of a table are saved
 abbrev pub AreSavedOf : Claims → List Entry → Type 0
 AreSavedOf claims table = AreAllSaved claims (workspaces table)
 
--- what is in the table that waits
+-- a process of the table with what it waits for, if it waits
 abbrev pub waiter_of : Entry → Option Waiter
 waiter_of e = option_map (λ r. record { process = e.process; reason = r }) e.reason
 
--- and what is in the queue of a priority
+-- the workspace of a process, if it is in the queue of a priority; and those of all that a table has there
 abbrev pub queued_by : ℕ → ℕ → Option Reason → Option ℕ
 queued_by priority process None =
     if priority_of process == priority then Some (workspace_of process) else None
@@ -63,22 +63,22 @@ queued_by priority process (Some r) = None
 abbrev pub queue_in : ℕ → List Entry → List ℕ
 queue_in priority table = filter_map (λ e. queued_by priority e.process e.reason) table
 
--- and those that wait
+-- the processes of a table that wait
 abbrev pub waiting_in : List Entry → List Waiter
 waiting_in table = filter_map waiter_of table
 
--- the two queues, and those that wait
+-- the two queues, and the processes that wait
 pub record Lists : Type 0 where
   pub high : List ℕ
   pub low : List ℕ
   pub waiting : List Waiter
 
--- those of a table
+-- the two queues of a table, and its processes that wait
 abbrev pub lists_of : List Entry → Lists
 lists_of table =
     record { high = queue_in 0 table; low = queue_in 1 table; waiting = waiting_in table }
 
--- all workspaces of them
+-- the workspaces of all that are queued or wait
 abbrev pub workspaces_in : Lists → List ℕ
 workspaces_in l = l.high ++ l.low ++ map (λ w. workspace_of w.process) l.waiting
 

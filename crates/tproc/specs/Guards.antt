@@ -16,23 +16,23 @@ use Rattle.tproc.specs.Doing.{onward}
 use Rattle.tproc.specs.declared.guards.Guard.{Guard}
 use Rattle.tproc.specs.declared.guards.Guard.TheVariants.{Link, Enabled, Ready}
 
--- the control once the guard is disabled
+-- the control once a guard is disabled
 abbrev pub control_after : Guard → Control → Control
 control_after (Link l noticed) m = with_link l (record (link_end m l) { remembered = None }) m
 control_after _ m = m
 
--- the store once it is
+-- the store once a guard is disabled
 abbrev pub store_after : Guard → Store → Store
 store_after (Enabled channel) cells = with_word cells channel not_process
 store_after _ cells = cells
 
--- whether it was ready
+-- whether a guard that is disabled was ready
 abbrev pub ready_as : Guard → Bool
 ready_as (Link l noticed) = noticed
 ready_as Ready = true
 ready_as _ = false
 
--- its link is there, and its channel word may be written
+-- a guard may be disabled: its link is there, or its channel word may be written
 abbrev pub MayDisable : ℕ → Claims → Guard → Type 0
 MayDisable size claims (Link l noticed) = l < 4
 MayDisable size claims (Enabled channel) = word_break size claims Writes channel ≡ None

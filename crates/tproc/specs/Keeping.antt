@@ -11,11 +11,11 @@ use Rattle.tproc.specs.Links.{notice, finish_output, finish_input}
 use Rattle.tproc.specs.Messages.{output_of, input_of}
 use Rattle.tproc.specs.Steps.{step}
 
--- each live process stays at one place
+-- each step keeps each live process at one place
 abbrev pub StepsKeepPlaced : Type 0
 StepsKeepPlaced = (n n' : Machine) (r : Ran) → IsPlaced n → step n ≡ Ok (n', r) → IsPlaced n'
 
--- and no claims meet
+-- each step keeps the claims apart
 abbrev pub ClaimsStayApart : Type 0
 ClaimsStayApart = (n n' : Machine) (r : Ran) → IsPlaced n → step n ≡ Ok (n', r) → AreApart (claims_of n'.control)
 

@@ -15,6 +15,6 @@ pub record IsAlike (n n' : Machine) : Type 0 where
   pub kind : n'.control.kind ≡ n.control.kind
   pub size : length n'.store ≡ length n.store
 
--- each move leaves it so
+-- each move leaves the kind of a processor, and how many bytes it has
 abbrev pub KindsStay : Type 0
 KindsStay = (n : Machine) → IsPlaced n → OfEachMove IsAlike n

@@ -19,12 +19,12 @@ abbrev pub HasByte : Option Offer → ℕ → Type 0
 HasByte None k = ⊥
 HasByte (Some o) k = k < o.length
 
--- that byte
+-- the byte of this number of a message that is pending
 abbrev pub byte_of : Option Offer → ℕ → Machine → ℕ
 byte_of None k m = 0
 byte_of (Some o) k m = unwrap_or (byte_at m.store (o.buffer + k)) 0
 
--- that byte is set
+-- the byte of this number of a message that is pending is set
 abbrev pub with_byte : Option Offer → ℕ → ℕ → Machine → Machine
 with_byte None k byte m = m
 with_byte (Some o) k byte m = record m { store = with_cells m.store (o.buffer + k) (as_cells (byte ∷ [])) }

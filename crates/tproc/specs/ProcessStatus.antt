@@ -33,7 +33,7 @@ current_process m = option_map (λ p. m.registers.wptr + p) m.current
 abbrev pub interrupted_process : Control → Option ℕ
 interrupted_process m = option_map (λ s. s.registers.wptr + 1) m.interrupted
 
--- it is this process
+-- a process is there, and is this one
 abbrev pub is_that : Option ℕ → ℕ → Bool
 is_that None process = false
 is_that (Some p) process = p == process
@@ -67,7 +67,7 @@ live m =
 abbrev pub is_live : Control → ℕ → Bool
 is_live m workspace = is_among workspace (live m)
 
--- how many may live
+-- how many processes may live
 abbrev pub most_processes : ℕ
 most_processes = 512
 

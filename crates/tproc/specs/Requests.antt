@@ -55,12 +55,12 @@ offers_at_workspace length process m =
     message (pop (pop r))
     (record { process = process; side = Output; channel = r.b; buffer = r.wptr; length = length }) m
 
--- what a process waits for that stands so
+-- what a process waits for, if it is found to wait
 abbrev pub reason_in : ProcessStatus → Option Reason
 reason_in (Waits reason) = Some reason
 reason_in _ = None
 
--- a process that stands so is queued, if that is said
+-- a fact, if a process is found in its queue
 abbrev pub IfQueued : ProcessStatus → Type 0 → Type 0
 IfQueued Queued fact = fact
 IfQueued _ fact = Unit {0}

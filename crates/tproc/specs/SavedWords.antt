@@ -77,14 +77,14 @@ linked_from store (suc k) w = w ∷ linked_from store k (word_at store (word_bel
 abbrev pub IsThreaded : Store → List ℕ → Type 0
 IsThreaded store q = linked_from store (length q) (slice_index_or q 0 0) ≡ q
 
--- so it is for both queues
+-- whoever follows the links from the front of either queue finds the queue
 abbrev pub AreThreaded : Machine → Type 0
 AreThreaded n = (priority : ℕ) → IsThreaded n.store (queue n.control priority)
 
--- they are so in a processor without a process
+-- the queues of a processor without a process are found by their links
 abbrev pub EmptyIsThreaded : Type 0
 EmptyIsThreaded = (size timeslice : ℕ) (kind : Kind) → AreThreaded (empty_machine size timeslice kind)
 
--- each move leaves them so
+-- each move leaves the queues so that they are found by their links
 abbrev pub QueuesStayThreaded : Type 0
 QueuesStayThreaded = (n : Machine) → IsPlaced n → AreThreaded n → OfEachMove (λ _ n'. AreThreaded n') n

@@ -56,7 +56,7 @@ with_output l process buffer length n =
           }) n.control;
     })
 
--- as a high process that has interrupted a low one
+-- a machine whose process is a high one that has interrupted a low one
 abbrev interrupting : ℕ → Machine → Machine
 interrupting workspace n =
     record n {
@@ -138,7 +138,7 @@ enabled_by_itself : step_answered (step (asks_link 0x8000_0101)) ≡ Ok (LinkIn 
 unfolding computes notice
 enabled_by_itself = refl
 
--- one that is not live any more keeps the link
+-- a process that enabled the link keeps it though it is not live any more
 enabled_by_dead : step_answered (step (asks_link 0x8000_00d1)) ≡ Err LinkBusy
 unfolding computes notice
 enabled_by_dead = refl
@@ -166,7 +166,7 @@ covering-copied : word_then 0x8000_00b4 (covering 0x8000_00d1) ≡ Some 0x8000_0
 unfolding computes notice
 covering-copied = refl
 
--- the other priority names nobody
+-- a descriptor of the other priority names nobody
 covering-priority : step_answered (step (covering 0x8000_00d0)) ≡ Err ChannelMisuse
 unfolding computes notice
 covering-priority = refl
@@ -196,7 +196,7 @@ enables-not : step_answered (step (enables 0 7)) ≡ Ok Instruction
 unfolding computes notice
 enables-not = refl
 
--- else its word is touched as if written
+-- with a true guard the channel word is touched as if written
 enables-in_transit : step_answered (step (with_output 0 0x8000_00d1 0x8000_00a0 4 (enables 1 0x8000_00a0)))
     ≡ Err InTransit
 unfolding computes notice
@@ -210,12 +210,12 @@ enables-misused = refl
 abbrev jumping : Machine
 jumping = running 0x8000_0100 0 0 0 (0x00 ∷ [])
 
--- alone
+-- a jump of the only process
 jumping-alone : count_then jumping ≡ Some (Some 1, 0)
 unfolding computes notice
 jumping-alone = refl
 
--- behind another process, whose link word then names it
+-- a jump beside a queued process, whose link word then names the one that jumped
 jumping-back : low_then (with_queued 0x8000_00d0 jumping) ≡ Some (0x8000_00d0 ∷ 0x8000_0100 ∷ [])
 unfolding computes notice
 jumping-back = refl
@@ -224,7 +224,7 @@ jumping-link : word_then 0x8000_00c8 (with_queued 0x8000_00d0 jumping) ≡ Some 
 unfolding computes notice
 jumping-link = refl
 
--- on the workspace of a queued process
+-- a jump of a process on the workspace of a queued one
 jumping-saved : step_answered (step (with_queued 0x8000_0100 jumping)) ≡ Err SavedWord
 unfolding computes notice
 jumping-saved = refl
@@ -273,24 +273,24 @@ start_odd = refl
 abbrev state_noticed : ℕ → Machine → ℕ
 state_noticed a n = word_at (notice 2 n).store a
 
--- of the process that runs
+-- the process that runs enabled the link: its state word is set
 noticed-running : state_noticed 0x8000_00f4 (with_enabled 2 0x8000_0101 (enables 0 0)) ≡ 0x8000_0003
 unfolding computes notice
 noticed-running = refl
 
--- where it may not write that word, nothing
+-- the process that runs may not write its state word: the word stands
 noticed-silent : state_noticed 0x8000_00f4
     (with_output 0 0x8000_00d1 0x8000_00f4 1 (with_enabled 2 0x8000_0101 (enables 0 0))) ≡ 0x8000_0001
 unfolding computes notice
 noticed-silent = refl
 
--- of a queued process
+-- a queued process enabled the link: its state word is set
 noticed-queued : state_noticed 0x8000_00c4
     (with_this 0x8000_00c4 0x8000_0001 (with_queued 0x8000_00d0 (with_enabled 2 0x8000_00d1 jumping))) ≡ 0x8000_0003
 unfolding computes notice
 noticed-queued = refl
 
--- one that waits for its alternative is queued
+-- a process that waits for its alternative enabled the link: it is queued
 noticed-waiting : (notice 2 (with_waiter 0x8000_00d1 Chooses (with_enabled 2 0x8000_00d1 jumping))).control.low
     ≡ 0x8000_00d0 ∷ []
 unfolding computes notice

@@ -39,7 +39,7 @@ pub enum Side {
 /// What a process asks for.
 #[derive(Clone, Copy, Debug, PartialEq, Eq)]
 pub struct Request {
-    /// Its descriptor.
+    /// The descriptor of the process.
     pub process: Word,
     pub side: Side,
     pub channel: Word,
@@ -52,7 +52,7 @@ pub struct Request {
 }
 
 impl Request {
-    /// What the process then waits for.
+    /// What the process waits for where its request is not met at once.
     pub fn reason(&self) -> Reason
         ensures { result ≡ reason_for (request self.now) (request self.now).side }
     {

@@ -71,7 +71,7 @@ impl ClaimedMemory {
         Ok(ClaimedMemory { memory, marks })
     }
 
-    /// The same memory with the same claims.
+    /// A copy of the memory and its claims.
     ///
     /// # Errors
     /// `OutOfMemory` where the allocator refuses.
@@ -126,7 +126,7 @@ impl ClaimedMemory {
         self.memory.may_write_word(&self.marks, address)
     }
 
-    /// The same, once the words of a workspace are saved.
+    /// Whether the word at an address may be written once the words of a workspace are saved.
     pub fn may_write_word_beside(&self, workspace: Word, address: Word) -> Result<(), Break>
         ensures { result
             ≡ or_break (word_break (length self.now.memory) (saving workspace self.now.marks) Writes address) tt }
@@ -153,7 +153,7 @@ impl ClaimedMemory {
         self.memory.may_read(&self.marks, start, size)
     }
 
-    /// The same, once the words of a workspace are saved.
+    /// Whether some bytes may be read once the words of a workspace are saved.
     pub fn may_read_beside(&self, workspace: Word, start: Word, size: u32) -> Result<(), Break>
         ensures { result ≡ may_touch (length self.now.memory) (saving workspace self.now.marks) Reads start size }
     {
@@ -168,7 +168,7 @@ impl ClaimedMemory {
         self.memory.may_write(&self.marks, start, size)
     }
 
-    /// The same, once the words of a workspace are saved.
+    /// Whether some bytes may be written once the words of a workspace are saved.
     pub fn may_write_beside(&self, workspace: Word, start: Word, size: u32) -> Result<(), Break>
         ensures { result ≡ may_touch (length self.now.memory) (saving workspace self.now.marks) Writes start size }
     {

@@ -41,7 +41,7 @@ impl Model for Descheduled {
 }
 
 impl Descheduled {
-    /// Nobody, with room for all that may live in a memory of so many bytes.
+    /// No queued and no waiting process, with room for all that may live in a memory of so many bytes.
     ///
     /// # Errors
     /// Where the allocator refuses.
@@ -55,7 +55,7 @@ impl Descheduled {
         })
     }
 
-    /// The same queues and table, with the same room.
+    /// A copy of the queues and the table, with the same room.
     ///
     /// # Errors
     /// Where the allocator refuses.
@@ -69,14 +69,15 @@ impl Descheduled {
         })
     }
 
-    /// Whether these are the processes of the table, in the order in which they came. Where it says so, they are.
+    /// Whether the processes of the table are these entries, in the order in which they came. Where it says so, they
+    /// are.
     pub fn has_just(&self, entries: &[Entry]) -> bool
         ensures { result ≡ true → lists_of entries.now ≡ self.now }
     {
         self.table.is_just(entries)
     }
 
-    /// How many there are.
+    /// The number of processes that are queued or wait.
     #[inline]
     pub fn len(&self) -> usize
         ensures is { result ≡ length self.now.high + length self.now.low + length self.now.waiting }
@@ -85,7 +86,7 @@ impl Descheduled {
         self.table.len()
     }
 
-    /// All of them, in the order in which they came.
+    /// The processes that are queued or wait, in the order in which they came.
     ///
     /// # Errors
     /// Where the allocator refuses.
@@ -123,7 +124,7 @@ impl Descheduled {
         }
     }
 
-    /// How a process stands here, if it does.
+    /// The entry of a process, if it is queued or waits.
     #[inline]
     pub fn find(&self, claimed: &ClaimedMemory, process: Word) -> Option<Entry>
         requires apart { AllPairs (λ v w. v ≢ w) (workspaces_in self.now) }

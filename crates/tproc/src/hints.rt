@@ -21,7 +21,7 @@ impl Hints {
         Ok(Hints { places })
     }
 
-    /// The same hints.
+    /// A copy of the hints.
     ///
     /// # Errors
     /// Where the allocator refuses.

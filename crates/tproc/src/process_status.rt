@@ -16,13 +16,13 @@ use tword::Word;
 /// onto its workspace.
 #[derive(Clone, Copy, Debug, PartialEq, Eq)]
 pub enum ProcessStatus {
-    /// It waits for this.
+    /// The process waits for this.
     Waits(Reason),
-    /// It is in the queue of its priority.
+    /// The process is in the queue of its priority.
     Queued,
-    /// It is the process that runs.
+    /// The process is the one that runs.
     Runs,
-    /// It is the low process that was interrupted.
+    /// The process is the low one that was interrupted.
     Interrupted,
     /// No live process has this descriptor.
     Unknown,

@@ -42,7 +42,7 @@ impl Model for ProcessTable {
 }
 
 impl ProcessTable {
-    /// Nobody, with room for all that may live in a memory of so many bytes.
+    /// A table without processes, with room for all that may live in a memory of so many bytes.
     ///
     /// # Errors
     /// Where the allocator refuses.
@@ -56,7 +56,7 @@ impl ProcessTable {
         })
     }
 
-    /// The same table, with the same room.
+    /// A copy of the table, with the same room.
     ///
     /// # Errors
     /// Where the allocator refuses.
@@ -73,7 +73,7 @@ impl ProcessTable {
         })
     }
 
-    /// How many are queued or wait.
+    /// The number of processes that are queued or wait.
     #[inline]
     pub fn len(&self) -> usize
         ensures is { result ≡ length self.now }
@@ -82,7 +82,7 @@ impl ProcessTable {
         self.count
     }
 
-    /// All of them, in the order in which they came.
+    /// The processes that are queued or wait, in the order in which they came.
     ///
     /// # Errors
     /// Where the allocator refuses.
@@ -98,7 +98,8 @@ impl ProcessTable {
         Ok(all)
     }
 
-    /// Whether these are all of them, in the order in which they came. Where it says so, they are.
+    /// Whether the processes that are queued or wait are these entries, in the order in which they came. Where it says
+    /// so, they are.
     pub fn is_just(&self, entries: &[Entry]) -> bool
         ensures { result ≡ true → entries.now ≡ self.now }
     {
@@ -114,7 +115,8 @@ impl ProcessTable {
         rest.is_empty()
     }
 
-    /// The entry of a process. All of the table have their words saved, so that a process that runs is not sought.
+    /// The entry of a process, if it has one. The words of each process of the table are saved, so that a process that
+    /// runs is not sought.
     #[inline]
     pub fn find(&self, claimed: &ClaimedMemory, process: Word) -> Option<Entry>
         requires apart { ShareNoWorkspace self.now }
@@ -138,7 +140,7 @@ impl ProcessTable {
         usize::from(self.hints.of(process))
     }
 
-    /// One more process is queued or waits.
+    /// A process comes into the table, behind the others.
     #[inline]
     pub fn push(&mut self, entry: Entry)
         requires { length self.old < 512 }
@@ -165,7 +167,7 @@ impl ProcessTable {
         }
     }
 
-    /// The same, where the process is sought.
+    /// A process is no longer queued, or waits no longer, where the hint does not tell its place.
     #[cold]
     #[inline(never)]
     fn remove_sought(&mut self, process: Word)

@@ -13,14 +13,14 @@ use tword::Word;
 pub struct RunQueue {
     /// The workspace of the process that runs next, if there is one.
     pub front: Word,
-    /// That of the one that came last.
+    /// The workspace of the process that came last, if there is one.
     pub back: Word,
-    /// How many are queued.
+    /// How many processes are queued.
     pub count: u32,
 }
 
 impl RunQueue {
-    /// Nobody is queued.
+    /// A queue without processes.
     pub fn new() -> RunQueue
         ensures { IsQueue [] result }
     {

@@ -32,7 +32,7 @@ pub struct State {
     pub descheduled: Descheduled,
     pub links: [LinkEnd; 4],
     pub timeslice: u32,
-    /// What kind of node it is.
+    /// The kind of the node.
     pub kind: Kind,
     pub halted: bool,
 }
@@ -105,7 +105,7 @@ impl State {
         })
     }
 
-    /// The same state, with the same room.
+    /// A copy of the state, with the same room.
     ///
     /// # Errors
     /// Where the allocator refuses.
@@ -221,7 +221,7 @@ impl State {
         self.count = count;
     }
 
-    /// A link.
+    /// The state of a link.
     #[inline]
     pub fn link(&self, link: u8) -> LinkEnd
         requires { link < 4 }

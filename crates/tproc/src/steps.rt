@@ -54,7 +54,7 @@ fn jumps(
     }
 }
 
-/// Whether any instruction of a step jumps.
+/// Whether the instruction of a step jumps, whichever it is.
 #[cold]
 #[inline(never)]
 fn jumps_otherwise(

@@ -7,30 +7,30 @@ use tword::Word;
 /// What a process waits for that neither runs nor is queued.
 #[derive(Clone, Copy, Debug, PartialEq, Eq)]
 pub enum Reason {
-    /// To receive a message on an internal channel.
+    /// The process waits to receive a message on an internal channel.
     Receives {
         channel: Word,
         buffer: Word,
         length: u32,
     },
-    /// To send one.
+    /// The process waits to send a message on an internal channel.
     Sends {
         channel: Word,
         buffer: Word,
         length: u32,
     },
-    /// To receive a message on a link.
+    /// The process waits to receive a message on this link.
     LinkInput(u8),
-    /// To send one.
+    /// The process waits to send a message on this link.
     LinkOutput(u8),
-    /// A guard of its alternative that is ready.
+    /// The process waits until a guard of its alternative is ready.
     Chooses,
 }
 
 /// A process that waits.
 #[derive(Clone, Copy, Debug, PartialEq, Eq)]
 pub struct Waiter {
-    /// Its descriptor.
+    /// The descriptor of the process.
     pub process: Word,
     pub reason: Reason,
 }
@@ -38,9 +38,9 @@ pub struct Waiter {
 /// A process that is queued or waits.
 #[derive(Clone, Copy, Debug, PartialEq, Eq)]
 pub struct Entry {
-    /// Its descriptor.
+    /// The descriptor of the process.
     pub process: Word,
-    /// What it waits for, unless it is queued.
+    /// What the process waits for, unless it is queued.
     pub reason: Option<Reason>,
 }
 
@@ -61,6 +61,6 @@ pub struct LinkEnd {
 #[derive(Clone, Copy, Debug, PartialEq, Eq)]
 pub struct Suspended {
     pub registers: Registers,
-    /// Its instructions since it was dispatched.
+    /// How many instructions the process has done since it was dispatched.
     pub count: u32,
 }

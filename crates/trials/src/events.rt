@@ -159,7 +159,7 @@ fn digest_with(digest: u32, number: u32) -> u32 {
     digest.wrapping_mul(31).wrapping_add(number)
 }
 
-/// So many events are drawn: the digest of their answers.
+/// Draws so many events and asks the net for each: answers the digest of the net's answers.
 fn draw(net: &mut Net, seed: u32, count: u32) -> u32 {
     let mut bits = seed;
     let mut digest = 0;

@@ -101,8 +101,8 @@ fn turns_are_left_out_at_rest(rt: HostRuntime) -> Result<(), Fail> {
     Ok(())
 }
 
-/// Each of two workers in a call of its own, on a thread beside the other's. It is not all of its opening, and makes
-/// all its turns: so it is still there when a packet comes from the other, and the message comes through.
+/// A worker in a call of its own, on a thread beside the other's, makes all its turns, since it is not all of its
+/// opening: so it is still there when a packet comes from the other, and the message comes through.
 #[test]
 fn one_of_two_workers_makes_all_its_turns(rt: HostRuntime) -> Result<(), Fail> {
     let alloc = rt.alloc();

@@ -12,7 +12,7 @@ use tfiles::{CountedRead, ReadFault, Uncounted, read_whole};
 struct Pieces {
     left: &'static [u8],
     at_once: usize,
-    /// In which read from now on it fails, 0 for none.
+    /// In which read from now on the reader fails, 0 for none.
     fails_in: usize,
     failure: ErrorKind,
     failures: u64,

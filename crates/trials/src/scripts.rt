@@ -10,7 +10,7 @@ use tplan::{Act, End};
 /// The messages of the source: the node passes them on to the sink.
 const MESSAGES: [[u8; 4]; 2] = [[1, 2, 3, 4], [10, 11, 12, 13]];
 
-/// One of each event that the net may need: of the node, of the source and of the sink.
+/// Each event that the net may need, once: those of the node, of the source and of the sink.
 const EVENTS: [(u8, Act); 9] = [
     (0, Act::Run),
     (0, Act::Data(2)),

@@ -19,7 +19,7 @@ struct Back {
     events: u64,
 }
 
-/// It has the share with which it went.
+/// The promise that a worker comes back with the share with which it went.
 #[derive(Drop)]
 struct SameShare(Snapshot<Worker>);
 
@@ -47,7 +47,7 @@ fn make_turns(mut worker: Worker) -> Back
     Back { worker, events }
 }
 
-/// Each of three workers on a thread of its own.
+/// Lets three workers make their turns, each on a thread of its own.
 fn on_threads<R: Threads + Wait + Sync>(
     rt: &R,
     first: Worker,

@@ -10,7 +10,7 @@ use Rattle.trounds.specs.Reports.{report, refusal}
 abbrev pub hold_after : ℕ → Hold → Hold
 hold_after done h = record h { from = h.from - done; until = h.until - done }
 
--- so for all holds
+-- holds, where the rounds are counted anew after so many of them
 abbrev pub holds_after : ℕ → List Hold → List Hold
 holds_after done holds = map (hold_after done) holds
 
@@ -36,7 +36,7 @@ RoundsGoOn =
     → report holds slice (some + more) net
     ≡ joined (report holds slice some net) (resumed holds slice more (report holds slice some net))
 
--- and what is not refused is not refused when it goes on
+-- rounds that are not refused are not refused where they go on
 abbrev pub GoingOnIsNotRefused : Type 0
 GoingOnIsNotRefused =
     (holds : List Hold) (slice some workers : ℕ) (net : NetState) → refusal workers holds net ≡ None

@@ -106,7 +106,7 @@ abbrev pub lies : Inbox → PacketKind → Bool
 lies i kind.Data = is_some i.carried
 lies i kind.Ack = i.acknowledged
 
--- a packet that lay there before the round and is not held is taken
+-- a packet that lay at a link before the round and is not held is taken
 abbrev pub part_packet : Inbox → List Hold → ℕ → PacketKind → ℕ → Part → Part
 part_packet lay holds r k l p =
     if lies lay k && not (is_held holds r (end_at p.station.number l) k) then part_does (taking k l) p else p
@@ -118,7 +118,7 @@ part_arrived lay holds r p l = part_packet lay holds r kind.Data l (part_packet 
 abbrev pub part_arrivals : List Inbox → List Hold → ℕ → Part → ℕ → Part
 part_arrivals before holds r p l = part_arrived (slice_index_or before l empty_inbox) holds r p l
 
--- so many runs
+-- so many runs of the node, each if it is enabled
 abbrev pub part_runs : ℕ → Part → Part
 part_runs zero p = p
 part_runs (suc k) p = part_runs k (part_does Run p)

@@ -20,11 +20,11 @@ use Rattle.trounds.specs.Parts.{Station, Part, fresh, parts, stations_after, net
 abbrev pub station_of : RoundNode → Station
 station_of r = record { number = r.number; node = r.node; inboxes = r.inboxes; far = r.far }
 
--- its part so far
+-- the part that a round node has done so far
 abbrev pub part_of : RoundNode → Part
 part_of r = record { station = station_of r; outbox = r.outbox.items; events = r.events.items; notes = r.notes.items }
 
--- what it has sent, done and told
+-- what a round node has sent, done and told
 abbrev pub told_of : RoundNode → List Sending × List Event × List Note
 told_of r = (r.outbox.items, r.events.items, r.notes.items)
 
@@ -32,17 +32,17 @@ told_of r = (r.outbox.items, r.events.items, r.notes.items)
 abbrev pub stations_of : List RoundNode → List Station
 stations_of round_nodes = map station_of round_nodes
 
--- and their parts
+-- the parts that round nodes have done so far
 abbrev pub parts_of : List RoundNode → List Part
 parts_of round_nodes = map part_of round_nodes
 
--- there is room for so many events, notes and sendings
+-- a round node has room for so many events, notes and sendings
 pub record HasRoom (e n m : ℕ) (r : RoundNode) : Type 0 where
   pub events : vec_len r.events + e ≤ vec_capacity r.events
   pub notes : vec_len r.notes + n ≤ vec_capacity r.notes
   pub outbox : vec_len r.outbox + m ≤ vec_capacity r.outbox
 
--- no more than so many were written down
+-- a round node has written down no more than so many events, notes and sendings
 pub record Spends (e n m : ℕ) (r r' : RoundNode) : Type 0 where
   pub events : vec_len r'.events ≤ vec_len r.events + e
   pub event_room : vec_capacity r'.events ≡ vec_capacity r.events

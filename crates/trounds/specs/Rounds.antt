@@ -48,7 +48,7 @@ same_kind _ _ = false
 abbrev pub covers : Hold → ℕ → End → PacketKind → Bool
 covers h r e k = same_end h.end e && same_kind h.kind k && nat_le h.from r && nat_lt r h.until
 
--- some hold covers them
+-- some hold covers packets of this kind at this end in this round
 abbrev pub is_held : List Hold → ℕ → End → PacketKind → Bool
 is_held holds r e k = list_any (λ h. covers h r e k) holds
 
@@ -62,7 +62,7 @@ abbrev pub taking : PacketKind → ℕ → Act
 taking kind.Data l = Data l
 taking kind.Ack l = Ack l
 
--- a packet that lay there and is not held is taken
+-- a packet that lay at a link before the round and is not held is taken
 abbrev pub try_packet : NetState → List Hold → ℕ → ℕ → PacketKind → ℕ → Progress → Progress
 try_packet before holds r n k l p =
     if lay before (end_at n l) k && not (is_held holds r (end_at n l) k) then try_act n (taking k l) p else p

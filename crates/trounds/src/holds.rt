@@ -30,7 +30,7 @@ fn covers(hold: &Hold, round: u32, end: End, kind: PacketKind) -> bool
         && round < hold.until
 }
 
-/// Whether some hold covers them.
+/// Whether some hold covers packets of a kind at an end in a round.
 pub fn is_held(holds: &[Hold], round: u32, end: End, kind: PacketKind) -> bool
     ensures { result ≡ plain.is_held holds.now round end kind }
 {

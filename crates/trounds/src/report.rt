@@ -34,9 +34,9 @@ pub struct Report {
     pub rounds: u32,
     /// The events that were done, in their order.
     pub events: Items<Event>,
-    /// What they had to tell, in their order.
+    /// The notes of the events, in their order.
     pub notes: Items<Note>,
-    /// The net after them.
+    /// The net after the events.
     pub net: Net,
 }
 

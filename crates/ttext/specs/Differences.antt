@@ -48,11 +48,11 @@ agree_elsewhere (a ∷ ls) (b ∷ ms) = agree_or_differ_in_memory a b && agree_e
 abbrev pub is_changed : (line other : List ℕ) → Bool
 is_changed a b = is_of_memory b && not (bytes_eq a b)
 
--- it, behind the heading that is due
+-- a changed line of a memory, behind the heading that is due
 abbrev pub change_text : (heading line other : List ℕ) → List ℕ
 change_text heading a b = if is_changed a b then heading ++ b else []
 
--- the heading that is due behind it: that of the node, until a line of it was printed
+-- the heading that is due behind a line: that of the node, until a line of it was printed
 abbrev pub heading_behind : (heading line other : List ℕ) → List ℕ
 heading_behind heading a b = if not (is_of_memory b) then b else if bytes_eq a b then heading else []
 

@@ -39,17 +39,17 @@ pub record AreFree (opened : NetState) (o : Options) (g : Gathered) : Type 0 whe
   pub turns : AreTurned o.rounds o.slice fresh true turned
   pub gathered : Gathers turned g.history g.notes g.net
 
--- so for the net of a wiring with its images
+-- what free workers did on the net of a wiring with its images
 pub record IsFreeRun (w : Wiring) (files : List (List ℕ)) (o : Options) (g : Gathered) : Type 0 where
   pub opened : NetState
   pub due : shared_of w files o ≡ Ok opened
   pub free : AreFree opened o g
 
--- the last line of what was gathered
+-- the last line of what is printed of free workers
 abbrev pub free_last : Gathered → List ℕ
 free_last g = free_end (is_quiet g.net)
 
--- what is printed of it
+-- what is printed of free workers
 abbrev pub free_text : Gathered → List ℕ
 free_text g = run_text g.notes (view g.net) (free_last g)
 

@@ -65,7 +65,7 @@ opened_with w (Err f) = Err f
 abbrev pub opened_of : Wiring → List (List ℕ) → Result NetState Fault
 opened_of w files = opened_with w (images_of files)
 
--- what is due, unless it is refused
+-- what is due, unless the rounds are refused
 abbrev pub unless_refused : {T : Type 0} → Option NetFault → T → Result T Fault
 unless_refused None r = Ok r
 unless_refused (Some f) r = Err (fault.Rounds f)
@@ -74,7 +74,7 @@ unless_refused (Some f) r = Err (fault.Rounds f)
 abbrev pub rounds_of : List Hold → Options → NetState → Result Report Fault
 rounds_of holds o net = unless_refused (refusal o.workers holds net) (report holds o.slice o.rounds net)
 
--- so for the net of a wiring, where there is one
+-- rounds of the net of a wiring, if there is one, else its fault
 abbrev pub rounds_with : Wiring → Options → Result NetState Fault → Result Report Fault
 rounds_with w o (Ok net) = rounds_of w.holds o net
 rounds_with w o (Err f) = Err f
@@ -88,7 +88,7 @@ abbrev pub is_quiet_end : Ending → Bool
 is_quiet_end ending.Quiet = true
 is_quiet_end ending.Rounds = false
 
--- the last line of rounds
+-- the last line of what is printed of rounds
 abbrev pub last_of : Report → List ℕ
 last_of r = rounds_end (is_quiet_end r.«end») r.rounds
 
@@ -102,7 +102,8 @@ IsFaultOf due fault.Memory = Unit {0}
 IsFaultOf due (fault.Output f) = ⊥
 IsFaultOf due f = due ≡ Err f
 
--- so for a text call, which may have failed to write the text that was due
+-- a fault of a text call is the one that is due, unless memory was wanted or the text that was due could not be
+-- written
 abbrev pub IsDue : {T : Type 0} → Result T Fault → Fault → Type 0
 IsDue due (fault.Output f) = IsOk due
 IsDue due f = IsFaultOf due f

@@ -49,45 +49,45 @@ offers s = offers_at_link s || offers_within (waiting s)
 abbrev pub waits : Node → Bool
 waits s = nat_lt 0 (length (waiting s))
 
--- how it ends where no node is frozen: a message is offered that nobody takes, or else processes wait, all of them for
--- messages, or else no process waits
+-- how a run ends where no node is frozen: a message is offered that nobody takes, or else processes wait, all of them
+-- for messages, or else no process waits
 abbrev pub rest_text : List Node → List ℕ
 rest_text nodes =
     if list_any offers nodes then codes "stuck" else if list_any waits nodes then codes "idle" else codes "ended"
 
--- behind a blank the instruction of the process that runs, if one does
+-- behind a blank the address of the instruction of the process that runs, if one does
 abbrev pub instruction_at : Control → Option ℕ → List ℕ
 instruction_at m (Some priority) = codes " " ++ word_text m.registers.iptr
 instruction_at m None = []
 
--- so at a node; a source or a sink has none
+-- behind a blank the address of the instruction that a node is at; nothing of a source or a sink
 abbrev pub instruction_text : Role → Control → List ℕ
 instruction_text Processor m = instruction_at m m.current
 instruction_text _ m = []
 
--- a freeze: the number of the node, the break, and the instruction
+-- a freeze: the number of the node, the break, and the address of the instruction
 abbrev pub freeze_text : ℕ → Break → Node → List ℕ
 freeze_text n b s =
     words (codes "freeze" ∷ decimal n ∷ break_name b ∷ []) ++ instruction_text s.role s.machine.control
 
--- that of a node, if it is frozen
+-- the freeze of a node, if it is frozen, else a later one
 abbrev pub freeze_or : ℕ → Node → Option Break → Option (List ℕ) → Option (List ℕ)
 freeze_or n s (Some b) later = Some (freeze_text n b s)
 freeze_or n s None later = later
 
--- that of the first node that is frozen, from a number on
+-- the freeze of the first node that is frozen, from a number on
 abbrev pub freeze_from : ℕ → List Node → Option (List ℕ)
 freeze_from n [] = None
 freeze_from n (s ∷ ss) = freeze_or n s s.broken (freeze_from (suc n) ss)
 
 -- ---- what is told
 
--- with the freeze, if there is one
+-- what is told of a configuration with this freeze, or with none
 abbrev pub telling_by : Option (List ℕ) → Configuration → Telling
 telling_by (Some freeze) w = record { heading = freeze; dump = dump_text w; is_freeze = true }
 telling_by None w = record { heading = rest_text w.nodes; dump = dump_text w; is_freeze = false }
 
--- of a configuration
+-- what is told of a configuration
 abbrev pub telling : Configuration → Telling
 telling w = telling_by (freeze_from 0 w.nodes) w
 
@@ -97,11 +97,11 @@ agree true true a b = true
 agree false false a b = bytes_eq a.dump b.dump
 agree _ _ a b = false
 
--- two are one outcome where heading and dump are the same, and one freeze where the heading is
+-- two tellings are one outcome where heading and dump are the same, and one freeze where the heading is
 abbrev pub is_one : Telling → Telling → Bool
 is_one a b = bytes_eq a.heading b.heading && agree a.is_freeze b.is_freeze a b
 
--- one more is told, unless it is one with an earlier one
+-- one more telling behind others, unless it is one with an earlier one
 abbrev pub with_telling : List Telling → Telling → List Telling
 with_telling told t = if list_any (λ earlier. is_one earlier t) told then told else told ++ t ∷ []
 
@@ -109,7 +109,7 @@ with_telling told t = if list_any (λ earlier. is_one earlier t) told then told 
 abbrev pub tellings : List Configuration → List Telling
 tellings shown = fold with_telling [] (map telling shown)
 
--- one more is told, if it is there
+-- the telling of one more configuration, if that is there, behind others
 abbrev pub told_with : Option Configuration → List Telling → List Telling
 told_with None told = told
 told_with (Some w) told = with_telling told (telling w)
@@ -124,7 +124,7 @@ abbrev pub states_shown : List Configuration → List Shown → List Configurati
 states_shown listed [] = []
 states_shown listed (s ∷ ss) = with_state (slice_get listed s.place) (states_shown listed ss)
 
--- it is told of the first of the configurations that are shown, and of all of them if it is whole
+-- the first of the configurations that are shown are told, and all of them if this is whole
 pub record TellsFirst (listed : List Configuration) (shown : List Shown) (told : List Telling) (whole : Bool)
     : Type 0 where
   pub count : ℕ

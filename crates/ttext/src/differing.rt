@@ -67,7 +67,7 @@ fn is_changed(line: &[u8], other: &[u8]) -> bool
     is_of_memory(other) && line != other
 }
 
-/// The heading that is due behind such a line.
+/// The heading that is due behind a line: that of the node, until a line of it was printed.
 fn heading_behind<'a>(heading: &'a [u8], line: &[u8], other: &'a [u8]) -> &'a [u8]
     ensures { result.now ≡ spec.heading_behind heading.now line.now other.now }
 {

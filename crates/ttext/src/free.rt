@@ -55,7 +55,7 @@ pub fn free_text<R: Threads + Sync, W: CountedWrite>(
         (IsFreeRun wiring.now files options.now)
         (IsDue (shared_of wiring.now files options.now)) }
 
-    // its text is written
+    // what is printed of free workers is written
     ensures text { IfOk result (λ g. Appends (W.contents out.old) (W.contents out.new) (spec.free_text g)) }
 
     // the headline: this is the text of one run of the rendezvous machine, in which each message that is complete
@@ -63,10 +63,10 @@ pub fn free_text<R: Threads + Sync, W: CountedWrite>(
     ensures run { IfOk result
         (λ g. ShowsOneRun wiring.now files g.history (free_last g) (W.contents out.old) (W.contents out.new)) }
 
-    // else nothing is written, or the beginning of the text of what workers did
+    // where a fault is answered nothing is written, or the beginning of the text of what workers did
     ensures left { IfErr result (IsFreeLeft W.contents (IsFreeRun wiring.now files options.now) out.old out.new) }
 
-    // and the output failed just where a write did
+    // the output failed just where a write did
     ensures cause { IfErr result (HasOutputCause (W.failures out.old) (W.failures out.new)) }
     ensures stayed { OnOk result (HasStayed (W.failures out.old) (W.failures out.new)) }
 {

@@ -27,7 +27,7 @@ pub fn open_net(alloc: Global, wiring: &Wiring, files: Items<Items<u8>>) -> Resu
     ensures answer { MatchResult result (λ net. opened_of wiring.now files ≡ Ok net)
         (IsFaultOf (opened_of wiring.now files)) }
 
-    // nothing is offered in it
+    // nothing is offered in the net
     ensures opening { IfOk result (IsOpening wiring.now files) }
 {
     let plan = plan(alloc, wiring, files)?;
@@ -65,7 +65,7 @@ pub(crate) fn plan(alloc: Global, wiring: &Wiring, files: Items<Items<u8>>) -> R
     })
 }
 
-/// The same sources.
+/// A copy of the sources.
 fn source_plans(alloc: Global, sources: &[SourcePlan]) -> Result<Items<SourcePlan>, AllocError>
     ensures { IfOk result (λ copies. copies ≡ sources.now) }
 {
@@ -79,7 +79,7 @@ fn source_plans(alloc: Global, sources: &[SourcePlan]) -> Result<Items<SourcePla
     Ok(Items::new(copies))
 }
 
-/// The same messages.
+/// A copy of the messages.
 fn messages(alloc: Global, messages: &[Items<u8>]) -> Result<Items<Items<u8>>, AllocError>
     ensures { IfOk result (λ copies. copies ≡ messages.now) }
 {

@@ -23,9 +23,9 @@ use tword::{Break, Items};
 /// What is told of a configuration in which a run has ended.
 #[derive(Drop)]
 pub struct Telling {
-    /// How it has ended: `ended`, `idle`, `stuck`, or `freeze 0 InTransit #8000009b`.
+    /// How the run has ended: `ended`, `idle`, `stuck`, or `freeze 0 InTransit #8000009b`.
     pub heading: Items<u8>,
-    /// Its dump.
+    /// The dump of the configuration.
     pub dump: Items<u8>,
     /// Whether a node is frozen.
     pub is_freeze: bool,
@@ -53,7 +53,7 @@ pub fn telling_of(alloc: Global, state: &Rendezvous) -> Result<Telling, AllocErr
     }
 }
 
-/// Whether two are one outcome, or one freeze.
+/// Whether two tellings are one outcome, or one freeze.
 pub fn is_one(one: &Telling, other: &Telling) -> bool
     ensures { result ≡ spec.is_one one.now other.now }
 {
@@ -186,7 +186,7 @@ fn put_freeze<W: CountedWrite>(out: &mut Output<'_, W>, number: usize, broken: B
     put_instruction(out, site);
 }
 
-/// Behind a blank the instruction of the process that runs at a node, if one does.
+/// Writes behind a blank the address of the instruction of the process that runs at a node, if one does.
 fn put_instruction<W: CountedWrite>(out: &mut Output<'_, W>, site: &Site)
     ensures { Tells W.contents W.failures out.old out.new
         (spec.instruction_text site.now.role site.now.machine.control) }
@@ -201,7 +201,7 @@ fn put_instruction<W: CountedWrite>(out: &mut Output<'_, W>, site: &Site)
     }
 }
 
-/// So of a processor.
+/// Writes behind a blank the address of the instruction of the process that a processor runs, if it runs one.
 fn put_iptr<W: CountedWrite>(out: &mut Output<'_, W>, processor: &Processor)
     ensures { Tells W.contents W.failures out.old out.new
         (spec.instruction_at processor.now.control processor.now.control.current) }
@@ -238,7 +238,7 @@ fn rest_of(alloc: Global, state: &Rendezvous) -> Result<Items<u8>, AllocError>
     Ok(Items::new(Vec::from_slice(alloc, heading.as_bytes())?))
 }
 
-/// Whether one or the other holds.
+/// Whether one of two conditions holds.
 fn either(one: bool, other: bool) -> bool
     ensures { result ≡ (one || other) }
 {
@@ -279,7 +279,7 @@ fn has_output(site: &Site) -> bool
     is_offered(site, 0) || is_offered(site, 1) || is_offered(site, 2) || is_offered(site, 3)
 }
 
-/// Whether one is at this link.
+/// Whether a message is offered at this link.
 fn is_offered(site: &Site, link: u8) -> bool
     requires { link < 4 }
     ensures { result ≡ is_some (fresh_output site.now link) }

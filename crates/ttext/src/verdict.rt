@@ -15,7 +15,7 @@ pub enum Verdict {
 }
 
 impl Verdict {
-    /// That of a command, by whether a node is frozen at its end.
+    /// The verdict of a command, by whether a node is frozen at its end.
     pub fn of(has_frozen: bool) -> Verdict
         ensures { result ≡ spec.verdict_by has_frozen }
     {

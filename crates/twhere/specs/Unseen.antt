@@ -11,15 +11,15 @@ use Rattle.twhere.specs.Wheres.{where_text}
 abbrev pub hidden_node : NodeState → NodeState
 hidden_node n = record n { machine = hidden n.machine }
 
--- a net with them hidden
+-- a net with the buffers of all pending inputs hidden
 abbrev pub hidden_net : NetState → NetState
 hidden_net net = record net { nodes = map hidden_node net.nodes }
 
--- the text is the same where they are hidden
+-- the text of a net is the same where the buffers of its pending inputs are hidden
 abbrev pub HiddenIsUnseen : Type 0
 HiddenIsUnseen = (net : NetState) → IsSound net → where_text (hidden_net net) ≡ where_text net
 
--- so nets that agree but for hidden bytes have one text
+-- nets that agree but for hidden bytes have one text
 abbrev pub TextIsOfTheView : Type 0
 TextIsOfTheView =
     (a b : NetState) → IsSound a → IsSound b → hidden_net a ≡ hidden_net b → where_text a ≡ where_text b

@@ -97,7 +97,7 @@ flag_facts r = error_fact r.error ++ halt_on_error_fact r.halt_on_error
 abbrev pub iptr_fact : Machine → ℕ → List ℕ
 iptr_fact n iptr = line (codes "    Iptr        " ++ (word_text iptr ++ (codes ": " ++ fetched_text (fetched_at n iptr))))
 
--- the other registers
+-- the registers A, B, C and Wptr
 abbrev pub register_facts : Registers → List ℕ
 register_facts r =
     word_fact (codes "    A           ") r.a
@@ -148,7 +148,7 @@ queue_facts name n processes = flat_map (queued_fact name n) processes
 abbrev pub inserted : List Waiter → Waiter → List Waiter
 inserted sorted w = insert sorted (position_or_len (λ v. nat_le w.process v.process) sorted) w
 
--- in the order of their descriptors
+-- processes that wait, in the order of their descriptors
 abbrev pub by_descriptor : List Waiter → List Waiter
 by_descriptor waiting = fold inserted [] waiting
 
@@ -185,7 +185,7 @@ reason_text n Chooses = codes " alternative"
 abbrev pub waiter_fact : NodeState → Waiter → List ℕ
 waiter_fact n w = line (codes "  waits         " ++ (place_text n.machine w.process ++ reason_text n w.reason))
 
--- those that wait, so ordered
+-- the processes of a list that wait, each on a line
 abbrev pub waiting_facts : NodeState → List Waiter → List ℕ
 waiting_facts n waiting = flat_map (waiter_fact n) waiting
 
@@ -252,7 +252,7 @@ listed_of m =
       waiting = by_descriptor m.waiting;
     }
 
--- a processor whose processes are listed so
+-- a processor, with these lists of its processes
 abbrev pub processor_where : ℕ → NodeState → Listed → List ℕ
 processor_where k n listed =
     node_line k n.broken n.machine.control.halted
@@ -262,13 +262,13 @@ processor_where k n listed =
     ++ (queue_facts (codes "  low queue     ") n.machine listed.low
     ++ waiting_facts n listed.waiting))))
 
--- what stands behind the links: a processor whose processes are listed so, a source or a sink
+-- what stands behind the links: a processor, with these lists of its processes, a source or a sink
 abbrev pub role_where : Role → ℕ → NodeState → Listed → List ℕ
 role_where Processor k n listed = processor_where k n listed
 role_where (Source over rest) k n listed = source_line k (length over) (length over + length rest)
 role_where (Sink kept) k n listed = sink_line k (length kept)
 
--- it, and the links
+-- what stands behind the links of a node, and the links
 abbrev pub listed_where : NetState → ℕ → NodeState → Listed → List ℕ
 listed_where net k n listed = role_where n.role k n listed ++ links_facts net k n
 

@@ -154,7 +154,7 @@ fn put_mark<W: CountedWrite>(out: &mut Output<'_, W>, last: bool)
     }
 }
 
-/// An acknowledge that lies there.
+/// An acknowledge that lies at a link.
 fn put_ack<W: CountedWrite>(out: &mut Output<'_, W>, link: u8, acknowledged: bool)
     ensures { Tells W.contents W.failures out.old out.new (spec.ack_fact link acknowledged) }
 {

@@ -17,11 +17,11 @@ use tword::{Items, Word};
 /// The processes of a node that are queued or wait.
 #[derive(Drop)]
 pub struct Listed {
-    /// The descriptors of the high queue, the first of it first.
+    /// The descriptors of the high queue, from its front on.
     pub high: Items<Word>,
-    /// Those of the low queue.
+    /// The descriptors of the low queue, from its front on.
     pub low: Items<Word>,
-    /// Those that wait, in the order of their descriptors.
+    /// The processes that wait, in the order of their descriptors.
     pub waiting: Items<Waiter>,
 }
 
@@ -66,7 +66,7 @@ fn list_processes(alloc: Global, processor: &Processor) -> Result<Listed, AllocE
     })
 }
 
-/// The descriptors of those that are queued with this priority.
+/// The descriptors of the processes that are queued with this priority.
 fn queued(alloc: Global, entries: &[Entry], priority: u32) -> Result<Items<Word>, AllocError>
     ensures { IfOk result (λ all. all ≡ descriptors priority (queue_in priority entries.now)) }
 {
@@ -86,7 +86,7 @@ fn is_queued(entry: &Entry, priority: u32) -> bool
     entry.reason.is_none() && entry.process.get() % 2 == priority
 }
 
-/// Those that wait, in the order of their descriptors.
+/// The processes of a list that wait, in the order of their descriptors.
 fn waiting(alloc: Global, entries: &[Entry]) -> Result<Items<Waiter>, AllocError>
     ensures { IfOk result (λ all. all ≡ by_descriptor (waiting_in entries.now)) }
 {
@@ -114,7 +114,7 @@ fn insert(sorted: &mut Vec<Waiter>, waiter: Waiter) -> Result<(), AllocError>
     Ok(())
 }
 
-/// The place of the first whose descriptor is not below this one; behind all where there is none.
+/// The place of the first process of a list whose descriptor is not below this one; behind all where there is none.
 fn place_of(sorted: &[Waiter], process: Word) -> usize
     ensures place { result ≡ position_or_len (λ v. nat_le process v.process) sorted.now }
     ensures within { result ≤ length sorted.now }

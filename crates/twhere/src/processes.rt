@@ -29,7 +29,7 @@ pub(crate) fn put_running<W: CountedWrite>(out: &mut Output<'_, W>, processor: &
     }
 }
 
-/// That no process runs.
+/// Writes that no process runs, and which flags are set.
 fn put_idle<W: CountedWrite>(out: &mut Output<'_, W>, registers: &Registers)
     ensures { Tells W.contents W.failures out.old out.new (spec.idle_facts registers.now) }
 {
@@ -92,7 +92,7 @@ fn put_iptr<W: CountedWrite>(out: &mut Output<'_, W>, processor: &Processor, ipt
     out.put(b"\n");
 }
 
-/// The other registers.
+/// Writes the registers A, B, C and Wptr, each on a line.
 fn put_registers<W: CountedWrite>(out: &mut Output<'_, W>, registers: &Registers)
     ensures { Tells W.contents W.failures out.old out.new (spec.register_facts registers.now) }
 {
@@ -143,7 +143,7 @@ pub(crate) fn put_queue<W: CountedWrite>(
     }
 }
 
-/// One of them.
+/// Writes a process of a queue, on a line behind the queue's name.
 fn put_queued<W: CountedWrite>(
     out: &mut Output<'_, W>,
     name: &[u8],

@@ -13,7 +13,7 @@ use tlink::Node;
 use tproc::{Offer, Processor, Reason, Waiter};
 use tword::Word;
 
-/// Those that wait, each on a line.
+/// Writes the processes that wait, each on a line.
 pub(crate) fn put_waiting<W: CountedWrite>(
     out: &mut Output<'_, W>,
     node: &Node,
@@ -28,7 +28,7 @@ pub(crate) fn put_waiting<W: CountedWrite>(
     }
 }
 
-/// One of them: its Iptr, and for what it waits.
+/// Writes a process that waits, on a line: its descriptor, its Iptr, and for what it waits.
 fn put_waiter<W: CountedWrite>(
     out: &mut Output<'_, W>,
     node: &Node,

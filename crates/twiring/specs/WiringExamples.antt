@@ -70,7 +70,7 @@ no_toml = refl
 abbrev one_of : List ℕ → Members → Members → Members
 one_of key t rest = member key (array (item (table t) no_items)) rest
 
--- one member more
+-- a version, before other members
 abbrev version_is : ℕ → Members → Members
 version_is v rest = member (codes "version") (integer (pos v)) rest
 

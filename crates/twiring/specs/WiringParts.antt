@@ -126,7 +126,7 @@ abbrev pub table_in : {A : Type 0} → (Members → Reading A) → Data → Read
 table_in part (table t) = part t
 table_in part _ = Err WrongType
 
--- one more part behind those before it
+-- the parts that were read, with the next one behind them
 abbrev pub one_more : {A : Type 0} → Reading (List A) → Reading A → Reading (List A)
 one_more found next = made (λ p. p.0 ++ p.1 ∷ []) (both found next)
 

@@ -42,7 +42,7 @@ pub fn read_wiring(alloc: Global, text: &str) -> Result<Wiring, WiringFault>
     }
 }
 
-/// The whole.
+/// The wiring that a text's table stands for.
 fn wiring(alloc: Global, root: &Table) -> Reading<Wiring>
     ensures { IsWiringAnswer (spec.wiring_in (table_view root.now)) result }
 {
@@ -204,7 +204,7 @@ fn tables<T: Section>(alloc: Global, array: &[Value], first: bool) -> Reading<It
     found
 }
 
-/// A table.
+/// The part of a wiring that a table stands for.
 fn table<T: Section>(alloc: Global, value: &Value, first: bool) -> Reading<T>
     ensures { IsWiringAnswer (spec.table_in (T.told first) (view value.now)) result }
 {
@@ -214,7 +214,7 @@ fn table<T: Section>(alloc: Global, value: &Value, first: bool) -> Reading<T>
     }
 }
 
-/// One more behind those that were found.
+/// The items that were read with the next one behind them, or the lower of their faults.
 fn one_more<T: Drop>(found: Reading<Items<T>>, next: Reading<T>) -> Reading<Items<T>>
     ensures { IsWiringAnswer (spec.one_more found next) result }
 {
@@ -224,7 +224,7 @@ fn one_more<T: Drop>(found: Reading<Items<T>>, next: Reading<T>) -> Reading<Item
     Ok(Items::new(found))
 }
 
-/// Both parts, or the lower of their faults.
+/// Two parts that were read, or the lower of their faults.
 fn both<A: Drop, B: Drop>(a: Reading<A>, b: Reading<B>) -> Reading<(A, B)>
     ensures { result ≡ spec.both a b }
 {

@@ -9,7 +9,7 @@ abbrev pub IsWithin : ℕ → ℕ → Option Span → Type 0
 IsWithin low high None = Unit {0}
 IsWithin low high (Some s) = (low ≤ s.start) × (s.start + s.size ≤ high)
 
--- all of them do
+-- all claimed spans lie between these addresses
 abbrev pub AreWithin : ℕ → ℕ → List (Option Span) → Type 0
 AreWithin low high claims = All (IsWithin low high) claims
 

@@ -27,12 +27,12 @@ behind_words span = if span.size == 0 then 0 else (span.start + span.size + 3) /
 abbrev pub has_word : ℕ → Span → ℕ
 has_word word span = is_among (span.start / 4) (behind_words span) word
 
--- the same of a claim
+-- 1 where a claim has a byte of the word of this number, else 0
 abbrev pub claims_word : ℕ → Option Span → ℕ
 claims_word word None = 0
 claims_word word (Some span) = has_word word span
 
--- the same of the saved words of a workspace
+-- 1 where a saved word of the workspace is the word of this number, else 0
 abbrev pub saves_word : ℕ → ℕ → ℕ
 saves_word word workspace = has_word word (saved_words workspace)
 
@@ -40,7 +40,7 @@ saves_word word workspace = has_word word (saved_words workspace)
 abbrev pub claims_in : ℕ → List (Option Span) → ℕ
 claims_in word claims = sum_by (claims_word word) claims
 
--- how many workspaces have it as a saved word
+-- how many workspaces have the word of this number as a saved word
 abbrev pub saved_in : ℕ → List ℕ → ℕ
 saved_in word workspaces = sum_by (saves_word word) workspaces
 
@@ -50,11 +50,11 @@ pub record Counts (counts : List ℕ) (word count : ℕ) : Type 0 where
   pub below : word < word_at (length counts)
   pub is : slice_index counts (word - 536870912) ≡ count
 
--- and no claim has it
+-- the table has the word of this number, and no claim has that word
 abbrev pub IsEmpty : List ℕ → ℕ → Type 0
 IsEmpty counts word = Counts counts word 0
 
--- it counts nothing at each word that a span has a byte of
+-- the table has each word that a span has a byte of, and no claim has one of them
 abbrev pub AreEmpty : List ℕ → Span → Type 0
 AreEmpty counts span = (k : ℕ) → span.start / 4 ≤ k → k < (span.start + span.size + 3) / 4 → IsEmpty counts k
 

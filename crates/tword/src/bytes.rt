@@ -24,7 +24,7 @@ use std::marker::Model;
 #[derive(Drop)]
 pub struct Bytes {
     bytes: Vec<u8>,
-    /// How many of them programs may use: all but those below `MEM_START`.
+    /// The number of bytes that programs may use: all but those below `MEM_START`.
     open: u32,
 }
 
@@ -42,7 +42,8 @@ impl Model for Bytes {
 }
 
 impl Bytes {
-    /// Zeros. The size is a multiple of 4 between 2,048 and the greatest of a memory of this kind (own choice).
+    /// A memory of zeros. The size is a multiple of 4 between 2,048 and the greatest of a memory of this kind (own
+    /// choice).
     ///
     /// # Errors
     /// `BadSize` for any other size, and else `OutOfMemory` where the allocator refuses.
@@ -60,7 +61,7 @@ impl Bytes {
         })
     }
 
-    /// The same bytes.
+    /// A copy of the bytes.
     ///
     /// # Errors
     /// Where the allocator refuses.
@@ -73,7 +74,7 @@ impl Bytes {
         })
     }
 
-    /// How many there are.
+    /// The number of bytes.
     #[inline(always)]
     pub fn size(&self) -> u32
         ensures is { result ≡ length self.now }
@@ -82,7 +83,7 @@ impl Bytes {
         self.bytes.len() as u32
     }
 
-    /// How many of them programs may use: those from `MEM_START` on.
+    /// The number of bytes that programs may use: those from `MEM_START` on.
     #[inline(always)]
     pub(crate) fn open_size(&self) -> u32
         ensures is { result + 72 ≡ length self.now }
@@ -91,7 +92,7 @@ impl Bytes {
         self.open
     }
 
-    /// All of them, the one of the least address first.
+    /// The bytes of the memory, the one of the least address first.
     #[inline(always)]
     pub fn as_slice(&self) -> &[u8]
         ensures bytes { as_cells result.now ≡ self.now }
@@ -117,7 +118,7 @@ impl Bytes {
     /// The word at an address, for a row that may go on to write it: checked as a write.
     ///
     /// # Errors
-    /// As `write_word`.
+    /// The breaks of `write_word`.
     #[inline(always)]
     pub fn take_word(&self, marks: &Marks, address: Word) -> Result<Word, Break>
         ensures { result ≡ or_break (word_break (length self.now) marks.now Writes address)

@@ -29,10 +29,10 @@ impl Bytes {
         self.lies_open_closely(start, size)
     }
 
-    /// The same, by one check after another.
+    /// Whether the bytes of a span lie in the memory, where programs may use them, by one check after another.
     ///
     /// # Errors
-    /// As `lies_open`.
+    /// The breaks of `lies_open`.
     #[cold]
     #[inline(never)]
     fn lies_open_closely(&self, start: Word, size: u32) -> Result<(), Break>
@@ -97,10 +97,10 @@ impl Bytes {
         self.is_open_word_closely(address)
     }
 
-    /// The same, by one check after another.
+    /// Whether the word at an address is one that programs may use, by one check after another.
     ///
     /// # Errors
-    /// As `is_open_word`.
+    /// The breaks of `is_open_word`.
     #[cold]
     #[inline(never)]
     fn is_open_word_closely(&self, address: Word) -> Result<(), Break>
@@ -182,7 +182,8 @@ impl Bytes {
         self.may_deschedule_closely(marks, workspace)
     }
 
-    /// The same, by a look at one word after another.
+    /// Whether the three words below a workspace may be written, from the lowest up, by a look at one word after
+    /// another.
     #[cold]
     #[inline(never)]
     #[tactic(auto, unfolding(crate::specs::Touches::deschedule_break))]

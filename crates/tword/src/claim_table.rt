@@ -41,7 +41,7 @@ impl ClaimTable {
         })
     }
 
-    /// The same counts.
+    /// A copy of the counts.
     pub fn try_copy(&self, alloc: Global) -> Result<ClaimTable, AllocError>
         ensures { IfOk result (λ t. t ≡ self.now) }
     {
@@ -97,7 +97,7 @@ impl ClaimTable {
         self.counts.get((word - LOWEST) as usize).copied()
     }
 
-    /// One more claim, of a span.
+    /// Counts one more claim, of a span.
     #[inline]
     pub fn raise(&mut self, span: &Span)
         requires room { HasRoom self.old }
@@ -113,7 +113,7 @@ impl ClaimTable {
         }
     }
 
-    /// One claim less, of a span.
+    /// Counts one claim less, of a span.
     #[inline]
     pub fn lower(&mut self, span: &Span)
         requires some { (slot : ℕ) → slot < length self.old
@@ -205,7 +205,7 @@ fn has_three_in_a_row(span: &Span, first: usize, slots: usize) -> bool
     span.size == 12 && span.start.get() % 4 == 0 && first + 3 <= slots
 }
 
-/// One more claim in each of three slots in a row: those of a workspace, without a loop.
+/// Counts one more claim in each of three slots in a row: those of a workspace, without a loop.
 #[inline(always)]
 fn count_three_up(counts: &mut [u16], first: usize)
     requires within { first + 3 ≤ length counts.old }
@@ -218,7 +218,7 @@ fn count_three_up(counts: &mut [u16], first: usize)
     counts[first + 2] += 1;
 }
 
-/// One claim less in each of three slots in a row.
+/// Counts one claim less in each of three slots in a row.
 #[inline(always)]
 fn count_three_down(counts: &mut [u16], first: usize)
     requires within { first + 3 ≤ length counts.old }
@@ -231,7 +231,7 @@ fn count_three_down(counts: &mut [u16], first: usize)
     counts[first + 2] -= 1;
 }
 
-/// One more claim in each slot from the first on, up to the one before `behind`.
+/// Counts one more claim in each slot from `first` up to the one before `behind`.
 #[inline(never)]
 fn count_up(counts: &mut [u16], first: usize, behind: usize)
     requires order { first ≤ behind }
@@ -245,7 +245,7 @@ fn count_up(counts: &mut [u16], first: usize, behind: usize)
     }
 }
 
-/// One claim less in each slot from the first on, up to the one before `behind`.
+/// Counts one claim less in each slot from `first` up to the one before `behind`.
 #[inline(never)]
 fn count_down(counts: &mut [u16], first: usize, behind: usize)
     requires order { first ≤ behind }

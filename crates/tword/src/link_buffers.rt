@@ -92,7 +92,7 @@ fn claims_in(claimed: &[Option<Span>], word: u64) -> u16
 }
 
 impl LinkBuffers {
-    /// No link claims any.
+    /// The buffers where no link claims any.
     pub fn new() -> LinkBuffers
         ensures { result ≡ replicate 4 None }
     {
@@ -104,7 +104,7 @@ impl LinkBuffers {
         }
     }
 
-    /// The same buffers.
+    /// A copy of the buffers.
     pub fn copied(&self) -> LinkBuffers
         ensures { result ≡ self.now }
     {
@@ -129,7 +129,7 @@ impl LinkBuffers {
         self.high <= start || end <= self.low
     }
 
-    /// Whether one of them has a byte in common with the span.
+    /// Whether a buffer that a link claims has a byte in common with the span.
     #[inline(always)]
     pub fn overlap(&self, span: &Span) -> bool
         ensures { result ≡ list_any (overlaps_claim span.now) self.now }
@@ -137,7 +137,7 @@ impl LinkBuffers {
         !self.is_clear_of(span) && self.overlap_closely(span)
     }
 
-    /// Whether one of them has a byte in common with the span, by a look at each.
+    /// Whether a buffer that a link claims has a byte in common with the span, by a look at each.
     #[inline(always)]
     fn overlap_closely(&self, span: &Span) -> bool
         ensures { result ≡ list_any (overlaps_claim span.now) self.now }
@@ -146,7 +146,7 @@ impl LinkBuffers {
         start < end && any_meets(&self.bounds, start, end)
     }
 
-    /// How many of them have the word of this number.
+    /// How many of the buffers have a byte of the word of this number.
     pub fn count(&self, word: u64) -> u16
         ensures is { result ≡ claims_in word self.now }
         ensures few { result ≤ 4 }
@@ -163,7 +163,7 @@ impl LinkBuffers {
         self.put(link, Some(span))
     }
 
-    /// The link claims none. What it claimed before is handed back.
+    /// The link claims no buffer. What it claimed before is handed back.
     pub fn release(&mut self, link: u8) -> Option<Span>
         requires { link < 4 }
         ensures claimed { self.new ≡ slice_set self.old link None }
@@ -172,7 +172,7 @@ impl LinkBuffers {
         self.put(link, None)
     }
 
-    /// What the link claims. What it claimed before is handed back.
+    /// The link claims a buffer or none. What it claimed before is handed back.
     fn put(&mut self, link: u8, claim: Option<Span>) -> Option<Span>
         requires { link < 4 }
         ensures claimed { self.new ≡ slice_set self.old link claim }

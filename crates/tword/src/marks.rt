@@ -64,7 +64,7 @@ impl Marks {
         })
     }
 
-    /// The same claims, with the same room.
+    /// A copy of the claims, with the same room.
     ///
     /// # Errors
     /// `OutOfMemory` where the allocator refuses.
@@ -99,8 +99,8 @@ impl Marks {
         }
     }
 
-    /// The same, where the hint tells of another workspace. Only where its highest saved word is one of some workspace
-    /// or is not counted is the list searched.
+    /// Where a workspace stands among those whose words are saved, where its hint does not tell. The list
+    /// is searched only where the workspace's highest saved word is one of some workspace or is not counted.
     #[cold]
     #[inline(never)]
     fn sought_place_of(&self, workspace: Word) -> Option<usize>
@@ -127,14 +127,14 @@ impl Marks {
         }
     }
 
-    /// Whether they show that no saved word is one of the words from the first up to that before `behind`.
+    /// Whether the counts show that no saved word is one of the words from `first` up to that before `behind`.
     fn saves_none_from(&self, first: u64, behind: u64) -> bool
         ensures { result ≡ true → (k : ℕ) → first ≤ k → k < behind → saved_in k self.now.saved ≡ 0 }
     {
         self.table.are_empty(first, behind) || self.saves_none_in_each(first, behind)
     }
 
-    /// The same, by a look at each of the words.
+    /// Whether the count of each word from `first` up to that before `behind` shows that it is no saved word.
     fn saves_none_in_each(&self, first: u64, behind: u64) -> bool
         ensures { result ≡ true → (k : ℕ) → first ≤ k → k < behind → saved_in k self.now.saved ≡ 0 }
     {
@@ -182,7 +182,7 @@ impl Marks {
     /// Whether each claim lets the bytes of a span be read.
     ///
     /// # Errors
-    /// As `may_read`.
+    /// The breaks of `may_read`.
     #[cold]
     #[inline(never)]
     fn may_read_closely(&self, start: Word, size: u32) -> Result<(), Break>
@@ -216,7 +216,7 @@ impl Marks {
     /// Whether each claim lets the bytes of a span be written.
     ///
     /// # Errors
-    /// As `may_write`.
+    /// The breaks of `may_write`.
     #[cold]
     #[inline(never)]
     fn may_write_closely(&self, start: Word, size: u32) -> Result<(), Break>
@@ -244,7 +244,7 @@ impl Marks {
     /// Claims the three words below a workspace, where the claims that there are let them be written.
     ///
     /// # Errors
-    /// As `may_write` of these words; nothing is changed then.
+    /// The breaks of `may_write` for these words; nothing is changed then.
     pub fn claim_saved(&mut self, workspace: Word) -> Result<(), Break>
         requires workspace { IsClaimableWorkspace workspace }
         requires room { length self.old.saved < 512 }
@@ -259,7 +259,7 @@ impl Marks {
     /// Claims the buffer of a pending link input, where the claims that there are let it be written.
     ///
     /// # Errors
-    /// As `may_write` of the buffer; nothing is changed then.
+    /// The breaks of `may_write` for the buffer; nothing is changed then.
     pub fn claim_in(&mut self, link: u8, start: Word, size: u32) -> Result<(), Break>
         requires { link < 4 }
         ensures { Changing (claim_break self.old Writes (record { start = start; size = size })) self.old
@@ -274,7 +274,7 @@ impl Marks {
     /// share bytes.
     ///
     /// # Errors
-    /// As `may_read` of the buffer; nothing is changed then.
+    /// The breaks of `may_read` for the buffer; nothing is changed then.
     pub fn claim_out(&mut self, link: u8, start: Word, size: u32) -> Result<(), Break>
         requires { link < 4 }
         ensures { Changing (claim_break self.old Reads (record { start = start; size = size })) self.old

@@ -64,7 +64,7 @@ impl Memory {
         })
     }
 
-    /// The kind of its node.
+    /// The kind of the memory's node.
     #[inline(always)]
     pub fn kind(&self) -> Kind
         ensures { result ≡ self.now.kind }
@@ -72,7 +72,7 @@ impl Memory {
         self.kind
     }
 
-    /// How many bytes it has.
+    /// The number of bytes.
     #[inline(always)]
     pub fn size(&self) -> u32
         ensures is { result ≡ length self.now.bytes }

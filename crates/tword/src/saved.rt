@@ -37,7 +37,8 @@ impl Model for Saved {
 }
 
 impl Saved {
-    /// None, with room for 512, in a memory of so many bytes. A workspace may begin behind its end.
+    /// A list without workspaces, with room for 512, in a memory of so many bytes. A workspace may begin behind its
+    /// end.
     pub fn new(alloc: Global, size: u32) -> Result<Saved, AllocError>
         ensures { IfOk result (λ s. s ≡ []) }
     {
@@ -47,7 +48,7 @@ impl Saved {
         })
     }
 
-    /// The same workspaces, with room for 512.
+    /// A copy of the list, with room for 512.
     pub fn try_copy(&self, alloc: Global) -> Result<Saved, AllocError>
         ensures { IfOk result (λ s. s ≡ self.now) }
     {
@@ -57,7 +58,7 @@ impl Saved {
         Ok(Saved { workspaces, places })
     }
 
-    /// How many there are.
+    /// The number of workspaces.
     #[inline]
     pub fn len(&self) -> usize
         ensures { result ≡ length self.now }

@@ -8,12 +8,14 @@ use crate::word::Word;
 /// Some bytes in a row: `size` of them, from the address `start` on.
 #[derive(Clone, Copy, Debug, PartialEq, Eq)]
 pub struct Span {
+    /// The address of the first byte.
     pub start: Word,
+    /// The number of bytes.
     pub size: u32,
 }
 
 impl Span {
-    /// The address of its first byte and that behind its last, as whole numbers.
+    /// The address of the span's first byte and that behind its last, as whole numbers.
     #[inline(always)]
     pub(crate) fn bounds(&self) -> (u64, u64)
         ensures first { result.0 ≡ self.now.start }
@@ -24,7 +26,7 @@ impl Span {
         (start, start + u64::from(self.size))
     }
 
-    /// Whether it has a byte in common with another span.
+    /// Whether the span has a byte in common with another one.
     #[inline]
     pub fn overlaps(&self, other: &Span) -> bool
         ensures { result ≡ overlap self.now other.now }

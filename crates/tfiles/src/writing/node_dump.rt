@@ -64,7 +64,7 @@ fn put_standing<W: CountedWrite>(out: &mut Output<'_, W>, broken: Option<Break>,
     }
 }
 
-/// That it is frozen, and by which break.
+/// Writes that a node is frozen, and by which break.
 fn put_frozen<W: CountedWrite>(out: &mut Output<'_, W>, broken: Break)
     ensures { Tells W.contents W.failures out.old out.new (codes "frozen " ++ break_name broken) }
 {
@@ -85,8 +85,8 @@ fn put_lines<W: CountedWrite>(out: &mut Output<'_, W>, bytes: &[u8], pending: &[
     }
 }
 
-/// One line. Only where a pending input has a byte of the line is each byte looked up, and each is looked at only
-/// where the line may be shown.
+/// Writes the line of some bytes. Only where a pending input has a byte of the line is each byte looked up, and each
+/// is looked at only where the line may be shown.
 fn put_line<W: CountedWrite>(
     out: &mut Output<'_, W>,
     address: u32,
@@ -105,7 +105,7 @@ fn put_line<W: CountedWrite>(
     }
 }
 
-/// One line, unless it has zeros alone.
+/// Writes the line of some bytes, unless it has zeros alone.
 fn put_cells<W: CountedWrite>(
     out: &mut Output<'_, W>,
     address: u32,
@@ -141,7 +141,7 @@ fn put_shown<W: CountedWrite>(
     }
 }
 
-/// One byte.
+/// Writes a byte of a line, unless a pending input hides it.
 #[inline]
 fn put_cell<W: CountedWrite>(
     out: &mut Output<'_, W>,
@@ -177,7 +177,7 @@ fn sum_of(bytes: &[u8]) -> u16
     bytes.iter().map(|byte| u16::from(*byte)).sum()
 }
 
-/// Whether all bytes are zero and none is pending.
+/// Whether all bytes from an address on are zero, and none lies in the buffer of a pending input.
 fn are_zero(address: u32, bytes: &[u8], pending: &[Option<Span>]) -> bool
     requires { address + length bytes.now < 2 ^ 32 }
     ensures { result ≡ list_all is_zero (hiding_from (is_pending pending.now) address (as_cells bytes.now)) }
@@ -198,7 +198,7 @@ fn is_zero_cell(address: u32, byte: u8, pending: &[Option<Span>]) -> bool
     byte == 0 && !has_pending(pending, address, 1)
 }
 
-/// Whether one of the spans has a byte of so many from an address on.
+/// Whether one of the spans has one of the `size` bytes from an address on.
 #[inline]
 fn has_pending(pending: &[Option<Span>], address: u32, size: u32) -> bool
     ensures { result ≡ list_any (overlaps_claim (record { start = address; size = size })) pending.now }

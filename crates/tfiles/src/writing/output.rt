@@ -25,7 +25,7 @@ pub struct WriteFault {
 pub struct Progress {
     /// How many bytes the writer has taken; from 2^64 on, the greatest number.
     pub written: u64,
-    /// Whether it has failed. Then no other byte goes out.
+    /// Whether the writer has failed. Then no other byte goes out.
     pub failed: bool,
 }
 

@@ -75,7 +75,7 @@ fn put_messages<W: CountedWrite>(out: &mut Output<'_, W>, kept: Messages<'_>)
     }
 }
 
-/// The line of one of them.
+/// Writes the line of a message that a sink has kept.
 fn put_message<W: CountedWrite>(out: &mut Output<'_, W>, message: &[u8])
     ensures { Tells W.contents W.failures out.old out.new (kept_line message.now) }
 {

@@ -20,7 +20,7 @@ impl<const N: usize> Model for Waiting<N> {
 }
 
 impl<const N: usize> Waiting<N> {
-    /// None wait.
+    /// A buffer in which no byte waits.
     pub(crate) fn new() -> Waiting<N>
         ensures { result ≡ [] }
     {
