@@ -1,34 +1,48 @@
 -- Where a net stands at its outcomes, one after another.
-use Rattle.std.proofs.Common.{◌≡◌, ◌∙◌, ℕ, zero, suc, sym, ap, ap₂, refl, subst, ◌+◌, ◌<◌, ◌≤◌, List, [], ◌∷◌, ◌++◌}
-use Rattle.std.proofs.Common.{Option, Some, None, add-one, arith, drop, get_or, length, take}
-use Rattle.std.specs.Prelude.{IfSome, slice_get}
+use Rattle.std.proofs.Common.{◌≡◌, ◌∙◌, ℕ, zero, suc, sym, ap, refl, subst, ◌+◌, ◌<◌, ◌≤◌, List, [], ◌∷◌, ◌++◌}
+use Rattle.std.proofs.Common.{Option, Some, None, add-one, arith, drop, get_or, length, length-take-le, take}
+use Rattle.std.specs.Prelude.{IfSome, slice_get, unwrap_or}
 use Rattle.std.specs.List.{AllZip}
-use Rattle.std.proofs.lemmas.List.{take_all}
 use Rattle.std.proofs.lemmas.Option.{same_Some}
-use Rattle.std.proofs.Math.Seq.{drop-cons}
 use Rattle.std.proofs.Math.ListN.{drop_of_length-le}
 use Rattle.tplan.specs.declared.event.Event.{Event}
 use Rattle.tnet.specs.Net.{NetState}
 use Rattle.twhere.specs.Wheres.{where_text}
 use Rattle.ttext.specs.declared.telling.Telling.{Telling}
 use Rattle.ttext.specs.Logged.{LogsOutcome}
-use Rattle.ttext.specs.Standings.{IsStanding, IsStandingAt, StandsAfter, StandsWhere, standing_text, standings_from}
+use Rattle.ttext.specs.Standings.{AreStandings, IsStanding, IsStandingAt, StandsAfter, StandsWhere}
+use Rattle.ttext.specs.Standings.{standing_text, standings_from}
 
 -- ---- what is printed of them
 
-behind : {A : Type 0} (k : ℕ) (xs : List A) (x : A) → k < length xs → x ≡ get_or xs k x
-    → drop k xs ≡ x ∷ drop (suc k) xs
-behind k xs x below is = drop-cons xs k x below ∙ ap (λ y. y ∷ drop (suc k) xs) (sym is)
+none_left : {A : Type 0} (k : ℕ) → drop {A = A} k [] ≡ []
+none_left zero = refl
+none_left (suc k) = refl
 
-pub standings_next : (k : ℕ) (ts : List Telling) (ss : List (Option (List ℕ))) (t : Telling) (s : Option (List ℕ))
-    → k < length ts → length ss ≡ length ts → t ≡ get_or ts k t → s ≡ get_or ss k s
+-- the first of those that are left, and the others
+next : (n k : ℕ) (ts : List Telling) (ss : List (Option (List ℕ))) (t : Telling) → k < length ts → t ≡ get_or ts k t
+    → standings_from n (drop k ts) (drop k ss)
+    ≡ standing_text n t (unwrap_or (slice_get ss k) None) ++ standings_from (suc n) (drop (suc k) ts) (drop (suc k) ss)
+next n k [] ss t below here = absurd (omega (arith, below))
+next n zero (u ∷ ts) [] t below here = ap (λ v. standing_text n v None ++ standings_from (suc n) ts []) (sym here)
+next n zero (u ∷ ts) (s ∷ ss) t below here = ap (λ v. standing_text n v s ++ standings_from (suc n) ts ss) (sym here)
+next n (suc k) (u ∷ ts) [] t below here =
+    ap (standings_from n (drop k ts)) (sym (none_left k)) ∙ next n k ts [] t (omega (arith, below)) here
+next n (suc k) (u ∷ ts) (s ∷ ss) t below here = next n k ts ss t (omega (arith, below)) here
+
+pub standings_next : (k : ℕ) (ts : List Telling) (ss : List (Option (List ℕ))) (t : Telling)
+    (s : Option (Option (List ℕ))) → k < length ts → t ≡ get_or ts k t → s ≡ slice_get ss k
     → standings_from (k + 1) (drop k ts) (drop k ss)
-    ≡ standing_text (k + 1) t s ++ standings_from (k + 1 + 1) (drop (k + 1) ts) (drop (k + 1) ss)
-standings_next k ts ss t s below long here is =
-    ap₂ (λ l m. standings_from (k + 1) l m) (behind k ts t below here) (behind k ss s (omega (arith, below, long)) is)
-    ∙ (ap (λ n. standing_text (k + 1) t s ++ standings_from n (drop (suc k) ts) (drop (suc k) ss))
+    ≡ standing_text (k + 1) t (unwrap_or s None)
+    ++ standings_from (k + 1 + 1) (drop (k + 1) ts) (drop (k + 1) ss)
+standings_next k ts ss t s below here is =
+    next (k + 1) k ts ss t below here
+    ∙ (ap (λ o. standing_text (k + 1) t (unwrap_or o None)
+    ++ standings_from (suc (k + 1)) (drop (suc k) ts) (drop (suc k) ss)) (sym is)
+    ∙ (ap (λ n. standing_text (k + 1) t (unwrap_or s None) ++ standings_from n (drop (suc k) ts) (drop (suc k) ss))
     (sym (add-one (k + 1)))
-    ∙ ap (λ n. standing_text (k + 1) t s ++ standings_from (k + 1 + 1) (drop n ts) (drop n ss)) (sym (add-one k)))
+    ∙ ap (λ n. standing_text (k + 1) t (unwrap_or s None) ++ standings_from (k + 1 + 1) (drop n ts) (drop n ss))
+    (sym (add-one k))))
 
 pub standings_over : (k : ℕ) (ts : List Telling) (ss : List (Option (List ℕ))) → length ts ≤ k
     → standings_from (k + 1) (drop k ts) (drop k ss) ≡ []
@@ -48,6 +62,12 @@ stands_at net outcomes number events l (Some text) h t here =
     (record { events = events; log = l.log; is = h.is ∙ ap where_text left })
 
 module _ (net : NetState) where
+  as_many : (ts : List Telling) (ss : List (Option (List ℕ))) → AllZip (IsStanding net) ts ss → length ss ≡ length ts
+  as_many [] [] h = refl
+  as_many [] (s ∷ ss) h = absurd h
+  as_many (t ∷ ts) [] h = absurd h
+  as_many (t ∷ ts) (s ∷ ss) h = ap suc (as_many ts ss h.1)
+
   more : (ts : List Telling) (ss : List (Option (List ℕ))) (k : ℕ) (s : Option (List ℕ)) → k < length ts
       → AllZip (IsStanding net) (take k ts) ss → IsStandingAt net ts k s
       → AllZip (IsStanding net) (take (suc k) ts) (ss ++ s ∷ [])
@@ -64,15 +84,8 @@ module _ (net : NetState) where
   stands_next ts ss k s below h at =
       subst (λ n. AllZip (IsStanding net) (take n ts) (ss ++ s ∷ [])) (sym (add-one k)) (more ts ss k s below h at)
 
-  -- at all
-  pub stands_all : (ts : List Telling) (ss : List (Option (List ℕ))) (k : ℕ) → length ts ≤ k
-      → AllZip (IsStanding net) (take k ts) ss → AllZip (IsStanding net) ts ss
-  stands_all ts ss k over h = subst (λ l. AllZip (IsStanding net) l ss) (take_all k ts over) h
-
--- so there are as many
-pub as_many : (net : NetState) (ts : List Telling) (ss : List (Option (List ℕ))) → AllZip (IsStanding net) ts ss
-    → length ss ≡ length ts
-as_many net [] [] h = refl
-as_many net [] (s ∷ ss) h = absurd h
-as_many net (t ∷ ts) [] h = absurd h
-as_many net (t ∷ ts) (s ∷ ss) h = ap suc (as_many net ts ss h.1)
+  -- where it stands at so many outcomes as were asked for
+  pub are_standings : (ts : List Telling) (ss : List (Option (List ℕ))) (k : ℕ) → k ≤ length ts
+      → AllZip (IsStanding net) (take k ts) ss → AreStandings net ts ss
+  are_standings ts ss k few h =
+      subst (λ n. AllZip (IsStanding net) (take n ts) ss) (sym (as_many (take k ts) ss h ∙ length-take-le k ts few)) h

@@ -26,7 +26,7 @@ abbrev pub shared_with : Options → Result NetState Fault → Result NetState F
 shared_with o (Ok net) = unless_refused (refusal o.workers [] net) net
 shared_with o (Err f) = Err f
 
--- the net that free workers share, or the first fault; what the wiring holds is ignored
+-- the net that free workers share, or the first fault; the wiring's holds are ignored
 abbrev pub shared_of : Wiring → List (List ℕ) → Options → Result NetState Fault
 shared_of w files o = shared_with o (opened_of w files)
 

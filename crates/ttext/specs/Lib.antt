@@ -1,4 +1,4 @@
--- What runs and replays print, and the lines of faults.
+-- The text of runs, explorations and replays of wirings and images, and the lines of faults.
 pub mod Plans
 pub mod Outcomes
 pub mod Replays

@@ -1,6 +1,6 @@
 -- Explorations that are printed with where the net stands at each outcome, in place of its dump.
 -- Source: own choice, a format of this program; where a net stands is printed as `where` prints it.
-use Rattle.std.specs.Prelude.{ℕ, suc, ◌≡◌, List, [], ◌∷◌, ◌++◌, Option, Some, None, Ok, slice_get, unwrap_or}
+use Rattle.std.specs.Prelude.{ℕ, suc, ◌≡◌, List, [], ◌∷◌, ◌++◌, Option, Some, None, Ok, slice_get, take, length, unwrap_or}
 use Rattle.std.specs.List.{AllZip}
 use Rattle.std.specs.Io.KnownBytes.{Appends}
 use Rattle.tplan.specs.declared.event.Event.{Event}
@@ -41,16 +41,21 @@ abbrev pub IsStandingAt : NetState → (outcomes : List Telling) → (number : �
 IsStandingAt net outcomes number standing =
     (t : Telling) → slice_get outcomes number ≡ Some t → IsStanding net t standing
 
+-- so at the first outcomes, at all of them where memory was not wanting
+abbrev pub AreStandings : NetState → (outcomes : List Telling) → (standings : List (Option (List ℕ))) → Type 0
+AreStandings net outcomes standings = AllZip (IsStanding net) (take (length standings) outcomes) standings
+
 -- ---- what is printed
 
 -- an outcome by its number: its heading, and below it where the net stands
 abbrev pub standing_text : ℕ → Telling → Option (List ℕ) → List ℕ
 standing_text k t standing = heading_text k t ++ unwrap_or standing []
 
--- outcomes numbered from here, each with where the net stands
+-- outcomes numbered from here, each with where the net stands, as far as that is told
 abbrev pub standings_from : ℕ → (outcomes : List Telling) → (standings : List (Option (List ℕ))) → List ℕ
 standings_from k (t ∷ ts) (s ∷ ss) = standing_text k t s ++ standings_from (suc k) ts ss
-standings_from k _ _ = []
+standings_from k (t ∷ ts) [] = standing_text k t None ++ standings_from (suc k) ts []
+standings_from k [] _ = []
 
 -- all of it
 abbrev pub standings_text : List (Option (List ℕ)) → Explored → List ℕ
@@ -59,7 +64,7 @@ standings_text standings x = standings_from 1 x.outcomes standings ++ (endless_t
 -- the text of what an exploration of a net has found, with where the net stands at each outcome
 pub record IsWhereText (net : NetState) (x : Explored) (text : List ℕ) : Type 0 where
   pub standings : List (Option (List ℕ))
-  pub are : AllZip (IsStanding net) x.outcomes standings
+  pub are : AreStandings net x.outcomes standings
   pub is : text ≡ standings_text standings x
 
 -- such a text goes out

@@ -34,7 +34,7 @@ use tword::Items;
 /// Runs the net of a wiring and the files of its images, one file a node, by free workers: each makes so many turns
 /// as the options have rounds, on a thread of its own where one can be started, or stops at a full clock, or when
 /// none finds anything more to do; then they are gathered. It writes the trace, the dump of each node, source and
-/// sink, and a last line `end quiet`, or `end turns` where the net is not quiet. What the wiring holds is ignored.
+/// sink, and a last line `end quiet`, or `end turns` where the net is not quiet. The wiring's holds are ignored.
 /// Nothing is written before the workers are gathered.
 ///
 /// # Errors

@@ -1,4 +1,4 @@
-//! Runs and replays of wirings and images, with the text that is printed of them, and the lines of faults.
+//! The text of runs, explorations and replays of wirings and images, and the lines of faults.
 //!
 //! - `opened`: the net of a wiring and its images
 //! - `run`, `replaying`, `free`: the text of a run by rounds, of a replay of a log, and of a run by free workers
