@@ -1,19 +1,24 @@
 -- What the arguments of each command hold where the words are taken.
 use Rattle.std.proofs.Common.{◌≡◌, ◌∙◌, ◌<◌, ℕ, Bool, cond, true, false, refl, sym, ap, ap₂, subst, arith, List, []}
-use Rattle.std.proofs.Common.{◌∷◌, length, Option, Some, None, is_some, inl, inr, true≢false, codes}
-use Rattle.std.specs.Prelude.{option_map, option_and_then, slice_get}
+use Rattle.std.proofs.Common.{◌∷◌, length, Option, Some, None, is_some, inl, inr, true≢false}
+use Rattle.std.specs.Prelude.{option_map, option_and_then, slice_get, unwrap_or, IsSomeAnd}
+use Rattle.std.proofs.Common.{suc, ◌++◌, map, pos, negsuc}
+use Rattle.std.proofs.lemmas.Bool.{ne_eqb}
 use Rattle.std.specs.List.{find}
 use Rattle.std.specs.Option.{option_map_or}
 use Rattle.clap.specs.Facts.{parser_of_value, unwrap_or_range}
 use Rattle.clap.specs.Kinds.{value_kinds}
 use Rattle.clap.specs.Values.{read_as, reading_of, refused_kind}
 use Rattle.clap.specs.ValueTests.{accepts}
-use Rattle.clap.specs.Walk.{Row, Rule, Text, action_of, answers_to, arg_by_id, nothing_held, row_text, rows_after, walk}
-use Rattle.clap.specs.Simple.{Shape, argument_words, built, built_leaf, entered, filled, inherited, label_of}
+use Rattle.clap.specs.Walk.{Row, Rule, Text, action_of, answers_to, arg_by_id, is_empty, nothing_held, row_text, rows_after, walk}
+use Rattle.clap.specs.Simple.{Shape, argument_words, built, built_leaf, entered, filled, filled_from, help_rule}
+use Rattle.clap.specs.Simple.{index_after, inherited, label_of, parser_for, with_action, with_default_value}
+use Rattle.clap.specs.Simple.{with_missing_value}
 use Rattle.clap.specs.Simple.{marked_built, names_of, rows_at, subcommand_of, with_index, with_leaf_noted}
 use Rattle.clap.specs.Faults.{check_fault, entered_fault, level_fault, values_fault}
 use Rattle.clap.specs.declared.builder.action.ArgAction.TheVariants.{Set, Help}
 use Rattle.clap.specs.declared.builder.value_parser.ValueParser.{ValueParser}
+use Rattle.clap.specs.declared.builder.value_parser.ValueParser.TheVariants as vp
 use Rattle.clap.specs.Words.{HasMatchesOf, app_of, fault_of, found_of, is_simple, is_simple_and_free, rows_of}
 use Rattle.clap.specs.Words.{subcommand_name_of, subcommand_rows_of}
 use Rattle.clap.specs.declared.builder.command.Command.{Command as Parser}
@@ -21,9 +26,11 @@ use Rattle.clap.specs.declared.parser.matches.ArgMatches.{ArgMatches}
 use Rattle.clap.specs.declared.parser.matches.ArgMatches.TheViews.{out-ArgMatches, out-SubCommand}
 use Rattle.std.specs.Box.{box_value}
 use Rattle.clap.proofs.ValueTestLemmas.{accepts-Accepts}
-use Rattle.twords.specs.CommandLines.{HasText, HasNumber, IsRun, IsWhole, between, program, running_shape}
-use Rattle.twords.specs.CommandLines.{run_shape, free_shape, explore_shape, replay_shape, where_shape, dis_shape}
-use Rattle.twords.specs.CommandLines.{file_rule, number_rule, text_rule}
+use Rattle.twords.specs.CommandLines.{HasAll, HasNumber, HasParsed, HasText, HasWanted, IsWhole, between, program}
+use Rattle.twords.specs.CommandLines.{name_of, named, rules_of, shape_of}
+use Rattle.twords.specs.declared.table.Which.{Which}
+use Rattle.twords.specs.declared.table.Which.TheVariants.{Run, Free, Explore, Replay, Where, Dis}
+use Rattle.twords.specs.declared.table.TheConstants.{COMMANDS}
 use Rattle.twords.proofs.AcceptedRows.{Each, IsFit, Holds, Rows, each_found, neither}
 use Rattle.twords.proofs.LevelRows.{Found, default_found, level_passes, required_found, subcommand_wanted}
 
@@ -78,7 +85,7 @@ one_value c a first set least = record { first = first; action = inl (set, omega
 asks_help : (c : List Rule) (a : Rule) → arg_by_id c a.id ≡ Some a → action_of a ≡ Help → IsFit c a
 asks_help c a first help = record { first = first; action = inr help }
 
-run_fits : RulesFit (built_of run_shape)
+run_fits : RulesFit (built_of (shape_of Run))
 run_fits = (
   one_value _ _ refl refl refl,
   (
@@ -90,7 +97,7 @@ run_fits = (
   ),
 )
 
-free_fits : RulesFit (built_of free_shape)
+free_fits : RulesFit (built_of (shape_of Free))
 free_fits = (
   one_value _ _ refl refl refl,
   (
@@ -102,7 +109,7 @@ free_fits = (
   ),
 )
 
-explore_fits : RulesFit (built_of explore_shape)
+explore_fits : RulesFit (built_of (shape_of Explore))
 explore_fits = (
   one_value _ _ refl refl refl,
   (
@@ -114,22 +121,35 @@ explore_fits = (
   ),
 )
 
-replay_fits : RulesFit (built_of replay_shape)
+replay_fits : RulesFit (built_of (shape_of Replay))
 replay_fits = (one_value _ _ refl refl refl, (one_value _ _ refl refl refl, (asks_help _ _ refl refl, tt)))
 
-where_fits : RulesFit (built_of where_shape)
+where_fits : RulesFit (built_of (shape_of Where))
 where_fits = (
   one_value _ _ refl refl refl,
   (one_value _ _ refl refl refl, (one_value _ _ refl refl refl, (asks_help _ _ refl refl, tt))),
 )
 
-dis_fits : RulesFit (built_of dis_shape)
+dis_fits : RulesFit (built_of (shape_of Dis))
 dis_fits = (one_value _ _ refl refl refl, (one_value _ _ refl refl refl, (asks_help _ _ refl refl, tt)))
+
+-- a command has such rules, and is found by its name
+abbrev IsListed : Which → Type 0
+IsListed which = RulesFit (built_of (shape_of which)) × (named (name_of which) ≡ Some which)
+
+all_listed : Each IsListed COMMANDS
+all_listed = (
+  (run_fits, refl),
+  (
+    (free_fits, refl),
+    ((explore_fits, refl), ((replay_fits, refl), ((where_fits, refl), ((dis_fits, refl), tt)))),
+  ),
+)
 
 top_fits : RulesFit (built program).top
 top_fits = (asks_help _ _ refl refl, tt)
 
--- ---- the six commands
+-- ---- the commands
 
 -- what the words ask for is whole
 abbrev pub IsAnswered : Option (Text × List Row) → Type 0
@@ -140,152 +160,77 @@ IsAnswered (Some (name, rows)) = IsWhole name rows
 abbrev IsTaken : Shape → List Text → Type 0
 IsTaken s words = level_fault s [] nothing_held words false [] ≡ []
 
--- a file that had to be named
-file_named : (s : Shape) (words : List Text) (a : Rule) → RulesFit s → IsTaken s words → arg_by_id s.rules a.id ≡ Some a
-    → a.required ≡ true
-    → HasText a.id (rows_after s.rules [] words)
-file_named s words a fits e first wanted =
-    let level = level_passes s [] words false [] fits e in
-    text_found a _ (required_found s (rows_after s.rules [] words) a first wanted level.2 level.0)
+-- a rule of the table as it is built, with the number that the next file gets
+abbrev as_built : ℕ → Rule → Rule
+as_built i a = with_index i (filled a)
 
--- a number that is given or has a default
-number_named : (s : Shape) (words : List Text) (a : Rule) (least most : ℕ) → RulesFit s → IsTaken s words
-    → arg_by_id s.rules a.id ≡ Some a
-    → 0 < length a.defaults → a.parser ≡ Some (between least most)
-    → HasNumber least most a.id (rows_after s.rules [] words)
-number_named s words a least most fits e first some parser =
-    number_found least most a _ parser
-    (default_found s.rules [] words a first some (level_passes s [] words false [] fits e).0)
-
--- a text that is given or has a default
-text_named : (s : Shape) (words : List Text) (a : Rule) → RulesFit s → IsTaken s words
-    → arg_by_id s.rules a.id ≡ Some a → 0 < length a.defaults
-    → HasText a.id (rows_after s.rules [] words)
-text_named s words a fits e first some =
-    text_found a _ (default_found s.rules [] words a first some (level_passes s [] words false [] fits e).0)
-
-abbrev file_built : ℕ → Text → Rule
-file_built i id = with_index i (filled (file_rule id))
-
-abbrev number_built : Text → ValueParser → Text → Rule
-number_built id parser default = filled (number_rule id parser default)
-
--- a run that is taken has what it needs
-is_run : (name limit : Text) (words : List Text) (fits : RulesFit (built_of (running_shape name limit)))
-    → IsTaken (built_of (running_shape name limit)) words
-    → IsRun limit (rows_after (built_of (running_shape name limit)).rules [] words)
-is_run name limit words fits e = record {
-  wiring = file_named s words (file_built 1 (codes "wiring")) fits e fits.0.first refl;
-  workers = number_named s words (number_built (codes "workers") (between 1 64) (codes "1")) 1 64 fits e fits.1.0.first
-      (omega arith) refl;
-  limit = number_named s words (number_built limit (between 0 4294967295) (codes "100000")) 0 4294967295 fits e
-      fits.1.1.0.first (omega arith) refl;
-  slice = number_named s words (number_built (codes "slice") (between 1 65536) (codes "64")) 1 65536 fits e
-      fits.1.1.1.0.first (omega arith) refl;
-}
+-- what an argument gives that has a row
+parsed : (i : ℕ) (a : Rule) (rows : List Row) → Found (as_built i a) rows → HasParsed a.parser a.id rows
+parsed i a rows f = go a.parser refl
   where
-    s : Shape
-    s = built_of (running_shape name limit)
+    left_out : ValueParser
+    left_out = parser_for (action_of (with_missing_value (with_default_value (with_action a))))
 
--- a command of another name
-other : {A : Type 0} → false ≡ true → A
-other is = absurd (true≢false (sym is))
+    go : (p : Option ValueParser) → a.parser ≡ p → HasParsed p a.id rows
+    go None is = text_found (as_built i a) rows f
+    go (Some vp.String) is = text_found (as_built i a) rows f
+    go (Some vp.NonEmptyString) is = text_found (as_built i a) rows f
+    go (Some vp.Bool) is = text_found (as_built i a) rows f
+    go (Some vp.Boolish) is = text_found (as_built i a) rows f
+    go (Some vp.Falsey) is = text_found (as_built i a) rows f
+    go (Some (vp.Signed (pos least) (pos most))) is =
+        number_found least most (as_built i a) rows (ap (λ (o : Option ValueParser). Some (unwrap_or o left_out)) is) f
+    go (Some (vp.Signed (pos least) (negsuc most))) is = text_found (as_built i a) rows f
+    go (Some (vp.Signed (negsuc least) most)) is = text_found (as_built i a) rows f
+    go (Some (vp.Unsigned least most)) is = text_found (as_built i a) rows f
+    go (Some vp.Float) is = text_found (as_built i a) rows f
+    go (Some vp.Char) is = text_found (as_built i a) rows f
+    go (Some (vp.Names names)) is = text_found (as_built i a) rows f
+    go (Some (vp.Values values)) is = text_found (as_built i a) rows f
 
-run_whole : (words : List Text) → IsTaken (built_of run_shape) words
-    → IsWhole (codes "run") (rows_after (built_of run_shape).rules [] words)
-run_whole words e = record {
-  run = λ is. is_run (codes "run") (codes "rounds") words run_fits e;
-  free = other;
-  explore = other;
-  replay = other;
-  whereabouts = other;
-  dis = λ run free explore replay stands. absurd (true≢false run);
-}
+-- a default stays, as the rule is built
+some_default : (i : ℕ) (a : Rule) (d : Text) (ds : List Text) → a.defaults ≡ d ∷ ds
+    → 0 < length (as_built i a).defaults
+some_default i a d ds has =
+    let full : is_empty a.defaults ≡ false = rw has (ne_eqb (suc (length ds)) 0 (λ n. omega arith)) in
+    let same : (as_built i a).defaults ≡ d ∷ ds = rw full has in
+    omega (arith, ap length same)
 
-free_whole : (words : List Text) → IsTaken (built_of free_shape) words
-    → IsWhole (codes "free") (rows_after (built_of free_shape).rules [] words)
-free_whole words e = record {
-  run = other;
-  free = λ is. is_run (codes "free") (codes "turns") words free_fits e;
-  explore = other;
-  replay = other;
-  whereabouts = other;
-  dis = λ run free explore replay stands. absurd (true≢false free);
-}
+-- words that are taken give an argument that cannot be absent
+wanted : (s : Shape) (words : List Text) (i : ℕ) (a : Rule) → RulesFit s → IsTaken s words
+    → IsFit s.rules (as_built i a) → HasWanted a.required a.defaults a (rows_after s.rules [] words)
+wanted s words i a fits e fit = go a.required refl a.defaults refl
+  where
+    go : (b : Bool) → a.required ≡ b → (defaults : List Text) → a.defaults ≡ defaults
+        → HasWanted b defaults a (rows_after s.rules [] words)
+    go true is defaults has =
+        let level = level_passes s [] words false [] fits e in
+        parsed i a _ (required_found s (rows_after s.rules [] words) (as_built i a) fit.first is level.2 level.0)
+    go false is [] has = tt
+    go false is (d ∷ ds) has =
+        let level = level_passes s [] words false [] fits e in
+        parsed i a _ (default_found s.rules [] words (as_built i a) fit.first (some_default i a d ds has) level.0)
 
-explore_whole : (words : List Text) → IsTaken (built_of explore_shape) words
-    → IsWhole (codes "explore") (rows_after (built_of explore_shape).rules [] words)
-explore_whole words e = record {
-  run = other;
-  free = other;
-  explore = λ is. (
-    file_named (built_of explore_shape) words (file_built 1 (codes "wiring")) explore_fits e refl refl,
-    number_named (built_of explore_shape) words
-        (number_built (codes "states") (between 0 4294967295) (codes "1000000")) 0 4294967295 explore_fits e refl
-        (omega arith) refl,
-    number_named (built_of explore_shape) words
-        (number_built (codes "steps") (between 0 9223372036854775807) (codes "9223372036854775807")) 0
-        9223372036854775807 explore_fits e refl (omega arith) refl,
-    text_named (built_of explore_shape) words (filled (text_rule (codes "show") (codes "dump"))) explore_fits e refl
-        (omega arith),
-  );
-  replay = other;
-  whereabouts = other;
-  dis = λ run free explore replay stands. absurd (true≢false explore);
-}
+-- and so all of them
+all_wanted : (s : Shape) (words : List Text) (i : ℕ) (rules rest : List Rule) → RulesFit s → IsTaken s words
+    → Each (IsFit s.rules) (filled_from i (rules ++ rest)) → HasAll rules (rows_after s.rules [] words)
+all_wanted s words i [] rest fits e each = tt
+all_wanted s words i (a ∷ rules) rest fits e each =
+    (wanted s words i a fits e each.0, all_wanted s words (index_after i a) rules rest fits e each.1)
 
-replay_whole : (words : List Text) → IsTaken (built_of replay_shape) words
-    → IsWhole (codes "replay") (rows_after (built_of replay_shape).rules [] words)
-replay_whole words e = record {
-  run = other;
-  free = other;
-  explore = other;
-  replay = λ is. (
-    file_named (built_of replay_shape) words (file_built 1 (codes "wiring")) replay_fits e refl refl,
-    file_named (built_of replay_shape) words (file_built 2 (codes "log")) replay_fits e refl refl,
-  );
-  whereabouts = other;
-  dis = λ run free explore replay stands. absurd (true≢false replay);
-}
+-- a command whose words are taken is whole
+is_whole : (which : Which) (words : List Text) → IsListed which → IsTaken (built_of (shape_of which)) words
+    → IsWhole (name_of which) (rows_after (built_of (shape_of which)).rules [] words)
+is_whole which words listed e =
+    let s : Shape = built_of (shape_of which) in
+    subst (λ (o : Option Which). IsSomeAnd o (λ w. HasAll (rules_of w) (rows_after s.rules [] words))) (sym listed.1)
+    (all_wanted s words 1 (rules_of which) (help_rule ∷ []) listed.0 e listed.0)
 
-where_whole : (words : List Text) → IsTaken (built_of where_shape) words
-    → IsWhole (codes "where") (rows_after (built_of where_shape).rules [] words)
-where_whole words e = record {
-  run = other;
-  free = other;
-  explore = other;
-  replay = other;
-  whereabouts = λ is. (
-    file_named (built_of where_shape) words (file_built 1 (codes "wiring")) where_fits e refl refl,
-    file_named (built_of where_shape) words (file_built 2 (codes "log")) where_fits e refl refl,
-    number_named (built_of where_shape) words
-        (number_built (codes "events") (between 0 4294967295) (codes "4294967295")) 0 4294967295 where_fits e refl
-        (omega arith) refl,
-  );
-  dis = λ run free explore replay stands. absurd (true≢false stands);
-}
-
-dis_whole : (words : List Text) → IsTaken (built_of dis_shape) words
-    → IsWhole (codes "dis") (rows_after (built_of dis_shape).rules [] words)
-dis_whole words e = record {
-  run = other;
-  free = other;
-  explore = other;
-  replay = other;
-  whereabouts = other;
-  dis = λ run free explore replay stands. (
-    refl,
-    (
-      file_named (built_of dis_shape) words (file_built 1 (codes "image")) dis_fits e refl refl,
-      number_named (built_of dis_shape) words (number_built (codes "kind") (between 1 2) (codes "1")) 1 2 dis_fits e refl
-          (omega arith) refl,
-    ),
-  );
-}
-
-each_whole : Each (λ s. (words : List Text) → IsTaken s words → IsAnswered (Some (rows_at s words)))
-    (built program).subs
-each_whole = (run_whole, (free_whole, (explore_whole, (replay_whole, (where_whole, (dis_whole, tt))))))
+all_whole : (list : List Which) → Each IsListed list
+    → Each (λ s. (words : List Text) → IsTaken s words → IsAnswered (Some (rows_at s words)))
+    (map (λ which. built_of (shape_of which)) list)
+all_whole [] listed = tt
+all_whole (which ∷ rest) listed = (λ words e. is_whole which words listed.0 e, all_whole rest listed.1)
 
 -- words that are not refused ask for one of the commands, with all that it needs
 pub whole : (words : List Text) → fault_of program words ≡ [] → IsAnswered (subcommand_of program words)
@@ -305,7 +250,7 @@ whole words e =
     inside p None is f some = absurd (true≢false (sym some))
     inside p (Some s) is f some =
         (each_found (λ x. (words : List Text) → IsTaken x words → IsAnswered (Some (rows_at x words)))
-        (λ x. answers_to p.0 (label_of x)) (built program).subs s each_whole is).0 p.1 f
+        (λ x. answers_to p.0 (label_of x)) (built program).subs s (all_whole COMMANDS all_listed) is).0 p.1 f
 
     go : (stop : Option (Text × List Text))
         → Rows (built program).top.rules

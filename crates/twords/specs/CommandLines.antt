@@ -1,8 +1,9 @@
 -- What the words of a command line ask for, by what `clap` reads of them for these commands.
 -- Source: the forms of the commands, their defaults and their ranges are our own choice; `Rattle.clap.specs` says how
 -- `clap` reads words, and why it refuses them.
-use Rattle.std.specs.Prelude.{refl, ℕ, ◌≡◌, ◌≤◌, pos, true, false, List, [], ◌∷◌, Option, Some, None, is_some}
-use Rattle.std.specs.Prelude.{◌++◌, ◌==◌, option_map, codes, bytes_eq, if◌then◌else◌}
+use Rattle.std.specs.Prelude.{refl, ℕ, ◌≡◌, ◌≤◌, pos, Bool, true, false, List, [], ◌∷◌, Option, Some, None, is_some}
+use Rattle.std.specs.Prelude.{◌++◌, ◌==◌, option_map, option_and_then, map, codes, bytes_eq, if◌then◌else◌, IsSomeAnd}
+use Rattle.std.specs.List.{find, fold}
 use Rattle.std.specs.Option.{option_map_or}
 use Rattle.std.specs.Str.Parse.{digits_value, without_leading_plus}
 use Rattle.clap.specs.Words.{Text, Rule, Row, Shape, App, Kinds, IsSignedIn, app_of, new_rule, first_of, one_of}
@@ -24,7 +25,14 @@ use Rattle.tword.specs.declared.kind.Kind.TheVariants.{One, Two}
 use Rattle.twords.specs.declared.words.Show.{Show}
 use Rattle.twords.specs.declared.words.Show.TheVariants as show
 use Rattle.twords.specs.declared.words.Command.{Command}
-use Rattle.twords.specs.declared.words.Command.TheVariants.{Run, Free, Explore, Replay, Where, Dis}
+use Rattle.twords.specs.declared.words.Command.TheVariants as command
+use Rattle.twords.specs.declared.table.Which.{Which}
+use Rattle.twords.specs.declared.table.Which.TheVariants.{Run, Free, Explore, Replay, Where, Dis}
+use Rattle.twords.specs.declared.table.CommandRow.{CommandRow}
+use Rattle.twords.specs.declared.table.Argument.{Argument}
+use Rattle.twords.specs.declared.table.Form.{Form}
+use Rattle.twords.specs.declared.table.Form.TheVariants as form
+use Rattle.twords.specs.declared.table.TheConstants.{COMMANDS}
 
 -- ---- the words that are taken
 
@@ -48,54 +56,53 @@ number_rule id parser default = record (option_rule id) { parser = Some parser; 
 abbrev pub between : ℕ → ℕ → ValueParser
 between least most = Signed (pos least) (pos most)
 
--- a command that runs a net, `NAME WIRING [--workers N] [--LIMIT N] [--slice N] [--log FILE]`
-abbrev pub running_shape : (name limit : Text) → Shape
-running_shape name limit = record (new_shape name) {
-  rules = file_rule (codes "wiring")
-      ∷ number_rule (codes "workers") (between 1 64) (codes "1")
-      ∷ number_rule limit (between 0 4294967295) (codes "100000")
-      ∷ number_rule (codes "slice") (between 1 65536) (codes "64")
-      ∷ option_rule (codes "log")
-      ∷ [];
-}
+-- `WIRING [--workers N] [--LIMIT N] [--slice N] [--log FILE]`, the arguments of a command that runs a net
+abbrev pub running_rules : Text → List Rule
+running_rules limit = file_rule (codes "wiring")
+    ∷ number_rule (codes "workers") (between 1 64) (codes "1")
+    ∷ number_rule limit (between 0 4294967295) (codes "100000")
+    ∷ number_rule (codes "slice") (between 1 65536) (codes "64")
+    ∷ option_rule (codes "log")
+    ∷ []
 
--- `run WIRING [--workers N] [--rounds N] [--slice N] [--log FILE]`
-abbrev pub run_shape : Shape
-run_shape = running_shape (codes "run") (codes "rounds")
+-- `WIRING [--states N] [--steps N] [--log PREFIX] [--show WHAT]`
+abbrev pub exploring_rules : List Rule
+exploring_rules = file_rule (codes "wiring")
+    ∷ number_rule (codes "states") (between 0 4294967295) (codes "1000000")
+    ∷ number_rule (codes "steps") (between 0 9223372036854775807) (codes "9223372036854775807")
+    ∷ option_rule (codes "log")
+    ∷ text_rule (codes "show") (codes "dump")
+    ∷ []
 
--- `free WIRING [--workers N] [--turns N] [--slice N] [--log FILE]`
-abbrev pub free_shape : Shape
-free_shape = running_shape (codes "free") (codes "turns")
+-- `WIRING LOG`
+abbrev pub replaying_rules : List Rule
+replaying_rules = file_rule (codes "wiring") ∷ file_rule (codes "log") ∷ []
 
--- `explore WIRING [--states N] [--steps N] [--log PREFIX] [--show WHAT]`
-abbrev pub explore_shape : Shape
-explore_shape = record (new_shape (codes "explore")) {
-  rules = file_rule (codes "wiring")
-      ∷ number_rule (codes "states") (between 0 4294967295) (codes "1000000")
-      ∷ number_rule (codes "steps") (between 0 9223372036854775807) (codes "9223372036854775807")
-      ∷ option_rule (codes "log")
-      ∷ text_rule (codes "show") (codes "dump")
-      ∷ [];
-}
+-- the arguments of each command
+abbrev pub rules_of : Which → List Rule
+rules_of Run = running_rules (codes "rounds")
+rules_of Free = running_rules (codes "turns")
+rules_of Explore = exploring_rules
+rules_of Replay = replaying_rules
+rules_of Where =
+    replaying_rules ++ number_rule (codes "events") (between 0 4294967295) (codes "4294967295") ∷ []
+rules_of Dis = file_rule (codes "image") ∷ number_rule (codes "kind") (between 1 2) (codes "1") ∷ []
 
--- `replay WIRING LOG`
-abbrev pub replay_shape : Shape
-replay_shape = record (new_shape (codes "replay")) { rules = file_rule (codes "wiring") ∷ file_rule (codes "log") ∷ [] }
+-- its name
+abbrev pub name_of : Which → Text
+name_of Run = codes "run"
+name_of Free = codes "free"
+name_of Explore = codes "explore"
+name_of Replay = codes "replay"
+name_of Where = codes "where"
+name_of Dis = codes "dis"
 
--- `where WIRING LOG [--events N]`
-abbrev pub where_shape : Shape
-where_shape = record (new_shape (codes "where")) {
-  rules = file_rule (codes "wiring")
-      ∷ file_rule (codes "log")
-      ∷ number_rule (codes "events") (between 0 4294967295) (codes "4294967295")
-      ∷ [];
-}
+-- a command with this name and these arguments
+abbrev pub shape : Text → List Rule → Shape
+shape name rules = record (new_shape name) { rules = rules }
 
--- `dis IMAGE [--kind N]`
-abbrev pub dis_shape : Shape
-dis_shape = record (new_shape (codes "dis")) {
-  rules = file_rule (codes "image") ∷ number_rule (codes "kind") (between 1 2) (codes "1") ∷ [];
-}
+abbrev pub shape_of : Which → Shape
+shape_of which = shape (name_of which) (rules_of which)
 
 -- the program without its commands, of which one has to be named
 abbrev pub top : App
@@ -108,12 +115,9 @@ top = record {
   subs = [];
 }
 
--- the program
+-- the program with the commands of the table
 abbrev pub program : App
-program =
-    with_subcommand (with_subcommand (with_subcommand (
-    with_subcommand (with_subcommand (with_subcommand top run_shape) free_shape) explore_shape) replay_shape)
-    where_shape) dis_shape
+program = fold (λ app which. with_subcommand app (shape_of which)) top COMMANDS
 
 -- ---- what they ask for
 
@@ -127,13 +131,13 @@ pub data Asked : Type 0 where
   dis : Text → Kind → Asked
 
 abbrev pub asked_of : Command → Asked
-asked_of (Run wiring options log) = run wiring.bytes.items options (option_map (λ s. s.bytes.items) log)
-asked_of (Free wiring options log) = free wiring.bytes.items options (option_map (λ s. s.bytes.items) log)
-asked_of (Explore wiring states steps log what) =
+asked_of (command.Run wiring options log) = run wiring.bytes.items options (option_map (λ s. s.bytes.items) log)
+asked_of (command.Free wiring options log) = free wiring.bytes.items options (option_map (λ s. s.bytes.items) log)
+asked_of (command.Explore wiring states steps log what) =
     explore wiring.bytes.items states steps (option_map (λ s. s.bytes.items) log) what
-asked_of (Replay wiring log) = replay wiring.bytes.items log.bytes.items
-asked_of (Where wiring log events) = whereabouts wiring.bytes.items log.bytes.items events
-asked_of (Dis image kind) = dis image.bytes.items kind
+asked_of (command.Replay wiring log) = replay wiring.bytes.items log.bytes.items
+asked_of (command.Where wiring log events) = whereabouts wiring.bytes.items log.bytes.items events
+asked_of (command.Dis image kind) = dis image.bytes.items kind
 
 -- the text of an argument
 abbrev pub text_at : Text → List Row → Text
@@ -189,16 +193,22 @@ abbrev pub dis_in : List Row → Asked
 dis_in rows = dis (text_at (codes "image") rows) (kind_in rows)
 
 -- what the arguments of a command ask for, where they ask for anything
+abbrev pub asked_in : Which → List Row → Option Asked
+asked_in Run rows = Some (run_in rows)
+asked_in Free rows = Some (free_in rows)
+asked_in Explore rows = explore_in rows
+asked_in Replay rows = Some (replay_in rows)
+asked_in Where rows = Some (where_in rows)
+asked_in Dis rows = Some (dis_in rows)
+
+-- the command of a name
+abbrev pub named : Text → Option Which
+named name = find (λ which. bytes_eq (name_of which) name) COMMANDS
+
+-- what a name and arguments ask for
 abbrev pub command_in : Option (Text × List Row) → Option Asked
 command_in None = None
-command_in (Some (name, rows)) =
-    if bytes_eq name (codes "run") then Some (run_in rows)
-    else if bytes_eq name (codes "free") then Some (free_in rows)
-    else if bytes_eq name (codes "explore") then explore_in rows
-    else if bytes_eq name (codes "replay") then Some (replay_in rows)
-    else if bytes_eq name (codes "where") then Some (where_in rows)
-    else if bytes_eq name (codes "dis") then Some (dis_in rows)
-    else None
+command_in (Some (name, rows)) = option_and_then (λ which. asked_in which rows) (named name)
 
 -- the program's name, some words, and `--help`
 abbrev pub asking_help : Text → List Text → List Text
@@ -239,12 +249,12 @@ pub record AreOptions (o : Options) : Type 0 where
 
 -- and so do the numbers of a command
 abbrev pub IsInRange : Command → Type 0
-IsInRange (Run wiring options log) = AreOptions options
-IsInRange (Free wiring options log) = AreOptions options
-IsInRange (Explore wiring states steps log what) = (states ≤ 4294967295) × (steps ≤ 9223372036854775807)
-IsInRange (Replay wiring log) = Unit {0}
-IsInRange (Where wiring log events) = events ≤ 4294967295
-IsInRange (Dis image kind) = Unit {0}
+IsInRange (command.Run wiring options log) = AreOptions options
+IsInRange (command.Free wiring options log) = AreOptions options
+IsInRange (command.Explore wiring states steps log what) = (states ≤ 4294967295) × (steps ≤ 9223372036854775807)
+IsInRange (command.Replay wiring log) = Unit {0}
+IsInRange (command.Where wiring log events) = events ≤ 4294967295
+IsInRange (command.Dis image kind) = Unit {0}
 
 -- ---- what the private functions speak of
 
@@ -258,37 +268,42 @@ pub record HasNumber (least most : ℕ) (id : Text) (rows : List Row) : Type 0 w
   pub read : one_of id rows ≡ Some (without_minus text)
   pub within : IsSignedIn (pos least) (pos most) text
 
--- the arguments of a run that cannot be absent are there; its limit is the one of this id
-pub record IsRun (id : Text) (rows : List Row) : Type 0 where
-  pub wiring : HasText (codes "wiring") rows
-  pub workers : HasNumber 1 64 (codes "workers") rows
-  pub limit : HasNumber 0 4294967295 id rows
-  pub slice : HasNumber 1 65536 (codes "slice") rows
+-- a number of a range is there, if the argument has one; else a text
+abbrev pub HasParsed : Option ValueParser → Text → List Row → Type 0
+HasParsed (Some (Signed (pos least) (pos most))) id rows = HasNumber least most id rows
+HasParsed parser id rows = HasText id rows
 
-abbrev pub IsExplore : List Row → Type 0
-IsExplore rows =
-    HasText (codes "wiring") rows × HasNumber 0 4294967295 (codes "states") rows
-    × HasNumber 0 9223372036854775807 (codes "steps") rows × HasText (codes "show") rows
+-- so, unless the argument may be left out and has no default
+abbrev pub HasWanted : Bool → List Text → Rule → List Row → Type 0
+HasWanted false [] a rows = Unit {0}
+HasWanted required defaults a rows = HasParsed a.parser a.id rows
 
-abbrev pub IsReplay : List Row → Type 0
-IsReplay rows = HasText (codes "wiring") rows × HasText (codes "log") rows
+-- all arguments that cannot be absent are there
+abbrev pub HasAll : List Rule → List Row → Type 0
+HasAll [] rows = Unit {0}
+HasAll (a ∷ rest) rows = HasWanted a.required a.defaults a rows × HasAll rest rows
 
-abbrev pub IsWhere : List Row → Type 0
-IsWhere rows = HasText (codes "wiring") rows × HasText (codes "log") rows × HasNumber 0 4294967295 (codes "events") rows
+-- there is a command of this name, and its arguments are there
+abbrev pub IsWhole : Text → List Row → Type 0
+IsWhole name rows = IsSomeAnd (named name) (λ which. HasAll (rules_of which) rows)
 
-abbrev pub IsDis : List Row → Type 0
-IsDis rows = HasText (codes "image") rows × HasNumber 1 2 (codes "kind") rows
+-- an argument of the table
+abbrev pub rule_of_form : Text → Form → Rule
+rule_of_form name form.File = file_rule name
+rule_of_form name form.Text = option_rule name
+rule_of_form name (form.TextOr default) = text_rule name default.now
+rule_of_form name (form.Number least most default) = number_rule name (Signed least most) default.now
 
--- the command of this name is one of the six, and its arguments are there
-pub record IsWhole (name : Text) (rows : List Row) : Type 0 where
-  pub run : bytes_eq name (codes "run") ≡ true → IsRun (codes "rounds") rows
-  pub free : bytes_eq name (codes "free") ≡ true → IsRun (codes "turns") rows
-  pub explore : bytes_eq name (codes "explore") ≡ true → IsExplore rows
-  pub replay : bytes_eq name (codes "replay") ≡ true → IsReplay rows
-  pub whereabouts : bytes_eq name (codes "where") ≡ true → IsWhere rows
-  pub dis : bytes_eq name (codes "run") ≡ false → bytes_eq name (codes "free") ≡ false
-      → bytes_eq name (codes "explore") ≡ false → bytes_eq name (codes "replay") ≡ false
-      → bytes_eq name (codes "where") ≡ false → (bytes_eq name (codes "dis") ≡ true) × IsDis rows
+abbrev pub rule_of_row : Argument → Rule
+rule_of_row a = rule_of_form a.name.now a.form
+
+-- a command with the arguments of more rows
+abbrev pub with_rows : Shape → List Argument → Shape
+with_rows s rows = record s { rules = s.rules ++ map rule_of_row rows }
+
+-- a command with the name and the arguments of a row
+abbrev pub shape_of_row : CommandRow → Shape
+shape_of_row row = with_rows (shape row.name.now []) row.arguments.now
 
 -- a parser reads a command of this shape, and no subcommand
 abbrev pub HasShape : Shape → Parser → Type 0
@@ -328,7 +343,7 @@ example_free_defaults : command_of (codes "temu" ∷ codes "free" ∷ codes "pai
 unfolding clap_on_literals
 example_free_defaults = refl
 
--- all states, or so many; all steps, or so many
+-- a million states, or so many; all steps, or so many
 example_explore : command_of (codes "temu" ∷ codes "explore" ∷ codes "pair.toml" ∷ [])
     ≡ Some (explore (codes "pair.toml") 1000000 9223372036854775807 None show.Dump)
 unfolding clap_on_literals

@@ -8,11 +8,11 @@ ghost use Rattle.clap.specs.declared.builder.command.Command.TheViews.{out-Comma
 ghost use Rattle.twords.specs.CommandLines as spec;
 ghost use Rattle.twords.specs.CommandLines.{IsInRange, asked_of, command_of, refusals};
 
-use crate::help::{self, RunHelp};
 use crate::help_words::with_help_option;
-use clap::builder::ValueParser;
+use crate::parsers::{parser, program};
+use crate::table::{COMMANDS, Which};
+use clap::ArgMatches;
 use clap::error::ErrorKind;
-use clap::{Arg, ArgMatches, Command as Parser, value_parser};
 use std::alloc::{AllocError, Global};
 use tplan::Options;
 use tword::Kind;
@@ -124,10 +124,24 @@ fn read_taken(alloc: Global, words: &[&str]) -> Result<Option<Command>, CommandF
 fn refused_show(alloc: Global) -> Result<CommandFault, AllocError>
     ensures { IfOk result (λ fault. kind_of fault ≡ InvalidValue) }
 {
-    explore_parser(alloc)?.bin_name("temu explore")?.error(
-        ErrorKind::InvalidValue,
-        "invalid value for '--show <WHAT>': not dump, where or none",
-    )
+    parser(alloc, Which::Explore)?
+        .bin_name("temu explore")?
+        .error(
+            ErrorKind::InvalidValue,
+            "invalid value for '--show <WHAT>': not dump, where or none",
+        )
+}
+
+/// The command of this name, if there is one.
+fn named(name: &str) -> Option<Which>
+    ensures { result ≡ spec.named name.now }
+{
+    for which in COMMANDS {
+        if which.name() == name {
+            return Some(which);
+        }
+    }
+    None
 }
 
 /// What the arguments of the command of this name ask for; nothing where a word of `--show` stands for nothing.
@@ -137,24 +151,31 @@ fn asked(alloc: Global, name: &str, given: &ArgMatches) -> Result<Option<Command
         ≡ option_map asked_of c) }
     ensures range { IfOk result (λ c. IfSome c IsInRange) }
 {
-    if name == "run" {
-        Ok(Some(run(alloc, given)?))
-    } else if name == "free" {
-        Ok(Some(free(alloc, given)?))
-    } else if name == "explore" {
-        explore(alloc, given)
-    } else if name == "replay" {
-        Ok(Some(replay(alloc, given)?))
-    } else if name == "where" {
-        Ok(Some(whereabouts(alloc, given)?))
-    } else {
-        Ok(Some(dis(alloc, given)?))
+    let Some(which) = named(name) else {
+        unreachable!()
+    };
+    asked_by(alloc, which, given)
+}
+
+/// What the arguments of a command ask for; nothing where a word of `--show` stands for nothing.
+fn asked_by(alloc: Global, which: Which, given: &ArgMatches) -> Result<Option<Command>, AllocError>
+    requires { spec.HasAll (spec.rules_of which) (rows_of (found_of given.now)) }
+    ensures command { IfOk result (λ c. spec.asked_in which (rows_of (found_of given.now)) ≡ option_map asked_of c) }
+    ensures range { IfOk result (λ c. IfSome c IsInRange) }
+{
+    match which {
+        Which::Run => Ok(Some(run(alloc, given)?)),
+        Which::Free => Ok(Some(free(alloc, given)?)),
+        Which::Explore => explore(alloc, given),
+        Which::Replay => Ok(Some(replay(alloc, given)?)),
+        Which::Where => Ok(Some(whereabouts(alloc, given)?)),
+        Which::Dis => Ok(Some(dis(alloc, given)?)),
     }
 }
 
 /// What the arguments of `run` ask for.
 fn run(alloc: Global, given: &ArgMatches) -> Result<Command, AllocError>
-    requires { spec.IsRun (codes "rounds") (rows_of (found_of given.now)) }
+    requires { spec.HasAll (spec.rules_of Which.Run) (rows_of (found_of given.now)) }
     ensures command { IfOk result (λ c. asked_of c ≡ spec.run_in (rows_of (found_of given.now))) }
     ensures range { IfOk result IsInRange }
 {
@@ -168,7 +189,7 @@ fn run(alloc: Global, given: &ArgMatches) -> Result<Command, AllocError>
 
 /// What the arguments of `free` ask for.
 fn free(alloc: Global, given: &ArgMatches) -> Result<Command, AllocError>
-    requires { spec.IsRun (codes "turns") (rows_of (found_of given.now)) }
+    requires { spec.HasAll (spec.rules_of Which.Free) (rows_of (found_of given.now)) }
     ensures command { IfOk result (λ c. asked_of c ≡ spec.free_in (rows_of (found_of given.now))) }
     ensures range { IfOk result IsInRange }
 {
@@ -186,7 +207,7 @@ fn run_parts(
     given: &ArgMatches,
     limit: &str,
 ) -> Result<(String, Options, Option<String>), AllocError>
-    requires { spec.IsRun limit.now (rows_of (found_of given.now)) }
+    requires { spec.HasAll (spec.running_rules limit.now) (rows_of (found_of given.now)) }
     ensures wiring { IfOk result (λ r. r.0.bytes.items ≡ spec.text_at (codes "wiring") (rows_of (found_of given.now))) }
     ensures options { IfOk result (λ r. r.1 ≡ spec.options_in limit.now (rows_of (found_of given.now))) }
     ensures log { IfOk result (λ r. option_map (λ s. s.bytes.items) r.2
@@ -200,7 +221,7 @@ fn run_parts(
 
 /// The options of a run, whose limit has this name.
 fn options(given: &ArgMatches, limit: &str) -> Options
-    requires { spec.IsRun limit.now (rows_of (found_of given.now)) }
+    requires { spec.HasAll (spec.running_rules limit.now) (rows_of (found_of given.now)) }
     ensures value { result ≡ spec.options_in limit.now (rows_of (found_of given.now)) }
     ensures range { spec.AreOptions result }
 {
@@ -213,7 +234,7 @@ fn options(given: &ArgMatches, limit: &str) -> Options
 
 /// What the arguments of `explore` ask for; nothing where the word of `--show` stands for nothing.
 fn explore(alloc: Global, given: &ArgMatches) -> Result<Option<Command>, AllocError>
-    requires { spec.IsExplore (rows_of (found_of given.now)) }
+    requires { spec.HasAll (spec.rules_of Which.Explore) (rows_of (found_of given.now)) }
     ensures command { IfOk result (λ c. option_map asked_of c ≡ spec.explore_in (rows_of (found_of given.now))) }
     ensures range { IfOk result (λ c. IfSome c IsInRange) }
 {
@@ -256,7 +277,7 @@ fn show_of(word: &str) -> Option<Show>
 
 /// What the arguments of `replay` ask for.
 fn replay(alloc: Global, given: &ArgMatches) -> Result<Command, AllocError>
-    requires { spec.IsReplay (rows_of (found_of given.now)) }
+    requires { spec.HasAll (spec.rules_of Which.Replay) (rows_of (found_of given.now)) }
     ensures { IfOk result (λ c. asked_of c ≡ spec.replay_in (rows_of (found_of given.now))) }
 {
     Ok(Command::Replay {
@@ -267,7 +288,7 @@ fn replay(alloc: Global, given: &ArgMatches) -> Result<Command, AllocError>
 
 /// What the arguments of `where` ask for.
 fn whereabouts(alloc: Global, given: &ArgMatches) -> Result<Command, AllocError>
-    requires { spec.IsWhere (rows_of (found_of given.now)) }
+    requires { spec.HasAll (spec.rules_of Which.Where) (rows_of (found_of given.now)) }
     ensures { IfOk result (λ c. asked_of c ≡ spec.where_in (rows_of (found_of given.now))) }
 {
     let wiring = file(alloc, given, "wiring")?;
@@ -281,7 +302,7 @@ fn whereabouts(alloc: Global, given: &ArgMatches) -> Result<Command, AllocError>
 
 /// What the arguments of `dis` ask for.
 fn dis(alloc: Global, given: &ArgMatches) -> Result<Command, AllocError>
-    requires { spec.IsDis (rows_of (found_of given.now)) }
+    requires { spec.HasAll (spec.rules_of Which.Dis) (rows_of (found_of given.now)) }
     ensures { IfOk result (λ c. asked_of c ≡ spec.dis_in (rows_of (found_of given.now))) }
 {
     Ok(Command::Dis {
@@ -336,269 +357,4 @@ fn long_number(given: &ArgMatches, id: &str) -> u64
     ensures range { result ≤ 9223372036854775807 }
 {
     given.get_one::<u64>(id).unwrap()
-}
-
-/// The words that the program takes.
-fn program<'a>(alloc: Global) -> Result<Parser<'a>, AllocError>
-    ensures { IfOk result (λ c. app_of c ≡ spec.program) }
-{
-    top_parser(alloc)?
-        .subcommand(run_parser(alloc)?)?
-        .subcommand(free_parser(alloc)?)?
-        .subcommand(explore_parser(alloc)?)?
-        .subcommand(replay_parser(alloc)?)?
-        .subcommand(where_parser(alloc)?)?
-        .subcommand(dis_parser(alloc)?)
-}
-
-/// The program without its commands, of which one has to be named.
-fn top_parser<'a>(alloc: Global) -> Result<Parser<'a>, AllocError>
-    ensures { IfOk result (λ c. app_of c ≡ spec.top) }
-{
-    Parser::new(alloc, "temu")
-        .about("Emulates nets of Inmos T414 transputers")
-        .after_help(help::PROGRAM)
-        .disable_help_subcommand(true)
-        .arg_required_else_help(true)
-        .subcommand_required(true)
-        .bin_name("temu")
-}
-
-/// The words of `run`.
-fn run_parser<'a>(alloc: Global) -> Result<Parser<'a>, AllocError>
-    ensures { IfOk result (spec.HasShape spec.run_shape) }
-{
-    running_parser(alloc, "run", "rounds", &help::RUN)
-}
-
-/// The words of `free`.
-fn free_parser<'a>(alloc: Global) -> Result<Parser<'a>, AllocError>
-    ensures { IfOk result (spec.HasShape spec.free_shape) }
-{
-    running_parser(alloc, "free", "turns", &help::FREE)
-}
-
-/// The words of `run` or `free`, with this name and this name of the limit.
-fn running_parser<'a>(
-    alloc: Global,
-    name: &'a str,
-    limit: &'a str,
-    help: &RunHelp,
-) -> Result<Parser<'a>, AllocError>
-    ensures { IfOk result (spec.HasShape (spec.running_shape name.entry.now limit.entry.now)) }
-{
-    Parser::new(alloc, name)
-        .about(help.about)
-        .after_help(help.below)
-        .arg(file_arg(alloc, "wiring", "WIRING", help.wiring))?
-        .arg(workers_arg(alloc, help.workers))?
-        .arg(limit_arg(alloc, limit, help.limit))?
-        .arg(slice_arg(alloc, help.slice))?
-        .arg(log_arg(
-            alloc,
-            "FILE",
-            "Writes a line for each event that was done into this file, which is made anew",
-        ))
-}
-
-/// The words of `explore`.
-fn explore_parser<'a>(alloc: Global) -> Result<Parser<'a>, AllocError>
-    ensures { IfOk result (spec.HasShape spec.explore_shape) }
-{
-    Parser::new(alloc, "explore")
-        .about(
-            "Finds every outcome of the net of a wiring file, whatever its timing, and prints their memories",
-        )
-        .after_help(help::EXPLORE)
-        .arg(file_arg(
-            alloc,
-            "wiring",
-            "WIRING",
-            "The wiring file, as TOML; its holds are ignored",
-        ))?
-        .arg(states_arg(alloc))?
-        .arg(steps_arg(alloc))?
-        .arg(log_arg(
-            alloc,
-            "PREFIX",
-            "Writes a log of each outcome and freeze, for `replay` and `where`: PREFIX1.log, PREFIX2.log, ..",
-        ))?
-        .arg(show_arg(alloc))
-}
-
-/// The words of `replay`.
-fn replay_parser<'a>(alloc: Global) -> Result<Parser<'a>, AllocError>
-    ensures { IfOk result (spec.HasShape spec.replay_shape) }
-{
-    Parser::new(alloc, "replay")
-        .about(
-            "Does the events of a log on the net of a wiring file, and prints its trace and its memories",
-        )
-        .after_help(help::REPLAY)
-        .arg(file_arg(
-            alloc,
-            "wiring",
-            "WIRING",
-            "The wiring file, as TOML; its holds are ignored",
-        ))?
-        .arg(file_arg(
-            alloc,
-            "log",
-            "LOG",
-            "The log file, as `run --log` or `free --log` writes it",
-        ))
-}
-
-/// The words of `where`.
-fn where_parser<'a>(alloc: Global) -> Result<Parser<'a>, AllocError>
-    ensures { IfOk result (spec.HasShape spec.where_shape) }
-{
-    Parser::new(alloc, "where")
-        .about(
-            "Does the events of a log on the net of a wiring file, and prints where each process stands then",
-        )
-        .after_help(help::WHERE)
-        .arg(file_arg(
-            alloc,
-            "wiring",
-            "WIRING",
-            "The wiring file, as TOML; its holds are ignored",
-        ))?
-        .arg(file_arg(
-            alloc,
-            "log",
-            "LOG",
-            "The log file, as `run --log` or `free --log` writes it",
-        ))?
-        .arg(events_arg(alloc))
-}
-
-/// The words of `dis`.
-fn dis_parser<'a>(alloc: Global) -> Result<Parser<'a>, AllocError>
-    ensures { IfOk result (spec.HasShape spec.dis_shape) }
-{
-    Parser::new(alloc, "dis")
-        .about("Prints the instructions of a boot image")
-        .after_help(help::DIS)
-        .arg(file_arg(alloc, "image", "IMAGE", "The boot image"))?
-        .arg(kind_arg(alloc))
-}
-
-/// `WIRING` and its like: a file that has to be named.
-fn file_arg<'a>(alloc: Global, id: &'a str, name: &'a str, help: &'a str) -> Arg<'a>
-    ensures rule { rule_of result ≡ spec.file_rule id.entry.now }
-    ensures local { spec.IsLocal result }
-{
-    Arg::new(alloc, id)
-        .value_name(name)
-        .help(help)
-        .required(true)
-}
-
-/// `--log FILE` or `--log PREFIX`.
-fn log_arg<'a>(alloc: Global, name: &'a str, help: &'a str) -> Arg<'a>
-    ensures rule { rule_of result ≡ spec.option_rule (codes "log") }
-    ensures local { spec.IsLocal result }
-{
-    Arg::new(alloc, "log")
-        .long("log")
-        .value_name(name)
-        .help(help)
-}
-
-/// `--show WHAT`.
-fn show_arg<'a>(alloc: Global) -> Arg<'a>
-    ensures rule { rule_of result ≡ spec.text_rule (codes "show") (codes "dump") }
-    ensures local { spec.IsLocal result }
-{
-    Arg::new(alloc, "show")
-        .long("show")
-        .value_name("WHAT")
-        .default_value("dump")
-        .help("What is shown of each outcome: dump, where, or none for the headings alone")
-}
-
-/// `--workers N`.
-fn workers_arg<'a>(alloc: Global, help: &'a str) -> Arg<'a>
-    ensures rule { rule_of result ≡ spec.number_rule (codes "workers") (spec.between 1 64) (codes "1") }
-    ensures local { spec.IsLocal result }
-{
-    number_arg(alloc, "workers")
-        .value_parser(value_parser!(u32).range(1..=64))
-        .default_value("1")
-        .help(help)
-}
-
-/// `--rounds N` or `--turns N`.
-fn limit_arg<'a>(alloc: Global, id: &'a str, help: &'a str) -> Arg<'a>
-    ensures rule { rule_of result ≡ spec.number_rule id.entry.now (spec.between 0 4294967295) (codes "100000") }
-    ensures local { spec.IsLocal result }
-{
-    number_arg(alloc, id)
-        .value_parser(value_parser!(u32))
-        .default_value("100000")
-        .help(help)
-}
-
-/// `--states N`.
-fn states_arg<'a>(alloc: Global) -> Arg<'a>
-    ensures rule { rule_of result ≡ spec.number_rule (codes "states") (spec.between 0 4294967295) (codes "1000000") }
-    ensures local { spec.IsLocal result }
-{
-    number_arg(alloc, "states")
-        .value_parser(value_parser!(u32))
-        .default_value("1000000")
-        .help("How many states are kept at most: 0 to 4294967295")
-}
-
-/// `--steps N`.
-fn steps_arg<'a>(alloc: Global) -> Arg<'a>
-    ensures rule { rule_of result
-        ≡ spec.number_rule (codes "steps") (spec.between 0 9223372036854775807) (codes "9223372036854775807") }
-    ensures local { spec.IsLocal result }
-{
-    number_arg(alloc, "steps")
-        .value_parser(ValueParser::signed(0, i64::MAX))
-        .default_value("9223372036854775807")
-        .help("How many steps are done at most: 0 to 9223372036854775807")
-}
-
-/// `--events N`.
-fn events_arg<'a>(alloc: Global) -> Arg<'a>
-    ensures rule { rule_of result ≡ spec.number_rule (codes "events") (spec.between 0 4294967295) (codes "4294967295") }
-    ensures local { spec.IsLocal result }
-{
-    number_arg(alloc, "events")
-        .value_parser(value_parser!(u32))
-        .default_value("4294967295")
-        .help("How many events of the log are done at most, from its first on: 0 to 4294967295")
-}
-
-/// `--kind N`.
-fn kind_arg<'a>(alloc: Global) -> Arg<'a>
-    ensures rule { rule_of result ≡ spec.number_rule (codes "kind") (spec.between 1 2) (codes "1") }
-    ensures local { spec.IsLocal result }
-{
-    let kind = number_arg(alloc, "kind").default_value("1");
-    kind.value_parser(value_parser!(u32).range(1..=2))
-        .help("The kind of the node that the image is for: 1 or 2")
-}
-
-/// `--slice N`.
-fn slice_arg<'a>(alloc: Global, help: &'a str) -> Arg<'a>
-    ensures rule { rule_of result ≡ spec.number_rule (codes "slice") (spec.between 1 65536) (codes "64") }
-    ensures local { spec.IsLocal result }
-{
-    number_arg(alloc, "slice")
-        .value_parser(value_parser!(u32).range(1..=65_536))
-        .default_value("64")
-        .help(help)
-}
-
-/// An option with a value.
-fn number_arg<'a>(alloc: Global, id: &'a str) -> Arg<'a>
-    ensures rule { rule_of result ≡ spec.option_rule id.entry.now }
-    ensures local { spec.IsLocal result }
-{
-    Arg::new(alloc, id).long(id).value_name("N")
 }

@@ -1,0 +1,423 @@
+//! The table of the commands: the words that each takes, their ranges and defaults, and what help tells of it.
+
+ghost use Rattle.std.specs.Prelude.{◌≡◌};
+ghost use Rattle.twords.specs.CommandLines as spec;
+
+/// A command by itself.
+#[derive(Clone, Copy, Debug, PartialEq, Eq)]
+pub enum Which {
+    /// `run`.
+    Run,
+    /// `free`.
+    Free,
+    /// `explore`.
+    Explore,
+    /// `replay`.
+    Replay,
+    /// `where`.
+    Where,
+    /// `dis`.
+    Dis,
+}
+
+impl Which {
+    /// Its name.
+    pub(crate) fn name(self) -> &'static str
+        ensures { result.now ≡ spec.name_of self }
+    {
+        self.row().name
+    }
+
+    /// Its row.
+    pub(crate) fn row(self) -> CommandRow
+        ensures { spec.shape_of_row result ≡ spec.shape_of self }
+    {
+        match self {
+            Which::Run => RUN,
+            Which::Free => FREE,
+            Which::Explore => EXPLORE,
+            Which::Replay => REPLAY,
+            Which::Where => WHERE,
+            Which::Dis => DIS,
+        }
+    }
+}
+
+/// What a command is called, takes and does.
+#[derive(Clone, Copy)]
+pub struct CommandRow {
+    /// Its name.
+    pub name: &'static str,
+    /// What it does, in the help of the program and in its own.
+    pub about: &'static str,
+    /// The arguments that it takes.
+    pub arguments: &'static [Argument],
+    /// What stands below its help.
+    pub below: &'static str,
+}
+
+/// An argument of a command.
+pub struct Argument {
+    /// What it is called, and behind `--` its option, if it has one.
+    pub name: &'static str,
+    /// What it takes.
+    pub form: Form,
+    /// What help calls its value.
+    pub value: &'static str,
+    /// What help tells of it.
+    pub help: &'static str,
+}
+
+/// What an argument takes.
+pub enum Form {
+    /// A file that has to be named, with no option before it.
+    File,
+    /// A text behind an option that may be left out.
+    Text,
+    /// A text behind an option, and what it is where that is left out.
+    TextOr(&'static str),
+    /// A number behind an option, from the least to the most, and what it is where that is left out.
+    Number(i64, i64, &'static str),
+}
+
+/// All commands, in the order of help.
+pub const COMMANDS: [Which; 6] = [
+    Which::Run,
+    Which::Free,
+    Which::Explore,
+    Which::Replay,
+    Which::Where,
+    Which::Dis,
+];
+
+/// How many threads share the nodes.
+const WORKERS: Form = Form::Number(1, 64, "1");
+
+/// After how many rounds or turns a run ends at the latest.
+const LIMIT: Form = Form::Number(0, 4_294_967_295, "100000");
+
+/// How many instructions and dispatches a node does at most before the next has its turn.
+const SLICE: Form = Form::Number(1, 65_536, "64");
+
+/// `WIRING`, whose holds are ignored.
+const WIRING: Argument = Argument {
+    name: "wiring",
+    form: Form::File,
+    value: "WIRING",
+    help: "The wiring file, as TOML; its holds are ignored",
+};
+
+/// `LOG`.
+const LOG_TO_READ: Argument = Argument {
+    name: "log",
+    form: Form::File,
+    value: "LOG",
+    help: "The log file, as `run --log` or `free --log` writes it",
+};
+
+/// `--log FILE`.
+const LOG_TO_WRITE: Argument = Argument {
+    name: "log",
+    form: Form::Text,
+    value: "FILE",
+    help: "Writes a line for each event that was done into this file, which is made anew",
+};
+
+/// `run`.
+pub const RUN: CommandRow = CommandRow {
+    name: "run",
+    about: "Runs the net of a wiring file by rounds, and prints its trace and its memories",
+    arguments: &[
+        Argument {
+            name: "wiring",
+            form: Form::File,
+            value: "WIRING",
+            help: "The wiring file, as TOML",
+        },
+        Argument {
+            name: "workers",
+            form: WORKERS,
+            value: "N",
+            help: "How many threads share the nodes of a round: 1 to 64",
+        },
+        Argument {
+            name: "rounds",
+            form: LIMIT,
+            value: "N",
+            help: "After how many rounds the run ends at the latest: 0 to 4294967295",
+        },
+        Argument {
+            name: "slice",
+            form: SLICE,
+            value: "N",
+            help: "How many instructions and dispatches a node does in a round at most: 1 to 65536",
+        },
+        LOG_TO_WRITE,
+    ],
+    below: "\
+In: a wiring file such as
+
+  version = 1
+  timeslice = 1024     # may be left out
+  [[node]]             # node 0, 1, ..
+  memory = 2048        # in bytes
+  image = \"a.img\"      # the path of its boot image
+  [[wire]]
+  a = [0, 1]           # node and link
+  b = [1, 2]
+  [[hold]]             # packets that wait at an end
+  end = [1, 2]
+  kind = \"data\"        # or \"ack\"
+  from = 1             # the first round in which they wait
+  until = 5            # and the first in which they do not
+
+In a wiring of version 2 a node may be of kind 2: it has the operation `dup` too, and may have up to
+16777216 bytes of memory, where one of kind 1 may have 1048576:
+
+  version = 2
+  [[node]]
+  memory = 16777216
+  kind = 2             # may be left out: 1
+  image = \"a.img\"
+
+A wiring of version 2 may have sources and sinks too. They are numbered behind the nodes, the
+sources first, and each has the one link 0:
+
+  version = 2
+  [[source]]           # sends messages to an end, one after another
+  end = [0, 2]
+  messages = [\"01020304\", \"05\"]  # in hexadecimal, 1 to 4096 bytes each
+  [[sink]]             # keeps the messages that an end sends
+  end = [1, 1]
+  capacity = 64        # for how many bytes it has room: 1 to 65536
+
+Out: a line for each message that went over, as `msg 0.1 1.2 4 01020304` (from, to, length, bytes),
+and for each node that halted or froze; the memory of each node, without lines of zeros; for each
+source how many of its messages are over, as `source 2 done 1 of 2`; for each sink how many it has
+kept, as `sink 3 messages 1`, and a line for each of them, as `kept 01020304`; last
+`end quiet R`, where nothing is left to do after R rounds, or `end rounds R`.
+
+Example:
+  temu run pair.toml --workers 4 --log pair.log",
+};
+
+/// `free`.
+pub const FREE: CommandRow = CommandRow {
+    name: "free",
+    about: "Runs the net of a wiring file by free workers, and prints its trace and its memories",
+    arguments: &[
+        WIRING,
+        Argument {
+            name: "workers",
+            form: WORKERS,
+            value: "N",
+            help: "How many threads share the nodes: 1 to 64",
+        },
+        Argument {
+            name: "turns",
+            form: LIMIT,
+            value: "N",
+            help: "How many turns each worker makes at most: 0 to 4294967295",
+        },
+        Argument {
+            name: "slice",
+            form: SLICE,
+            value: "N",
+            help: "How many instructions and dispatches a node does in a turn at most: 1 to 65536",
+        },
+        LOG_TO_WRITE,
+    ],
+    below: "\
+In: a wiring file (see `temu run --help`), whose holds are ignored.
+
+Out: what `temu run` prints; last `end quiet`, where nothing is left to do, or `end turns`.
+
+Each worker is one thread, which makes so many turns over its own nodes and waits for nobody.
+Packets cross between threads by rings of two places, so the threads' timing decides which order
+comes out; but what is printed is always one run of the machine. Where the order decides nothing, a
+quiet end has the messages and the memories of `temu run`.
+
+`--log` writes the events in an order that `temu replay` does again.
+
+Example:
+  temu free pair.toml --workers 4 --log pair.log",
+};
+
+/// `explore`.
+pub const EXPLORE: CommandRow = CommandRow {
+    name: "explore",
+    about: "Finds every outcome of the net of a wiring file, whatever its timing, and prints their memories",
+    arguments: &[
+        WIRING,
+        Argument {
+            name: "states",
+            form: Form::Number(0, 4_294_967_295, "1000000"),
+            value: "N",
+            help: "How many states are kept at most: 0 to 4294967295",
+        },
+        Argument {
+            name: "steps",
+            form: Form::Number(0, i64::MAX, "9223372036854775807"),
+            value: "N",
+            help: "How many steps are done at most: 0 to 9223372036854775807",
+        },
+        Argument {
+            name: "log",
+            form: Form::Text,
+            value: "PREFIX",
+            help: "Writes a log of each outcome and freeze, for `replay` and `where`: PREFIX1.log, PREFIX2.log, ..",
+        },
+        Argument {
+            name: "show",
+            form: Form::TextOr("dump"),
+            value: "WHAT",
+            help: "What is shown of each outcome: dump, where, or none for the headings alone",
+        },
+    ],
+    below: "\
+In: a wiring file (see `temu run --help`). Its holds do not matter, nor do the workers and the slice
+of a run: all timings are tried at once. The timeslice does.
+
+Out: for each outcome, which is a way in which a run may end, one of these lines, and below it the
+memories, sources and sinks as `temu run` prints them:
+
+  outcome 1 ended                        no process waits any more
+  outcome 2 idle                         processes wait, all of them for messages
+  outcome 3 stuck                        a message is offered that nobody takes
+  outcome 4 freeze 0 InTransit #8000009b node 0 broke this rule, at this instruction if there is one
+
+Where an earlier outcome agrees with one in all but the bytes of some lines of memories, `as 1 but`
+tells its number in place of the whole, and below it stand just the lines that differ, those of a
+node behind the node's own line. With `--show where` it tells in place of the memories where the
+processes and links stand, as `temu where` does, of each outcome whole; with `--show none` nothing
+stands below the headings.
+
+Behind them `endless`, where a run was found that goes on for ever (there may be one where it is not
+told). Last `end outcomes 2 states 13`: these 2 are all, and from 13 states several steps were tried,
+from 0 where there was one path alone; or `end cut outcomes 2 states 13`, where the limit of states
+or of steps was met, or no memory was left, so that there may be others.
+
+Each run by `temu run` or `temu free` that ends quiet, with no frozen node, ends in one of all
+outcomes. A run is followed up to its first freeze: where some run freezes a node at least one freeze
+is told, but not each of them.
+
+Exit status: 0 there is one outcome, and no freeze; 1 there is a freeze, or not just one outcome;
+5 the exploration was cut.
+
+Example:
+  temu explore pair.toml --states 100000",
+};
+
+/// `replay`.
+pub const REPLAY: CommandRow = CommandRow {
+    name: "replay",
+    about: "Does the events of a log on the net of a wiring file, and prints its trace and its memories",
+    arguments: &[WIRING, LOG_TO_READ],
+    below: "\
+In: a wiring file (see `temu run --help`) and a log, which has a line for each event: `run 0`,
+`send 0 1`, `data 1 2`, `take 1 2` or `ack 0 1`, with the number of the node and that of its link.
+
+Out: what `temu run` prints of these events; last `end replay E` after E events.
+
+Example:
+  temu replay pair.toml pair.log",
+};
+
+/// `where`.
+pub const WHERE: CommandRow = CommandRow {
+    name: "where",
+    about: "Does the events of a log on the net of a wiring file, and prints where each process stands then",
+    arguments: &[
+        WIRING,
+        LOG_TO_READ,
+        Argument {
+            name: "events",
+            form: Form::Number(0, 4_294_967_295, "4294967295"),
+            value: "N",
+            help: "How many events of the log are done at most, from its first on: 0 to 4294967295",
+        },
+    ],
+    below: "\
+In: a wiring file (see `temu run --help`) and a log (see `temu replay --help`).
+
+Out: for each node a line as `temu run` prints it before its memory, `node 0 ok`, and below it:
+
+  node 0 frozen ZeroLength                 the break of a usage rule
+    runs          #80000101 low            the process that runs, or that broke the rule: its
+                                           descriptor and its priority
+      Iptr        #80000086: in            the instruction there, or the break of its fetch
+      A           #00000000                the registers
+      B           #80000010
+      C           #80000104
+      Wptr        #80000100
+      Error       set                      only where it is; so is HaltOnError
+    interrupted   #80000201 low            likewise, the low process that a high one interrupted
+    high queue    #80000300 Iptr #80000090 those that are queued, the first one first
+    low queue     #80000401 Iptr #80000094
+    waits         #80000501 Iptr #80000098 output on channel #80000700 buffer #80000710 length 4
+    waits         #80000601 Iptr #8000009c input on link 2 buffer #80000720 length 4 over 1
+    waits         #80000701 Iptr #800000a0 alternative
+    link 0        sent 2 acknowledged 1    of the pending output
+    link 2        got 1                    of the pending input
+    link 2        byte waits 2a last       a byte that came, marked as the last of its message
+    link 2        packet data 2a           a packet that lies at the link
+    link 2        packet acknowledge       an acknowledge that lies there
+    link 3        enabled by #80000701     the process that is told when a byte comes
+
+Only what there is has a line. `over` tells how many bytes of the message went over. A source or a
+sink has its first line of `temu run`, and below it those of its link 0. Last `end replay E` after E
+events. Nothing is told of what the buffer of a pending link input holds.
+
+Example:
+  temu where pair.toml pair.log --events 40",
+};
+
+/// `dis`.
+pub const DIS: CommandRow = CommandRow {
+    name: "dis",
+    about: "Prints the instructions of a boot image",
+    arguments: &[
+        Argument {
+            name: "image",
+            form: Form::File,
+            value: "IMAGE",
+            help: "The boot image",
+        },
+        Argument {
+            name: "kind",
+            form: Form::Number(1, 2, "1"),
+            value: "N",
+            help: "The kind of the node that the image is for: 1 or 2",
+        },
+    ],
+    below: "\
+In: a boot image: the 8 bytes TEMUIMG1, the numbers of segments and of processes as little-endian
+words, the address, the length and the bytes of each segment, and the workspace descriptor and the
+instruction pointer of each process.
+
+Out: for each segment a line for each instruction, as `80000080: ldc 4`; a byte that begins none is
+shown as `80000080: db xx`.
+
+With `--kind 2` the bytes 25 fa are `dup`, which nodes of kind 1 do not have.
+
+Example:
+  temu dis first.img",
+};
+
+/// What stands below the help of the program.
+pub(crate) const PROGRAM: &str = "\
+Examples:
+  temu run pair.toml
+  temu run pair.toml --workers 4 --log pair.log
+  temu free pair.toml --workers 4
+  temu explore pair.toml
+  temu replay pair.toml pair.log
+  temu where pair.toml pair.log --events 40
+  temu dis first.img
+
+`temu run --help` or `temu help run`, and their like, tell what goes into a command and what comes
+out.
+
+Exit status: 0 done; 1 done, and a node is frozen, since it broke a usage rule, or an exploration
+found a freeze or not just one outcome; 2 bad input, which standard error names; 3 the output
+failed; 4 no memory; 5 an exploration was cut.";
