@@ -27,10 +27,9 @@ use Rattle.clap.specs.declared.parser.matches.ArgMatches.TheViews.{out-ArgMatche
 use Rattle.std.specs.Box.{box_value}
 use Rattle.clap.proofs.ValueTestLemmas.{accepts-Accepts}
 use Rattle.twords.specs.CommandLines.{HasAll, HasNumber, HasParsed, HasText, HasWanted, IsWhole, between, program}
-use Rattle.twords.specs.CommandLines.{name_of, named, rules_of, shape_of}
+use Rattle.twords.specs.CommandLines.{commands, name_of, named, rules_of, shape_of}
 use Rattle.twords.specs.declared.table.Which.{Which}
 use Rattle.twords.specs.declared.table.Which.TheVariants.{Run, Free, Explore, Replay, Where, Dis}
-use Rattle.twords.specs.declared.table.TheConstants.{COMMANDS}
 use Rattle.twords.proofs.AcceptedRows.{Each, IsFit, Holds, Rows, each_found, neither}
 use Rattle.twords.proofs.LevelRows.{Found, default_found, level_passes, required_found, subcommand_wanted}
 
@@ -137,7 +136,7 @@ dis_fits = (one_value _ _ refl refl refl, (one_value _ _ refl refl refl, (asks_h
 abbrev IsListed : Which → Type 0
 IsListed which = RulesFit (built_of (shape_of which)) × (named (name_of which) ≡ Some which)
 
-all_listed : Each IsListed COMMANDS
+all_listed : Each IsListed commands
 all_listed = (
   (run_fits, refl),
   (
@@ -250,7 +249,7 @@ whole words e =
     inside p None is f some = absurd (true≢false (sym some))
     inside p (Some s) is f some =
         (each_found (λ x. (words : List Text) → IsTaken x words → IsAnswered (Some (rows_at x words)))
-        (λ x. answers_to p.0 (label_of x)) (built program).subs s (all_whole COMMANDS all_listed) is).0 p.1 f
+        (λ x. answers_to p.0 (label_of x)) (built program).subs s (all_whole commands all_listed) is).0 p.1 f
 
     go : (stop : Option (Text × List Text))
         → Rows (built program).top.rules

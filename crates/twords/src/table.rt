@@ -81,7 +81,7 @@ pub enum Form {
 }
 
 /// All commands, in the order of help.
-pub const COMMANDS: [Which; 6] = [
+pub(crate) const COMMANDS: [Which; 6] = [
     Which::Run,
     Which::Free,
     Which::Explore,
