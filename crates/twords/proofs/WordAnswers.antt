@@ -2,7 +2,7 @@
 use Rattle.std.proofs.Common.{◌≡◌, ◌∙◌, ◌<◌, ℕ, Bool, cond, true, false, refl, sym, ap, ap₂, subst, arith, List, []}
 use Rattle.std.proofs.Common.{◌∷◌, length, Option, Some, None, is_some, inl, inr, true≢false}
 use Rattle.std.specs.Prelude.{option_map, option_and_then, slice_get, unwrap_or, IsSomeAnd}
-use Rattle.std.proofs.Common.{suc, ◌++◌, map, pos, negsuc}
+use Rattle.std.proofs.Common.{suc, rules, ◌++◌, map, pos, negsuc}
 use Rattle.std.proofs.lemmas.Bool.{ne_eqb}
 use Rattle.std.specs.List.{find}
 use Rattle.std.specs.Option.{option_map_or}
@@ -27,10 +27,8 @@ use Rattle.clap.specs.declared.parser.matches.ArgMatches.TheViews.{out-ArgMatche
 use Rattle.std.specs.Box.{box_value}
 use Rattle.clap.proofs.ValueTestLemmas.{accepts-Accepts}
 use Rattle.twords.specs.CommandLines.{HasAll, HasNumber, HasParsed, HasText, HasWanted, IsWhole, between, program}
-use Rattle.twords.specs.CommandLines.{name_of, named, rules_of, shape_of}
+use Rattle.twords.specs.CommandLines.{commands, name_of, named, rules_of, shape_of}
 use Rattle.twords.specs.declared.table.Which.{Which}
-use Rattle.twords.specs.declared.table.Which.TheVariants.{Run, Free, Explore, Replay, Where, Dis}
-use Rattle.twords.specs.declared.table.TheConstants.{COMMANDS}
 use Rattle.twords.proofs.AcceptedRows.{Each, IsFit, Holds, Rows, each_found, neither}
 use Rattle.twords.proofs.LevelRows.{Found, default_found, level_passes, required_found, subcommand_wanted}
 
@@ -85,66 +83,12 @@ one_value c a first set least = record { first = first; action = inl (set, omega
 asks_help : (c : List Rule) (a : Rule) → arg_by_id c a.id ≡ Some a → action_of a ≡ Help → IsFit c a
 asks_help c a first help = record { first = first; action = inr help }
 
-run_fits : RulesFit (built_of (shape_of Run))
-run_fits = (
-  one_value _ _ refl refl refl,
-  (
-    one_value _ _ refl refl refl,
-    (
-      one_value _ _ refl refl refl,
-      (one_value _ _ refl refl refl, (one_value _ _ refl refl refl, (asks_help _ _ refl refl, tt))),
-    ),
-  ),
-)
-
-free_fits : RulesFit (built_of (shape_of Free))
-free_fits = (
-  one_value _ _ refl refl refl,
-  (
-    one_value _ _ refl refl refl,
-    (
-      one_value _ _ refl refl refl,
-      (one_value _ _ refl refl refl, (one_value _ _ refl refl refl, (asks_help _ _ refl refl, tt))),
-    ),
-  ),
-)
-
-explore_fits : RulesFit (built_of (shape_of Explore))
-explore_fits = (
-  one_value _ _ refl refl refl,
-  (
-    one_value _ _ refl refl refl,
-    (
-      one_value _ _ refl refl refl,
-      (one_value _ _ refl refl refl, (one_value _ _ refl refl refl, (asks_help _ _ refl refl, tt))),
-    ),
-  ),
-)
-
-replay_fits : RulesFit (built_of (shape_of Replay))
-replay_fits = (one_value _ _ refl refl refl, (one_value _ _ refl refl refl, (asks_help _ _ refl refl, tt)))
-
-where_fits : RulesFit (built_of (shape_of Where))
-where_fits = (
-  one_value _ _ refl refl refl,
-  (one_value _ _ refl refl refl, (one_value _ _ refl refl refl, (asks_help _ _ refl refl, tt))),
-)
-
-dis_fits : RulesFit (built_of (shape_of Dis))
-dis_fits = (one_value _ _ refl refl refl, (one_value _ _ refl refl refl, (asks_help _ _ refl refl, tt)))
-
 -- a command has such rules, and is found by its name
 abbrev IsListed : Which → Type 0
 IsListed which = RulesFit (built_of (shape_of which)) × (named (name_of which) ≡ Some which)
 
-all_listed : Each IsListed COMMANDS
-all_listed = (
-  (run_fits, refl),
-  (
-    (free_fits, refl),
-    ((explore_fits, refl), ((replay_fits, refl), ((where_fits, refl), ((dis_fits, refl), tt)))),
-  ),
-)
+all_listed : Each IsListed commands
+all_listed = search (rules, one_value, asks_help, refl)
 
 top_fits : RulesFit (built program).top
 top_fits = (asks_help _ _ refl refl, tt)
@@ -250,7 +194,7 @@ whole words e =
     inside p None is f some = absurd (true≢false (sym some))
     inside p (Some s) is f some =
         (each_found (λ x. (words : List Text) → IsTaken x words → IsAnswered (Some (rows_at x words)))
-        (λ x. answers_to p.0 (label_of x)) (built program).subs s (all_whole COMMANDS all_listed) is).0 p.1 f
+        (λ x. answers_to p.0 (label_of x)) (built program).subs s (all_whole commands all_listed) is).0 p.1 f
 
     go : (stop : Option (Text × List Text))
         → Rows (built program).top.rules

@@ -32,7 +32,6 @@ use Rattle.twords.specs.declared.table.CommandRow.{CommandRow}
 use Rattle.twords.specs.declared.table.Argument.{Argument}
 use Rattle.twords.specs.declared.table.Form.{Form}
 use Rattle.twords.specs.declared.table.Form.TheVariants as form
-use Rattle.twords.specs.declared.table.TheConstants.{COMMANDS}
 
 -- ---- the words that are taken
 
@@ -88,7 +87,11 @@ rules_of Where =
     replaying_rules ++ number_rule (codes "events") (between 0 4294967295) (codes "4294967295") ∷ []
 rules_of Dis = file_rule (codes "image") ∷ number_rule (codes "kind") (between 1 2) (codes "1") ∷ []
 
--- its name
+-- all commands, in the order of help
+abbrev pub commands : List Which
+commands = Run ∷ Free ∷ Explore ∷ Replay ∷ Where ∷ Dis ∷ []
+
+-- the name of a command
 abbrev pub name_of : Which → Text
 name_of Run = codes "run"
 name_of Free = codes "free"
@@ -115,9 +118,9 @@ top = record {
   subs = [];
 }
 
--- the program with the commands of the table
+-- the program with its commands
 abbrev pub program : App
-program = fold (λ app which. with_subcommand app (shape_of which)) top COMMANDS
+program = fold (λ app which. with_subcommand app (shape_of which)) top commands
 
 -- ---- what they ask for
 
@@ -203,7 +206,7 @@ asked_in Dis rows = Some (dis_in rows)
 
 -- the command of a name
 abbrev pub named : Text → Option Which
-named name = find (λ which. bytes_eq (name_of which) name) COMMANDS
+named name = find (λ which. bytes_eq (name_of which) name) commands
 
 -- what a name and arguments ask for
 abbrev pub command_in : Option (Text × List Row) → Option Asked
@@ -252,9 +255,8 @@ abbrev pub IsInRange : Command → Type 0
 IsInRange (command.Run wiring options log) = AreOptions options
 IsInRange (command.Free wiring options log) = AreOptions options
 IsInRange (command.Explore wiring states steps log what) = (states ≤ 4294967295) × (steps ≤ 9223372036854775807)
-IsInRange (command.Replay wiring log) = Unit {0}
 IsInRange (command.Where wiring log events) = events ≤ 4294967295
-IsInRange (command.Dis image kind) = Unit {0}
+IsInRange c = Unit {0}
 
 -- ---- what the private functions speak of
 

@@ -81,7 +81,7 @@ pub enum Form {
 }
 
 /// All commands, in the order of help.
-pub const COMMANDS: [Which; 6] = [
+pub(crate) const COMMANDS: [Which; 6] = [
     Which::Run,
     Which::Free,
     Which::Explore,
@@ -275,8 +275,8 @@ pub const EXPLORE: CommandRow = CommandRow {
         },
     ],
     below: "\
-In: a wiring file (see `temu run --help`). Its holds do not matter, nor do the workers and the slice
-of a run: all timings are tried at once. The timeslice does.
+In: a wiring file (see `temu run --help`). Its holds do not matter, and a bad one is not told; nor do
+the workers and the slice of a run: all timings are tried at once. The timeslice does.
 
 Out: for each outcome, which is a way in which a run may end, one of these lines, and below it the
 memories, sources and sinks as `temu run` prints them:
@@ -301,8 +301,8 @@ Each run by `temu run` or `temu free` that ends quiet, with no frozen node, ends
 outcomes. A run is followed up to its first freeze: where some run freezes a node at least one freeze
 is told, but not each of them.
 
-Exit status: 0 there is one outcome, and no freeze; 1 there is a freeze, or not just one outcome;
-5 the exploration was cut.
+Exit status: 5 the exploration was cut, whatever it found; else 0 there is one outcome, and no
+freeze; 1 there is a freeze, or not just one outcome.
 
 Example:
   temu explore pair.toml --states 100000",
