@@ -12,6 +12,12 @@ use Rattle.tfree.specs.Kept.{share_with}
 use Rattle.tfree.specs.Rings.{AreRings, part_of}
 use Rattle.tfree.specs.Opened.{first_of, owned_of, share_of, HasDoneNothing}
 
+-- the share of worker number of so many, whose nodes begin with this one, by its allotment and its nodes
+abbrev pub allotted_share : (number count first : ℕ) → Allotment → Share
+allotted_share number count first a =
+    share_with number count first (length a.nodes.items) (net_of_parts a.opened.value) (ins_view a.ins.items)
+    (outs_view a.outs.items)
+
 module _ (opened : NetState) (count : ℕ) (ins : List (Option InView)) (outs : List (Option OutView)) where
   -- the first node of worker k, how many it has, and the ends of its rings
   abbrev pub first : ℕ → ℕ

@@ -60,18 +60,10 @@ fn share_out(
     let size = share(nodes.len(), count);
     let mut first = 0;
     for number in 0..count {
-        let Allotment {
-            opened,
-            wires,
-            nodes: mut mine,
-            ins,
-            outs,
-        } = allotments.remove(0);
+        let mut allotment = allotments.remove(0);
         let owned = size.min(nodes.len());
-        move_front(&mut nodes, &mut mine, owned);
-        workers.push_reserved(Worker::new(
-            alloc, number, count, first, opened, wires, mine, ins, outs,
-        ));
+        move_front(&mut nodes, &mut allotment.nodes, owned);
+        workers.push_reserved(Worker::new(alloc, number, count, first, allotment));
         first += owned;
     }
     workers

@@ -39,33 +39,41 @@ fn look(end: &mut InEnd, outs: &mut Vec<Option<OutEnd>>, own: Option<usize>) -> 
     }
 }
 
+/// A link at which packets are taken.
+#[derive(Clone, Copy)]
+pub struct Taker {
+    /// The number of its node.
+    pub number: u8,
+    pub link: u8,
+    /// Where the other end of its ring is, if it is at hand.
+    pub own: Option<usize>,
+}
+
 /// The packet in front of the ring of a link is taken, if one is seen and its event is enabled.
 pub fn receive_at(
     node: &mut Node,
     slot: &mut Option<InEnd>,
     outs: &mut Vec<Option<OutEnd>>,
     log: &mut Log,
-    own: Option<usize>,
-    number: u8,
-    link: u8,
+    taker: Taker,
 ) -> Result<bool, TurnFault>
-    requires { (v : InView) → option_map in_view slot.old ≡ Some v → SameRing own v (outs_view outs.old.items) }
+    requires { (v : InView) → option_map in_view slot.old ≡ Some v → SameRing taker.own v (outs_view outs.old.items) }
     ensures outs { outs_view outs.new.items ≡ outs_view outs.old.items }
     ensures did { Whether result
-        (Received number link own node.old node.new (log_view log.old) (log_view log.new)
+        (Received taker.number taker.link taker.own node.old node.new (log_view log.old) (log_view log.new)
         (option_map in_view slot.old) (option_map in_view slot.new) (outs_view outs.old.items))
         ((node.new ≡ node.old) × (log_view log.new ≡ log_view log.old)
         × (option_map in_view slot.new ≡ option_map in_view slot.old)) }
     ensures rests { result ≡ Ok false
-        → NoneDue link own node.old (option_map in_view slot.old) (outs_view outs.old.items) }
-    ensures left { IfErr result (LeftAtFront link own node.old log.old.clock (option_map in_view slot.old)
+        → NoneDue taker.link taker.own node.old (option_map in_view slot.old) (outs_view outs.old.items) }
+    ensures left { IfErr result (LeftAtFront taker.link taker.own node.old log.old.clock (option_map in_view slot.old)
         (seen_of slot.new) (outs_view outs.old.items)) }
 {
     match slot {
         None => Ok(false),
-        Some(end) => match look(end, outs, own) {
+        Some(end) => match look(end, outs, taker.own) {
             None => Ok(false),
-            Some(front) => receive(node, end, log, number, link, front),
+            Some(front) => receive(node, end, log, taker.number, taker.link, front),
         },
     }
 }
@@ -117,36 +125,46 @@ fn put(slot: &mut Option<OutEnd>, stamp: u64, packet: Option<Packet>)
     }
 }
 
+/// A link on which packets are emitted.
+#[derive(Drop)]
+pub struct Emitter {
+    /// The number of its node.
+    pub number: u8,
+    /// The far ends of the node's links.
+    pub far: [Option<End>; 4],
+    /// Where the other end of its ring is, if it is at hand.
+    pub own: Option<usize>,
+}
+
 /// An event that emits is done, if it is enabled and there is room in its ring.
 pub fn emit_at(
     node: &mut Node,
     slot: &mut Option<OutEnd>,
     ins: &mut Vec<Option<InEnd>>,
     log: &mut Log,
-    own: Option<usize>,
-    number: u8,
-    far: &[Option<End>; 4],
+    emitter: &Emitter,
     event: NodeEvent,
 ) -> Result<bool, TurnFault>
-    requires { (o : OutView) → option_map out_view slot.old ≡ Some o → SameRingBack own o (ins_view ins.old.items) }
+    requires { (o : OutView) → option_map out_view slot.old ≡ Some o
+        → SameRingBack emitter.now.own o (ins_view ins.old.items) }
     ensures ins { ins_view ins.new.items ≡ ins_view ins.old.items }
     ensures did { Whether result
-        (Put number far.now event own node.old node.new (log_view log.old) (log_view log.new)
-        (option_map out_view slot.old) (option_map out_view slot.new) (ins_view ins.old.items))
+        (Put emitter.now.number emitter.now.far event emitter.now.own node.old node.new (log_view log.old)
+        (log_view log.new) (option_map out_view slot.old) (option_map out_view slot.new) (ins_view ins.old.items))
         ((node.new ≡ node.old) × (log_view log.new ≡ log_view log.old)
         × (option_map out_view slot.new ≡ option_map out_view slot.old)) }
     ensures rests { result ≡ Ok false → is_node_enabled event node.old ≡ true
-        → HasRoom own (option_map out_view slot.old) (ins_view ins.old.items) false }
-    ensures left { IfErr result (LeftWithRoom event own node.old log.old.clock (option_map out_view slot.old)
-        (ins_view ins.old.items)) }
+        → HasRoom emitter.now.own (option_map out_view slot.old) (ins_view ins.old.items) false }
+    ensures left { IfErr result (LeftWithRoom event emitter.now.own node.old log.old.clock
+        (option_map out_view slot.old) (ins_view ins.old.items)) }
 {
     if !node.enabled(event) {
         return Ok(false);
     }
-    if !room(slot, ins, own) {
+    if !room(slot, ins, emitter.own) {
         return Ok(false);
     }
-    let (stamp, packet) = act(node, log, number, far, event)?;
+    let (stamp, packet) = act(node, log, emitter.number, &emitter.far, event)?;
     put(slot, stamp, packet);
     Ok(true)
 }

@@ -86,6 +86,15 @@ impl Pace {
     }
 }
 
+/// The turns that each worker makes next.
+#[derive(Clone, Copy)]
+struct Task {
+    turns: u32,
+    slice: u32,
+    /// Whether each worker makes them on a thread of its own, where one can be started.
+    apart: bool,
+}
+
 /// How the turns of a worker ended: all were made, or one stopped for a fault.
 pub(crate) type Ended = Result<(), TurnFault>;
 
@@ -105,12 +114,12 @@ impl Worker {
     }
 
     /// So many turns more, unless it has stopped for a fault. Whether it was busy, where that was one turn.
-    fn go_on(&mut self, ended: &mut Ended, turns: u32, slice: u32) -> bool
-        ensures { GoesOn turns slice self.old ended.old ended.new self.new }
+    fn go_on(&mut self, ended: &mut Ended, task: Task) -> bool
+        ensures { GoesOn task.turns task.slice self.old ended.old ended.new self.new }
     {
         let before = self.events();
         if ended.is_ok() {
-            *ended = self.turns(turns, slice);
+            *ended = self.turns(task.turns, task.slice);
         }
         self.events().saturating_sub(before) > self.nodes().saturating_mul(EVENTS_OF_A_NODE)
     }
@@ -183,7 +192,12 @@ fn turn_in_stages<R: Threads + Sync>(
     let mut pace = Pace::first();
     while made < turns {
         let count = pace.count(turns - made);
-        let busy = turn_some(rt, pace.is_apart(), workers, endings, count, slice);
+        let task = Task {
+            turns: count,
+            slice,
+            apart: pace.is_apart(),
+        };
+        let busy = turn_some(rt, task, workers, endings);
         made += count;
         if are_idle(workers, endings) {
             return;
@@ -197,34 +211,30 @@ fn turn_in_stages<R: Threads + Sync>(
 #[cycle(turning)]
 fn turn_some<R: Threads + Sync>(
     rt: &R,
-    apart: bool,
+    task: Task,
     workers: &mut [Worker],
     endings: &mut [Ended],
-    turns: u32,
-    slice: u32,
 ) -> usize
     requires { length endings.old ≡ length workers.old }
-    ensures { AreEachGoneOn turns slice workers.old endings.old endings.new workers.new }
+    ensures { AreEachGoneOn task.turns task.slice workers.old endings.old endings.new workers.new }
 {
     if workers.is_empty() {
         return 0;
     }
     if workers.len() == 1 {
-        return usize::from(workers[0].go_on(&mut endings[0], turns, slice));
+        return usize::from(workers[0].go_on(&mut endings[0], task));
     }
     let half = workers.len() / 2;
     let (front, back) = workers.split_at_mut(half);
     let (first, second) = endings.split_at_mut(half);
-    turn_both(rt, apart, turns, slice, front, first, back, second)
+    turn_both(rt, task, front, first, back, second)
 }
 
 /// The halves of some workers, side by side or one after the other.
 #[cycle(turning)]
 fn turn_both<R: Threads + Sync>(
     rt: &R,
-    apart: bool,
-    turns: u32,
-    slice: u32,
+    task: Task,
     front: &mut [Worker],
     first: &mut [Ended],
     back: &mut [Worker],
@@ -234,24 +244,24 @@ fn turn_both<R: Threads + Sync>(
     requires more { 0 < length back.old }
     requires first { length first.old ≡ length front.old }
     requires second { length second.old ≡ length back.old }
-    ensures front { AreEachGoneOn turns slice front.old first.old first.new front.new }
-    ensures back { AreEachGoneOn turns slice back.old second.old second.new back.new }
+    ensures front { AreEachGoneOn task.turns task.slice front.old first.old first.new front.new }
+    ensures back { AreEachGoneOn task.turns task.slice back.old second.old second.new back.new }
 {
-    if !apart {
-        let one = turn_some(rt, apart, front, first, turns, slice);
-        let other = turn_some(rt, apart, back, second, turns, slice);
+    if !task.apart {
+        let one = turn_some(rt, task, front, first);
+        let other = turn_some(rt, task, back, second);
         return one.saturating_add(other);
     }
     let mut one = || -> usize
         requires sync { IsSync R.row }
         requires alike { length first.now ≡ length front.now }
-        ensures { AreEachGoneOn turns slice front.entry.now first.entry.now first.exit.now front.exit.now }
-    { turn_some(rt, apart, front, first, turns, slice) };
+        ensures { AreEachGoneOn task.turns task.slice front.entry.now first.entry.now first.exit.now front.exit.now }
+    { turn_some(rt, task, front, first) };
     let mut other = || -> usize
         requires sync { IsSync R.row }
         requires alike { length second.now ≡ length back.now }
-        ensures { AreEachGoneOn turns slice back.entry.now second.entry.now second.exit.now back.exit.now }
-    { turn_some(rt, apart, back, second, turns, slice) };
+        ensures { AreEachGoneOn task.turns task.slice back.entry.now second.entry.now second.exit.now back.exit.now }
+    { turn_some(rt, task, back, second) };
     let (one, other) = join_mut(rt, &mut one, &mut other);
     one.saturating_add(other)
 }

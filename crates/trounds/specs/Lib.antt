@@ -6,4 +6,5 @@ pub mod Reports
 pub mod GoingOn
 pub mod Replays
 pub mod Parts
+pub mod Copies
 pub mod RoundNodes

@@ -2,19 +2,23 @@
 -- Source: own choice, how rounds are shared out.
 use Rattle.std.specs.Prelude.{◌≡◌, ℕ, ◌+◌, ◌<◌, ◌≤◌, ◌++◌, length, List, [], map, vec_len, vec_capacity, slice_index_or}
 use Rattle.std.specs.Prelude.{IfSome, false}
+use Rattle.tnet.specs.Answers.{KeepsInput}
 use Rattle.tproc.specs.declared.offer.Offer.{Offer}
 use Rattle.tlink.specs.Node.{due_at}
 use Rattle.tplan.specs.declared.event.Act.{Act}
 use Rattle.tplan.specs.declared.event.Act.TheVariants.{Run, Take}
 use Rattle.tplan.specs.declared.event.Event.{Event}
 use Rattle.tplan.specs.declared.event.Note.{Note}
+use Rattle.trounds.specs.declared.account.Account.{Account}
 use Rattle.trounds.specs.declared.round_node.Sending.{Sending}
 use Rattle.trounds.specs.declared.round_node.RoundNode.{RoundNode}
+use Rattle.trounds.specs.declared.rule.RoundRule.{RoundRule}
 use Rattle.std.specs.List.{flat_map}
 use Rattle.tplan.specs.declared.event.Hold.{Hold}
 use Rattle.trounds.specs.declared.lending.Frame.{Frame}
 use Rattle.tnet.specs.Net.{NetState}
-use Rattle.trounds.specs.Parts.{Station, Part, fresh, parts, stations_after, net_of, ArePlaced}
+use Rattle.trounds.specs.Parts.{Station, Part, fresh, link_of, part_does, part_of_round, parts, stations_after, net_of}
+use Rattle.trounds.specs.Parts.{ArePlaced}
 
 -- the station of a round node
 abbrev pub station_of : RoundNode → Station
@@ -35,6 +39,14 @@ stations_of round_nodes = map station_of round_nodes
 -- the parts that round nodes have done so far
 abbrev pub parts_of : List RoundNode → List Part
 parts_of round_nodes = map part_of round_nodes
+
+-- the part of a station in a round by this rule
+abbrev pub part_by : RoundRule → Station → Part
+part_by rule s = part_of_round rule.holds.now rule.slice rule.round s
+
+-- and those of stations, each by itself
+abbrev pub parts_by : RoundRule → List Station → List Part
+parts_by rule stations = parts rule.holds.now rule.slice rule.round stations
 
 -- a round node has room for so many events, notes and sendings
 pub record HasRoom (e n m : ℕ) (r : RoundNode) : Type 0 where
@@ -72,6 +84,18 @@ abbrev pub sendings_of : Act → ℕ
 sendings_of Run = 0
 sendings_of _ = 1
 
+-- an act of one of the four links may be done: there is room for all that it may write down
+pub record CanAct (act : Act) (r : RoundNode) : Type 0 where
+  pub link : link_of act < 4
+  pub room : HasRoom 1 1 (sendings_of act) r
+  pub bytes : HasMessage act r
+
+-- an act is done if it is enabled, and takes no room but its own
+pub record Acts (act : Act) (r r' : RoundNode) : Type 0 where
+  pub part : part_of r' ≡ part_does act (part_of r)
+  pub spends : Spends 1 1 (sendings_of act) r r'
+  pub messages : (l : ℕ) → KeepsInput act l → HasMessageRoom r l → HasMessageRoom r' l
+
 -- a round node is ready for a round with so many runs; one that rests needs no room
 pub record IsReady (slice : ℕ) (r : RoundNode) : Type 0 where
   pub room : r.rests ≡ false → HasRoom (slice + 16) 17 16 r
@@ -84,6 +108,12 @@ pub record Advances (holds : List Hold) (slice r : ℕ) (stations : List Station
   pub stations_are : stations' ≡ stations_after (parts holds slice r stations)
   pub events_are : events' ≡ events ++ flat_map (λ (p : Part). p.events) (parts holds slice r stations)
   pub notes_are : notes' ≡ notes ++ flat_map (λ (p : Part). p.notes) (parts holds slice r stations)
+
+-- so is a round by this rule
+abbrev pub AdvancesBy : RoundRule → List Station → Account → List Station → Account → Type 0
+AdvancesBy rule stations a stations' a' =
+    Advances rule.holds.now rule.slice rule.round stations a.events.items a.notes.items stations' a'.events.items
+    a'.notes.items
 
 -- room in a frame for its nodes, of which it has none
 pub record HasPlaces (count : ℕ) (f : Frame) : Type 0 where

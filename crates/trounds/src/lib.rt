@@ -5,6 +5,7 @@
 //! the contracts of both.
 #![tactic(auto)]
 
+mod account;
 mod holds;
 pub mod laws;
 mod lending;
@@ -12,6 +13,8 @@ pub mod replays;
 pub mod report;
 mod round_node;
 pub mod rounds;
+mod rule;
+mod shared_round;
 mod split;
 
 pub use replays::{ReplayFault, Replayed, replay};

@@ -7,6 +7,7 @@ pub mod laws;
 mod links;
 pub mod listing;
 mod processes;
+mod processor_node;
 mod waiting;
 pub mod wheres;
 

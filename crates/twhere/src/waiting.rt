@@ -1,58 +1,43 @@
 //! The processes that wait, and for what.
 
-ghost use Rattle.std.specs.Prelude.{◌≡◌};
 ghost use Rattle.tlink.specs.Node.{counts_at, input_at, output_at};
 ghost use Rattle.tfiles.specs.Outputs.{Tells};
 ghost use Rattle.twhere.specs.Wheres as spec;
 
 use crate::facts::{put_place, put_word};
+use crate::processor_node::ProcessorNode;
 use tfiles::CountedWrite;
 use tfiles::writing::output::Output;
 use tfiles::writing::text::put_decimal;
-use tlink::Node;
-use tproc::{Offer, Processor, Reason, Waiter};
+use tproc::{Offer, Reason, Waiter};
 use tword::Word;
 
 /// Writes the processes that wait, each on a line.
 pub(crate) fn put_waiting<W: CountedWrite>(
     out: &mut Output<'_, W>,
-    node: &Node,
-    processor: &Processor,
+    at: &ProcessorNode<'_>,
     waiting: &[Waiter],
 )
-    requires { processor.now ≡ node.now.machine }
-    ensures { Tells W.contents W.failures out.old out.new (spec.waiting_facts node.now waiting.now) }
+    ensures { Tells W.contents W.failures out.old out.new (spec.waiting_facts at.now.node.now waiting.now) }
 {
     for waiter in waiting {
-        put_waiter(out, node, processor, waiter);
+        put_waiter(out, at, waiter);
     }
 }
 
 /// Writes a process that waits, on a line: its descriptor, its Iptr, and for what it waits.
-fn put_waiter<W: CountedWrite>(
-    out: &mut Output<'_, W>,
-    node: &Node,
-    processor: &Processor,
-    waiter: &Waiter,
-)
-    requires { processor.now ≡ node.now.machine }
-    ensures { Tells W.contents W.failures out.old out.new (spec.waiter_fact node.now waiter.now) }
+fn put_waiter<W: CountedWrite>(out: &mut Output<'_, W>, at: &ProcessorNode<'_>, waiter: &Waiter)
+    ensures { Tells W.contents W.failures out.old out.new (spec.waiter_fact at.now.node.now waiter.now) }
 {
     out.put(b"  waits         ");
-    put_place(out, processor, waiter.process);
-    put_reason(out, node, processor, waiter.reason);
+    put_place(out, at.processor, waiter.process);
+    put_reason(out, at, waiter.reason);
     out.put(b"\n");
 }
 
 /// What a process waits for.
-fn put_reason<W: CountedWrite>(
-    out: &mut Output<'_, W>,
-    node: &Node,
-    processor: &Processor,
-    reason: Reason,
-)
-    requires { processor.now ≡ node.now.machine }
-    ensures { Tells W.contents W.failures out.old out.new (spec.reason_text node.now reason) }
+fn put_reason<W: CountedWrite>(out: &mut Output<'_, W>, at: &ProcessorNode<'_>, reason: Reason)
+    ensures { Tells W.contents W.failures out.old out.new (spec.reason_text at.now.node.now reason) }
 {
     match reason {
         Reason::Receives {
@@ -71,8 +56,8 @@ fn put_reason<W: CountedWrite>(
             out.put(b" output");
             put_channel(out, channel, buffer, length);
         }
-        Reason::LinkInput(link) => put_link_input(out, node, processor, link),
-        Reason::LinkOutput(link) => put_link_output(out, node, processor, link),
+        Reason::LinkInput(link) => put_link_input(out, at, link),
+        Reason::LinkOutput(link) => put_link_output(out, at, link),
         Reason::Chooses => out.put(b" alternative"),
     }
 }
@@ -97,33 +82,25 @@ fn put_message<W: CountedWrite>(out: &mut Output<'_, W>, buffer: Word, length: u
 }
 
 /// The input of a link.
-fn put_link_input<W: CountedWrite>(
-    out: &mut Output<'_, W>,
-    node: &Node,
-    processor: &Processor,
-    link: u8,
-)
-    requires { processor.now ≡ node.now.machine }
-    ensures { Tells W.contents W.failures out.old out.new (spec.link_input_text node.now link) }
+fn put_link_input<W: CountedWrite>(out: &mut Output<'_, W>, at: &ProcessorNode<'_>, link: u8)
+    ensures { Tells W.contents W.failures out.old out.new (spec.link_input_text at.now.node.now link) }
 {
     out.put(b" input on link ");
     put_decimal(out, u64::from(link));
-    put_offer(out, processor.pending_in(link), node.counts(link).got);
+    put_offer(out, at.processor.pending_in(link), at.node.counts(link).got);
 }
 
 /// The output of a link.
-fn put_link_output<W: CountedWrite>(
-    out: &mut Output<'_, W>,
-    node: &Node,
-    processor: &Processor,
-    link: u8,
-)
-    requires { processor.now ≡ node.now.machine }
-    ensures { Tells W.contents W.failures out.old out.new (spec.link_output_text node.now link) }
+fn put_link_output<W: CountedWrite>(out: &mut Output<'_, W>, at: &ProcessorNode<'_>, link: u8)
+    ensures { Tells W.contents W.failures out.old out.new (spec.link_output_text at.now.node.now link) }
 {
     out.put(b" output on link ");
     put_decimal(out, u64::from(link));
-    put_offer(out, processor.pending_out(link), node.counts(link).acked);
+    put_offer(
+        out,
+        at.processor.pending_out(link),
+        at.node.counts(link).acked,
+    );
 }
 
 /// A message on a link, and how many of its bytes went over.

@@ -8,6 +8,7 @@ ghost use Rattle.twhere.specs.Wheres as spec;
 use crate::links::put_links;
 use crate::listing::Listed;
 use crate::processes::{put_interrupted, put_queue, put_running};
+use crate::processor_node::ProcessorNode;
 use crate::waiting::put_waiting;
 use tfiles::CountedWrite;
 use tfiles::writing::node_dump::put_node_line;
@@ -15,7 +16,6 @@ use tfiles::writing::output::Output;
 use tfiles::writing::scripts::{put_sink_line, put_source};
 use tlink::Node;
 use tnet::Net;
-use tproc::Processor;
 
 /// Where the processes and the links of each node stand (own choice of format, `specs/Wheres`), in the order of the
 /// nodes, sources and sinks behind them. The processes that are queued or wait are those that `list_net` lists. It takes
@@ -51,7 +51,7 @@ fn put_role<W: CountedWrite>(out: &mut Output<'_, W>, number: u32, node: &Node, 
         (spec.role_where node.now.role number node.now listed.now) }
 {
     if let Some(processor) = node.processor() {
-        put_processor(out, number, node, processor, listed);
+        put_processor(out, number, &ProcessorNode { node, processor }, listed);
     } else if let Some(source) = node.source() {
         put_source(out, number as usize, source);
     } else if let Some(sink) = node.sink() {
@@ -63,17 +63,16 @@ fn put_role<W: CountedWrite>(out: &mut Output<'_, W>, number: u32, node: &Node, 
 fn put_processor<W: CountedWrite>(
     out: &mut Output<'_, W>,
     number: u32,
-    node: &Node,
-    processor: &Processor,
+    at: &ProcessorNode<'_>,
     listed: &Listed,
 )
-    requires { processor.now ≡ node.now.machine }
-    ensures { Tells W.contents W.failures out.old out.new (spec.processor_where number node.now listed.now) }
+    ensures { Tells W.contents W.failures out.old out.new (spec.processor_where number at.now.node.now listed.now) }
 {
+    let ProcessorNode { node, processor } = *at;
     put_node_line(out, number as usize, node.broken(), processor.is_halted());
     put_running(out, processor);
     put_interrupted(out, processor);
     put_queue(out, b"  high queue    ", processor, listed.high.as_slice());
     put_queue(out, b"  low queue     ", processor, listed.low.as_slice());
-    put_waiting(out, node, processor, listed.waiting.as_slice());
+    put_waiting(out, at, listed.waiting.as_slice());
 }

@@ -34,7 +34,7 @@ owned_is c =
     ∙ owned_here (net_of_parts c.args.parts) (length c.args.allotments.items) c.loop-number.number
     c.loop-number.nodes.items c.loop-number.allotments.items c.loop-number.workers.items c.requires.sound
     c.requires.few c.requires.some.0 c.loop-number.invariant.shared
-    c.remove-opened.result (there c) c.remove-opened.ensures.value
+    c.remove-allotment.result (there c) c.remove-allotment.ensures.value
 
 mine_is : (c : goal.After-workers-1)
     → c.move_front.new.to.items ≡ [] ++ take c.min-owned.result c.loop-number.nodes.items
@@ -44,23 +44,23 @@ mine_is c =
     (has_room (net_of_parts c.args.parts) (length c.args.allotments.items) c.loop-number.number
     c.loop-number.nodes.items c.loop-number.allotments.items c.loop-number.workers.items c.requires.sound
     c.requires.few c.requires.some.0 c.loop-number.invariant.shared
-    c.remove-opened.result (there c) c.remove-opened.ensures.value)
+    c.remove-allotment.result (there c) c.remove-allotment.ensures.value)
 
 pub new-requires-clause-share : goal.new-requires-clause-share
 new-requires-clause-share c =
-    let s = c.remove-opened.result in
+    let s = c.remove-allotment.result in
     subst (λ (m : ℕ). IsShare
     (share_with c.loop-number.number m c.loop-number.first (length c.move_front.new.to.items)
     (net_of_parts s.opened.value) (ins_view s.ins.items) (outs_view s.outs.items))) (sym (count_is c))
     (is_share (net_of_parts c.args.parts) (length c.args.allotments.items) c.loop-number.number
     c.loop-number.nodes.items c.loop-number.allotments.items c.loop-number.workers.items c.requires.sound
     c.requires.few c.requires.some.0 c.loop-number.invariant.shared
-    s (there c) c.remove-opened.ensures.value c.loop-number.first c.min-owned.result c.loop-number.invariant.first
+    s (there c) c.remove-allotment.ensures.value c.loop-number.first c.min-owned.result c.loop-number.invariant.first
     (owned_is c) c.move_front.new.to.items (mine_is c))
 
 pub new-requires-clause-kept : goal.new-requires-clause-kept
 new-requires-clause-kept c =
-    let s = c.remove-opened.result in
+    let s = c.remove-allotment.result in
     subst (λ (m : ℕ). Kept
     (share_with c.loop-number.number m c.loop-number.first (length c.move_front.new.to.items)
     (net_of_parts s.opened.value) (ins_view s.ins.items) (outs_view s.outs.items)) c.move_front.new.to.items 0
@@ -68,7 +68,7 @@ new-requires-clause-kept c =
     (is_kept (net_of_parts c.args.parts) (length c.args.allotments.items) c.loop-number.number c.loop-number.nodes.items
     c.loop-number.allotments.items c.loop-number.workers.items c.requires.sound c.requires.few c.requires.some.0
     c.loop-number.invariant.shared
-    s (there c) c.remove-opened.ensures.value c.loop-number.first c.min-owned.result c.loop-number.invariant.first
+    s (there c) c.remove-allotment.ensures.value c.loop-number.first c.min-owned.result c.loop-number.invariant.first
     (owned_is c) c.move_front.new.to.items (mine_is c))
 
 pub loop-number-preserved : goal.loop-number-preserved
@@ -76,13 +76,13 @@ loop-number-preserved c =
     let net = net_of_parts c.args.parts in
     let ct = length c.args.allotments.items in
     let k = c.loop-number.number in
-    let s = c.remove-opened.result in
+    let s = c.remove-allotment.result in
     let b = c.before.before in
     let count = count_is b in
     let w = c.new.result in
     let more = one_more net ct k c.loop-number.nodes.items c.loop-number.allotments.items c.loop-number.workers.items
     c.requires.sound c.requires.few c.requires.some.0 c.loop-number.invariant.shared
-    s (there b) c.remove-opened.ensures.value c.loop-number.first c.min-owned.result c.loop-number.invariant.first
+    s (there b) c.remove-allotment.ensures.value c.loop-number.first c.min-owned.result c.loop-number.invariant.first
     (owned_is b) c.move_front.new.to.items (mine_is b) w
     (ap (λ (v : View). v.share) c.new.ensures
     ∙ ap (λ (m : ℕ). share_with k m c.loop-number.first (length c.move_front.new.to.items)
@@ -92,9 +92,9 @@ loop-number-preserved c =
     record {
       shared =
           subst (λ (ws : List View). AreSharedOut net ct (k + 1) c.move_front.new.from.items
-          c.remove-opened.new.self.items ws) (sym c.push_reserved.ensures.items)
+          c.remove-allotment.new.self.items ws) (sym c.push_reserved.ensures.items)
           (subst (λ (ss : List Allotment). AreSharedOut net ct (k + 1) c.move_front.new.from.items ss
-          (c.loop-number.workers.items ++ w ∷ [])) (sym (c.remove-opened.ensures.by_index.2))
+          (c.loop-number.workers.items ++ w ∷ [])) (sym (c.remove-allotment.ensures.by_index.2))
           (subst (λ (ns : List NodeState). AreSharedOut net ct (k + 1) ns (drop 1 c.loop-number.allotments.items)
           (c.loop-number.workers.items ++ w ∷ [])) (sym c.move_front.ensures.from) more));
       first = omega (
@@ -107,8 +107,8 @@ loop-number-preserved c =
           omega (
             arith,
             c.loop-number.invariant.allotments,
-            c.remove-opened.ensures.len,
-            c.remove-opened.new.self.ok.0,
+            c.remove-allotment.ensures.len,
+            c.remove-allotment.new.self.ok.0,
             c.loop-number.allotments.ok.0,
           );
       workers = omega (arith, c.loop-number.invariant.workers, c.push_reserved.ensures.len);

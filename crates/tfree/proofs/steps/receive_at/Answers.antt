@@ -13,7 +13,7 @@ look-requires c = c.requires (in_view c.in-Some.end) (ap (option_map in_view) c.
 pub returns-in-Some-look-clause-rests : goal.returns-in-Some-look-clause-rests
 returns-in-Some-look-clause-rests c = λ refused q o p rest some f there is.
     let slot = ap (λ (s : Option InEnd). got_of (option_map in_view s)) c.in-Some.is in
-    none_enabled c.args.link c.args.node.now c.in-Some-look.front p
+    none_enabled c.args.taker.link c.args.node.now c.in-Some-look.front p
     (first_seen _ _ o.put c.in-Some-look.front p rest ((c.look.ensures.all q o f there).0) c.in-Some-look.ensures.front
     (ap (λ (l : List Sent). l ++ p ∷ rest) (sym slot) ∙ is))
     (c.receive.ensures.rests refused)

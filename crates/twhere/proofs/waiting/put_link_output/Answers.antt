@@ -8,7 +8,7 @@ use Rattle.twhere.proofs.waiting.put_link_output.Goals as goal
 
 pub returns : goal.returns
 returns g c =
-    let offer : c.pending_out.result ≡ output_at c.args.node.now c.args.link = (cc) in
+    let offer : c.pending_out.result ≡ output_at c.args.at.now.node.now c.args.link = (cc) in
     tells_then c.put.ensures
     (tells_then (tells_as c.put_decimal.ensures (ap decimal c.from.ensures))
     (tells_as c.put_offer.ensures

@@ -10,8 +10,8 @@ use Rattle.twhere.proofs.wheres.put_processor.Goals as goal
 
 pub returns : goal.returns
 returns g c =
-    let machine : c.args.processor.now ≡ c.args.node.now.machine = c.requires in
-    let halted : c.is_halted.result ≡ c.args.node.now.machine.control.halted = (cc) in
+    let machine : c.args.at.now.processor.now ≡ c.args.at.now.node.now.machine = c.args.at.now.same in
+    let halted : c.is_halted.result ≡ c.args.at.now.node.now.machine.control.halted = (cc) in
     tells_then
     (tells_as c.put_node_line.ensures
     (ap₂ (λ (b : Option Break) (h : Bool). node_line c.args.number b h) c.broken.ensures halted))
@@ -25,4 +25,4 @@ returns g c =
     (tells_as c.put_queue-2.ensures
     (ap₂ (λ (n : Machine) (q : List ℕ). queue_facts (codes "  low queue     ") n q) machine c.as_slice-2.ensures))
     (tells_as c.put_waiting.ensures
-    (ap (λ (ws : List Waiter). waiting_facts c.args.node.now ws) c.as_slice-3.ensures))))))
+    (ap (λ (ws : List Waiter). waiting_facts c.args.at.now.node.now ws) c.as_slice-3.ensures))))))

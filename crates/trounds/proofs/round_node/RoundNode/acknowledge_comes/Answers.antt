@@ -7,7 +7,8 @@ use Rattle.trounds.proofs.round_node.RoundNode.acknowledge_comes.Goals.{else-lay
 
 pub returns-then-not-is_held-clause-part : goal.returns-then-not-is_held-clause-part
 returns-then-not-is_held-clause-part c =
-    comes_in c.args.lay c.args.holds.now c.args.round c.args.link (part_of c.args.self.now) c.end_at-end.result
+    comes_in c.args.lay c.args.rule.now.holds.now c.args.rule.now.round c.args.link (part_of c.args.self.now)
+    c.end_at-end.result
     c.end_at-end.ensures Ack (part_of c.does.new.self) c.is_held.result c.is_held.ensures (c.if-lay.true)
     c.if-not-is_held.true c.does.ensures.part
 
@@ -15,9 +16,11 @@ pub returns-else-lay-clause-part : goal.returns-else-lay-clause-part
 returns-else-lay-clause-part c =
     elim c.else-lay.branch [
       | else-lay-via-then-lay+else-not-is_held w ↦
-          stays_out c.args.lay c.args.holds.now c.args.round c.args.link (part_of c.args.self.now) c.end_at-end.result
+          stays_out c.args.lay c.args.rule.now.holds.now c.args.rule.now.round c.args.link (part_of c.args.self.now)
+          c.end_at-end.result
           c.end_at-end.ensures Ack w.is_held.result w.is_held.ensures w.if-not-is_held.false
       | else-lay-via-else-lay w ↦
-          none_lies c.args.lay c.args.holds.now c.args.round c.args.link (part_of c.args.self.now) c.end_at-end.result
+          none_lies c.args.lay c.args.rule.now.holds.now c.args.rule.now.round c.args.link (part_of c.args.self.now)
+          c.end_at-end.result
           c.end_at-end.ensures Ack w.if-lay.false
     ]

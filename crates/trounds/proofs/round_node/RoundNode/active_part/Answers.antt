@@ -9,8 +9,9 @@ returns c =
     ∙ (c.sends.ensures.part
     ∙ ap after_sends
     (c.run.ensures.part
-    ∙ ap (part_runs c.args.slice)
+    ∙ ap (part_runs c.args.rule.now.slice)
     (c.takes.ensures.part
     ∙ ap after_takes (c.arrivals.ensures.part
-    ∙ ap (λ (p : Part). fold (part_arrivals c.args.self.now.inboxes c.args.holds.now c.args.round) p four_links)
+    ∙ ap (λ (p : Part). fold (part_arrivals c.args.self.now.inboxes c.args.rule.now.holds.now c.args.rule.now.round) p
+    four_links)
     c.requires.fresh))))

@@ -6,5 +6,6 @@ use Rattle.trounds.proofs.round_node.RoundNode.part_of_round.Goals as goal
 pub returns-else-not-self : goal.returns-else-not-self
 returns-else-not-self c =
     c.requires.is_fresh
-    ∙ sym (rests_in_round c.args.holds.now c.args.slice c.args.round (station_of c.args.self.now)
+    ∙ sym (rests_in_round c.args.rule.now.holds.now c.args.rule.now.slice c.args.rule.now.round (station_of
+    c.args.self.now)
     (c.args.self.now.no_event c.if-not-self.false))

@@ -1,0 +1,14 @@
+//! What the parts of a round go by.
+
+use tplan::Hold;
+
+/// What each part of a round goes by.
+#[derive(Clone, Copy)]
+pub struct RoundRule<'a> {
+    /// The packets that are held, in some rounds.
+    pub holds: &'a [Hold],
+    /// How many runs a node does at most.
+    pub slice: u32,
+    /// Which round it is, from 0 on.
+    pub round: u32,
+}
