@@ -41,7 +41,7 @@ abbrev pub IsStandingAt : NetState → (outcomes : List Telling) → (number : �
 IsStandingAt net outcomes number standing =
     (t : Telling) → slice_get outcomes number ≡ Some t → IsStanding net t standing
 
--- so at the first outcomes, at all of them where memory was not wanting
+-- where the net stands at each of the first outcomes, as many as there are standings
 abbrev pub AreStandings : NetState → (outcomes : List Telling) → (standings : List (Option (List ℕ))) → Type 0
 AreStandings net outcomes standings = AllZip (IsStanding net) (take (length standings) outcomes) standings
 

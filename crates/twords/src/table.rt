@@ -112,7 +112,7 @@ const LOG_TO_READ: Argument = Argument {
     name: "log",
     form: Form::File,
     value: "LOG",
-    help: "The log file, as `run --log` or `free --log` writes it",
+    help: "The log file, as `--log` of `run`, `free` or `explore` writes it",
 };
 
 /// `--log FILE`.
@@ -289,8 +289,8 @@ memories, sources and sinks as `temu run` prints them:
 Where an earlier outcome agrees with one in all but the bytes of some lines of memories, `as 1 but`
 tells its number in place of the whole, and below it stand just the lines that differ, those of a
 node behind the node's own line. With `--show where` it tells in place of the memories where the
-processes and links stand, as `temu where` does, of each outcome whole; with `--show none` nothing
-stands below the headings.
+processes and links stand, as `temu where` does, of each outcome whole (or nothing, where no memory
+was left for that); with `--show none` nothing stands below the headings.
 
 Behind them `endless`, where a run was found that goes on for ever (there may be one where it is not
 told). Last `end outcomes 2 states 13`: these 2 are all, and from 13 states several steps were tried,
