@@ -11,7 +11,8 @@ use Rattle.twhere.specs.Wheres.{where_text}
 use Rattle.ttext.specs.declared.telling.Telling.{Telling}
 use Rattle.ttext.specs.Logged.{LogsOutcome}
 use Rattle.ttext.specs.Standings.{AreStandings, IsStanding, IsStandingAt, StandsAfter, StandsWhere}
-use Rattle.ttext.specs.Standings.{standing_text, standings_from}
+use Rattle.ttext.specs.Standings.{standing_in, standings_from}
+use Rattle.ttext.specs.Explores.{heading_text}
 
 -- ---- what is printed of them
 
@@ -22,27 +23,40 @@ none_left (suc k) = refl
 -- the first of those that are left, and the others
 next : (n k : ℕ) (ts : List Telling) (ss : List (Option (List ℕ))) (t : Telling) → k < length ts → t ≡ get_or ts k t
     → standings_from n (drop k ts) (drop k ss)
-    ≡ standing_text n t (unwrap_or (slice_get ss k) None) ++ standings_from (suc n) (drop (suc k) ts) (drop (suc k) ss)
+    ≡ (heading_text n t ++ standing_in ss k) ++ standings_from (suc n) (drop (suc k) ts) (drop (suc k) ss)
 next n k [] ss t below here = absurd (omega (arith, below))
-next n zero (u ∷ ts) [] t below here = ap (λ v. standing_text n v None ++ standings_from (suc n) ts []) (sym here)
-next n zero (u ∷ ts) (s ∷ ss) t below here = ap (λ v. standing_text n v s ++ standings_from (suc n) ts ss) (sym here)
+next n zero (u ∷ ts) [] t below here = ap (λ v. (heading_text n v ++ []) ++ standings_from (suc n) ts []) (sym here)
+next n zero (u ∷ ts) (s ∷ ss) t below here =
+    ap (λ v. (heading_text n v ++ unwrap_or s []) ++ standings_from (suc n) ts ss) (sym here)
 next n (suc k) (u ∷ ts) [] t below here =
     ap (standings_from n (drop k ts)) (sym (none_left k)) ∙ next n k ts [] t (omega (arith, below)) here
 next n (suc k) (u ∷ ts) (s ∷ ss) t below here = next n k ts ss t (omega (arith, below)) here
 
-pub standings_next : (k : ℕ) (ts : List Telling) (ss : List (Option (List ℕ))) (t : Telling)
-    (s : Option (Option (List ℕ))) → k < length ts → t ≡ get_or ts k t → s ≡ slice_get ss k
+pub standings_next : (k : ℕ) (ts : List Telling) (ss : List (Option (List ℕ))) (t : Telling) (text : List ℕ)
+    → k < length ts → t ≡ get_or ts k t → text ≡ standing_in ss k
     → standings_from (k + 1) (drop k ts) (drop k ss)
-    ≡ standing_text (k + 1) t (unwrap_or s None)
-    ++ standings_from (k + 1 + 1) (drop (k + 1) ts) (drop (k + 1) ss)
-standings_next k ts ss t s below here is =
+    ≡ (heading_text (k + 1) t ++ text) ++ standings_from (k + 1 + 1) (drop (k + 1) ts) (drop (k + 1) ss)
+standings_next k ts ss t text below here is =
     next (k + 1) k ts ss t below here
-    ∙ (ap (λ o. standing_text (k + 1) t (unwrap_or o None)
-    ++ standings_from (suc (k + 1)) (drop (suc k) ts) (drop (suc k) ss)) (sym is)
-    ∙ (ap (λ n. standing_text (k + 1) t (unwrap_or s None) ++ standings_from n (drop (suc k) ts) (drop (suc k) ss))
+    ∙ (ap (λ l. (heading_text (k + 1) t ++ l) ++ standings_from (suc (k + 1)) (drop (suc k) ts) (drop (suc k) ss))
+    (sym is)
+    ∙ (ap (λ n. (heading_text (k + 1) t ++ text) ++ standings_from n (drop (suc k) ts) (drop (suc k) ss))
     (sym (add-one (k + 1)))
-    ∙ ap (λ n. standing_text (k + 1) t (unwrap_or s None) ++ standings_from (k + 1 + 1) (drop n ts) (drop n ss))
+    ∙ ap (λ n. (heading_text (k + 1) t ++ text) ++ standings_from (k + 1 + 1) (drop n ts) (drop n ss))
     (sym (add-one k))))
+
+-- one that stands at a place
+pub stands_in : (ss : List (Option (List ℕ))) (k : ℕ) (s : Option (List ℕ)) → k < length ss → s ≡ get_or ss k s
+    → standing_in ss k ≡ unwrap_or s []
+stands_in [] k s below is = absurd (omega (arith, below))
+stands_in (x ∷ ss) zero s below is = ap (λ o. unwrap_or o []) (sym is)
+stands_in (x ∷ ss) (suc k) s below is = stands_in ss k s (omega (arith, below)) is
+
+-- none does behind the last
+pub stands_nowhere : (ss : List (Option (List ℕ))) (k : ℕ) → length ss ≤ k → standing_in ss k ≡ []
+stands_nowhere [] k over = refl
+stands_nowhere (x ∷ ss) zero over = absurd (omega (arith, over))
+stands_nowhere (x ∷ ss) (suc k) over = stands_nowhere ss k (omega (arith, over))
 
 pub standings_over : (k : ℕ) (ts : List Telling) (ss : List (Option (List ℕ))) → length ts ≤ k
     → standings_from (k + 1) (drop k ts) (drop k ss) ≡ []

@@ -47,14 +47,14 @@ AreStandings net outcomes standings = AllZip (IsStanding net) (take (length stan
 
 -- ---- what is printed
 
--- an outcome by its number: its heading, and below it where the net stands
-abbrev pub standing_text : ℕ → Telling → Option (List ℕ) → List ℕ
-standing_text k t standing = heading_text k t ++ unwrap_or standing []
+-- where the net stands at the outcome of a number; no text, where that is not told
+abbrev pub standing_in : List (Option (List ℕ)) → (number : ℕ) → List ℕ
+standing_in standings number = unwrap_or (unwrap_or (slice_get standings number) None) []
 
--- outcomes numbered from here, each with where the net stands, as far as that is told
+-- outcomes numbered from here, each with its heading and where the net stands, as far as that is told
 abbrev pub standings_from : ℕ → (outcomes : List Telling) → (standings : List (Option (List ℕ))) → List ℕ
-standings_from k (t ∷ ts) (s ∷ ss) = standing_text k t s ++ standings_from (suc k) ts ss
-standings_from k (t ∷ ts) [] = standing_text k t None ++ standings_from (suc k) ts []
+standings_from k (t ∷ ts) (s ∷ ss) = (heading_text k t ++ unwrap_or s []) ++ standings_from (suc k) ts ss
+standings_from k (t ∷ ts) [] = (heading_text k t ++ []) ++ standings_from (suc k) ts []
 standings_from k [] _ = []
 
 -- all of it

@@ -11,7 +11,7 @@ pub loop-place-preserved : goal.loop-place-preserved
 loop-place-preserved g c =
     goes_on-next _ _ c.loop-place.invariant
     (standings_next c.loop-place.place c.args.outcomes.now c.args.standings.now c.index-outcomes-place.result
-    c.get.result c.loop-place-test.true c.index-outcomes-place.is c.get.ensures)
+    c.standing_in.result.now c.loop-place-test.true c.index-outcomes-place.is c.standing_in.ensures)
     c.put_standing.ensures
 
 pub returns : goal.returns
