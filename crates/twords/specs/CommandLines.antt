@@ -250,7 +250,7 @@ pub record AreOptions (o : Options) : Type 0 where
   pub rounds : o.rounds ≤ 4294967295
   pub slice : (1 ≤ o.slice) × (o.slice ≤ 65536)
 
--- and so do the numbers of a command
+-- the numbers of a command lie in their ranges
 abbrev pub IsInRange : Command → Type 0
 IsInRange (command.Run wiring options log) = AreOptions options
 IsInRange (command.Free wiring options log) = AreOptions options
@@ -275,7 +275,7 @@ abbrev pub HasParsed : Option ValueParser → Text → List Row → Type 0
 HasParsed (Some (Signed (pos least) (pos most))) id rows = HasNumber least most id rows
 HasParsed parser id rows = HasText id rows
 
--- so, unless the argument may be left out and has no default
+-- an argument has its number or text, unless it may be left out and has no default
 abbrev pub HasWanted : Bool → List Text → Rule → List Row → Type 0
 HasWanted false [] a rows = Unit {0}
 HasWanted required defaults a rows = HasParsed a.parser a.id rows
@@ -327,7 +327,7 @@ example_run : command_of words_of_run
 unfolding clap_on_literals
 example_run = refl
 
--- likewise of `free`
+-- all words of `free`
 example_free : command_of (codes "temu" ∷ codes "free" ∷ codes "--log" ∷ codes "pair.log" ∷ codes "--turns=7"
     ∷ codes "pair.toml" ∷ codes "--slice" ∷ codes "65536" ∷ [])
     ≡ Some (free (codes "pair.toml") (record { workers = 1; rounds = 7; slice = 65536 }) (Some (codes "pair.log")))

@@ -21,14 +21,14 @@ pub enum Which {
 }
 
 impl Which {
-    /// Its name.
+    /// The name of the command.
     pub(crate) fn name(self) -> &'static str
         ensures { result.now ≡ spec.name_of self }
     {
         self.row().name
     }
 
-    /// Its row.
+    /// The row of the command.
     pub(crate) fn row(self) -> CommandRow
         ensures { spec.shape_of_row result ≡ spec.shape_of self }
     {
@@ -46,13 +46,13 @@ impl Which {
 /// What a command is called, takes and does.
 #[derive(Clone, Copy)]
 pub struct CommandRow {
-    /// Its name.
+    /// The name of the command.
     pub name: &'static str,
-    /// What it does, in the help of the program and in its own.
+    /// What the command does, in the help of the program and in its own.
     pub about: &'static str,
-    /// The arguments that it takes.
+    /// The arguments that the command takes.
     pub arguments: &'static [Argument],
-    /// What stands below its help.
+    /// What stands below the help of the command.
     pub below: &'static str,
 }
 
@@ -420,4 +420,4 @@ out.
 
 Exit status: 0 done; 1 done, and a node is frozen, since it broke a usage rule, or an exploration
 found a freeze or not just one outcome; 2 bad input, which standard error names; 3 the output
-failed; 4 no memory; 5 an exploration was cut.";
+failed, or no log of an outcome was found; 4 no memory; 5 an exploration was cut.";

@@ -24,7 +24,7 @@ pub type CommandFault = clap::Error;
 /// What `explore` shows of each outcome below its heading.
 #[derive(Clone, Copy, Debug, PartialEq, Eq)]
 pub enum Show {
-    /// Its dump.
+    /// The dump of the outcome.
     Dump,
     /// Where the net stands, as `where` prints it.
     Where,
