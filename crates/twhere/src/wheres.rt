@@ -18,8 +18,8 @@ use tlink::Node;
 use tnet::Net;
 
 /// Where the processes and the links of each node stand (own choice of format, `specs/Wheres`), in the order of the
-/// nodes, sources and sinks behind them. The processes that are queued or wait are those that `list_net` lists. It takes
-/// no memory.
+/// nodes, sources and sinks behind them. The processes that are queued or wait are those that `list_net` lists. It
+/// takes no memory.
 pub fn put_where<W: CountedWrite>(out: &mut Output<'_, W>, net: &Net, listed: &[Listed])
     requires listed { listed.now ≡ map (λ n. spec.listed_of n.machine.control) net.now.nodes }
     requires few { length net.now.nodes ≤ 64 }
