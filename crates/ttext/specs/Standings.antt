@@ -36,7 +36,7 @@ abbrev pub IsStanding : NetState → Telling → Option (List ℕ) → Type 0
 IsStanding net t (Some text) = StandsWhere net t text
 IsStanding net t None = Unit {0}
 
--- so at the outcome or freeze of a number
+-- where the net stands at the outcome or freeze of a number, if a log was found
 abbrev pub IsStandingAt : NetState → (outcomes : List Telling) → (number : ℕ) → Option (List ℕ) → Type 0
 IsStandingAt net outcomes number standing =
     (t : Telling) → slice_get outcomes number ≡ Some t → IsStanding net t standing
@@ -74,7 +74,7 @@ pub record WritesWhere {W : Type 0} (contents : W → Option (List ℕ)) (net : 
   pub is : IsWhereText net x text
   pub out : Appends (contents old) (contents new) text
 
--- or its beginning, of an exploration of the wiring with its images
+-- the beginning of such a text goes out, of an exploration of the wiring with its images
 pub record CutsWhere {W : Type 0} (contents : W → Option (List ℕ)) (w : Wiring) (files : List (List ℕ)) (old new : W)
     (written : ℕ) : Type 0 where
   pub net : NetState
