@@ -5,17 +5,7 @@ use crate::crew::Crew;
 use std::alloc::Global;
 use std::thread::Threads;
 use tnet::Net;
-use trounds::{Gate, run_rounds};
-
-/// A gate that is always open.
-#[derive(Drop)]
-struct Open;
-
-impl Gate for Open {
-    ghost has_entered = { λ _ _ _. Unit {0} };
-
-    fn enter(&self, _worker: usize, _round: u32) {}
-}
+use trounds::{Open, run_rounds};
 
 /// Does so many rounds of a net: how many events that was, and the net after them.
 pub fn went_round<R: Threads + Sync>(

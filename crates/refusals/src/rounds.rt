@@ -9,23 +9,13 @@ use std::alloc::{AllocError, Global};
 use std::thread::Threads;
 use tnet::Net;
 use tplan::{Event, Hold, Note};
-use trounds::{Ending, Gate, NetFault, Report, run_rounds};
+use trounds::{Ending, NetFault, Open, Report, run_rounds};
 
 /// More rounds than any of the nets makes.
 const ROUNDS: u32 = 100_000;
 
 /// How many Runs a node makes in a round at most.
 const SLICE: u32 = 64;
-
-/// A gate that is always open.
-#[derive(Drop)]
-struct Open;
-
-impl Gate for Open {
-    ghost has_entered = { λ _ _ _. Unit {0} };
-
-    fn enter(&self, _worker: usize, _round: u32) {}
-}
 
 /// A hold, where the rounds are counted anew behind so many that were done.
 fn later(hold: Hold, done: u32) -> Hold

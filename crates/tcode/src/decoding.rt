@@ -2,20 +2,18 @@
 
 ghost use Rattle.std.specs.Prelude.{◌≡◌, ◌==◌, ◌/◌, pos, negsuc, ◌-ℤ◌, ◌*ℤ◌, if◌then◌else◌, Some, None};
 ghost use Rattle.tcode.specs.Chains.{instruction, is_listed, pfix};
-ghost use Rattle.tcode.specs.Decoding.{IsFetched, decode as decoded, decode_bytes as decoded_bytes, fetch};
+ghost use Rattle.tcode.specs.Decoding.{IsFetched, fetch};
+ghost use Rattle.tcode.specs.Decoding as spec;
 ghost use Rattle.tcode.specs.Table.{function_at};
 ghost use Rattle.tword.specs.Actions.{run, run_from, value_of};
 ghost use Rattle.tword.specs.Words.{reduced};
 
-use crate::codes::{function_of, operation_of};
+use crate::codes::{PFIX, function_of, operation_of};
 use crate::instruction::{DecodeFault, Function, Instruction};
-use tword::{Break, Bytes, Kind, Marks, Memory, Word};
+use tword::{Break, Kind, Marks, Memory, Word};
 
 /// How many bytes an instruction has at most, with its prefixes (own choice).
 const LONGEST: u8 = 16;
-
-/// The code of the prefix that shifts; the other prefix complements first.
-const PFIX: u8 = 0x2;
 
 /// The word of a chain's value after a prefix, from the value with the prefix's data.
 #[inline(always)]
@@ -50,66 +48,48 @@ fn ended(kind: &Kind, function: Function, operand: u32, length: u8) -> Option<In
 }
 
 /// The instruction at an address, for the kind of node that the memory belongs to. Its bytes are fetched one by one,
-/// each with the checks of a touch.
+/// each with the checks of a touch. The kind is looked at only where an operation is met that not every kind has.
 ///
 /// # Errors
 /// The break of the first fetch that fails; `LongPrefix` where sixteen bytes were fetched and all are prefixes;
 /// `NoSuchOperation` where its operation is not listed for the kind.
-#[inline(always)]
-pub fn decode(memory: &Memory, marks: &Marks, iptr: Word) -> Result<Instruction, Break>
-    ensures { result ≡ value_of (run (decoded memory.now.kind iptr) memory.now.bytes marks.now) }
-{
-    decode_for(&memory.kind, &memory.bytes, marks, iptr)
-}
-
-/// The instruction at an address, by the kind of the node and the bytes of the memory apart. The kind is looked at
-/// only where an operation is met that not every kind has.
-///
-/// # Errors
-/// The breaks of `decode`.
 // Chains of three bytes and more stay out of line, so that the common cases are small where they are inlined.
 #[inline(always)]
 #[tactic(auto, unfolding(crate::specs::Decoding::decode))]
-pub fn decode_for(
-    kind: &Kind,
-    memory: &Bytes,
-    marks: &Marks,
-    iptr: Word,
-) -> Result<Instruction, Break>
-    ensures { result ≡ value_of (run (decoded kind.now iptr) memory.now marks.now) }
+pub fn decode(memory: &Memory, marks: &Marks, iptr: Word) -> Result<Instruction, Break>
+    ensures { result ≡ value_of (run (spec.decode memory.now.kind iptr) memory.now.bytes marks.now) }
 {
     let byte = memory.read_byte(marks, iptr)?;
     match function_of(byte / 16) {
-        Some(function) => ended(kind, function, u32::from(byte % 16), 1).ok_or(
+        Some(function) => ended(&memory.kind, function, u32::from(byte % 16), 1).ok_or(
             Break::NoSuchOperation,
         ),
-        None => decode_prefixed(kind, memory, marks, iptr, byte),
+        None => decode_prefixed(memory, marks, iptr, byte),
     }
 }
 
 /// The instruction at an address where a prefix was fetched: most end with the next byte.
 #[inline(always)]
 fn decode_prefixed(
-    kind: &Kind,
-    memory: &Bytes,
+    memory: &Memory,
     marks: &Marks,
     iptr: Word,
     prefix: u8,
 ) -> Result<Instruction, Break>
-    requires fetched { IsFetched memory.now marks.now iptr prefix }
+    requires fetched { IsFetched memory.now.bytes marks.now iptr prefix }
     requires prefix { function_at (prefix / 16) ≡ None }
-    ensures { result ≡ value_of (run (decoded kind.now iptr) memory.now marks.now) }
+    ensures { result ≡ value_of (run (spec.decode memory.now.kind iptr) memory.now.bytes marks.now) }
 {
     let value = prefixed(prefix / 16, u32::from(prefix % 16));
     let address = iptr.plus(Word::new(1));
     let byte = memory.read_byte(marks, address)?;
     let sum = value.wrapping_add(u32::from(byte % 16));
     match function_of(byte / 16) {
-        Some(function) => ended(kind, function, sum, 2).ok_or(Break::NoSuchOperation),
+        Some(function) => ended(&memory.kind, function, sum, 2).ok_or(Break::NoSuchOperation),
         None => {
             let longer = prefixed(byte / 16, sum);
             let behind = address.plus(Word::new(1));
-            decode_chain(kind, memory, marks, behind, longer)
+            decode_chain(memory, marks, behind, longer)
         }
     }
 }
@@ -118,14 +98,14 @@ fn decode_prefixed(
 #[cold]
 #[inline(never)]
 fn decode_chain(
-    kind: &Kind,
-    memory: &Bytes,
+    memory: &Memory,
     marks: &Marks,
     address: Word,
     value: u32,
 ) -> Result<Instruction, Break>
     ensures { result
-        ≡ value_of (run_from (fetch kind.now 14 2 address (pos value)) memory.now marks.now memory.now) }
+        ≡ value_of (run_from (fetch memory.now.kind 14 2 address (pos value)) memory.now.bytes marks.now
+        memory.now.bytes) }
 {
     let mut address = address;
     let mut value = value;
@@ -133,7 +113,7 @@ fn decode_chain(
         let byte = memory.read_byte(marks, address)?;
         let sum = value.wrapping_add(u32::from(byte % 16));
         if let Some(function) = function_of(byte / 16) {
-            return ended(kind, function, sum, had + 1).ok_or(Break::NoSuchOperation);
+            return ended(&memory.kind, function, sum, had + 1).ok_or(Break::NoSuchOperation);
         }
         value = prefixed(byte / 16, sum);
         address = address.plus(Word::new(1));
@@ -147,7 +127,7 @@ fn decode_chain(
 /// `Ended` where the bytes end within it, `LongPrefix` where the first sixteen are all prefixes, `NoSuchOperation`
 /// where its operation is not listed for the kind.
 pub fn decode_bytes(bytes: &[u8], kind: Kind) -> Result<Instruction, DecodeFault>
-    ensures { result ≡ decoded_bytes kind bytes.now }
+    ensures { result ≡ spec.decode_bytes kind bytes.now }
 {
     let mut value = 0u32;
     for had in 0..LONGEST {

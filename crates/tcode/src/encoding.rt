@@ -3,14 +3,8 @@
 ghost use Rattle.std.specs.Prelude.{◌≡◌, ◌<◌, ◌≤◌, ◌^◌, ◌++◌, pos, length, drop};
 ghost use Rattle.tcode.specs.Encoding.{chain, encoding};
 
-use crate::codes::code_of;
+use crate::codes::{NFIX, PFIX, code_of};
 use crate::instruction::Function;
-
-/// The code of the prefix that shifts.
-const PFIX: u8 = 0x2;
-
-/// The code of the prefix that complements.
-const NFIX: u8 = 0x6;
 
 /// Puts the shortest chain of a code with a whole number at the head of the buffer, and returns its length. The number
 /// has at most `most` digits of four bits.

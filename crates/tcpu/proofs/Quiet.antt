@@ -71,7 +71,7 @@ quiet_bind Q (reading_saved w k next) f old new c q = quiet_bind Q (next _) f ol
 quiet_bind Q (setting_saved w k v next) f old new c q = quiet_bind Q next f old _ c q
 
 -- what holds of its answer
-quiet_run : {A : Type 0} (Q : A → Type 0) (x : Action A) (old new : Store) (c : Claims) (a : A) (s : Store)
+pub quiet_run : {A : Type 0} (Q : A → Type 0) (x : Action A) (old new : Store) (c : Claims) (a : A) (s : Store)
     → IsQuiet Q x → run_from x old c new ≡ Ok (a, s) → Q a
 quiet_run {A} Q (answer x) old new c a s q e =
     let k : ◌≡◌ {A = A × Store} (x, new) (a, s) = cc in
@@ -112,19 +112,7 @@ halts_or_goes false r r' = tt
 functions-quiet : (f : Function) (n : ℕ) (b r : Registers) → b.wptr ≡ r.wptr → IsQuiet (IsEnd b) (function_effect f n r)
 unfolding function_effect
 functions-quiet function.J n b r w = sym w
-functions-quiet function.Ldnl n b r w = λ _. tt
-functions-quiet function.Ldl n b r w = λ _. tt
-functions-quiet function.Adc n b r w = halts_or_goes _ _ _
-functions-quiet function.Ldlp n b r w = tt
-functions-quiet function.Ldc n b r w = tt
-functions-quiet function.Ldnlp n b r w = tt
-functions-quiet function.Call n b r w = tt
-functions-quiet function.Cj n b r w = tt
-functions-quiet function.Ajw n b r w = tt
-functions-quiet function.Eqc n b r w = tt
-functions-quiet function.Stl n b r w = tt
-functions-quiet function.Stnl n b r w = tt
-functions-quiet function.Opr n b r w = tt
+functions-quiet _ n b r w = search halts_or_goes
 
 looped-quiet : (left index : ℕ) (t : Bool) (b r : Registers) → b.wptr ≡ r.wptr
     → IsQuiet (IsEnd b) (looped left index t r)
@@ -135,59 +123,9 @@ looped-quiet left index false b r w = tt
 operations-quiet : (o : Operation) (b r : Registers) → b.wptr ≡ r.wptr
     → IfSome (operation_effect o r) (λ x. IsQuiet (IsEnd b) x)
 unfolding operation_effect
-operations-quiet op.Lb b r w = λ _. tt
-operations-quiet op.Ret b r w = λ _. tt
 operations-quiet op.Lend b r w =
     λ count index. looped-quiet (minus count 1) index (is_positive_word (minus count 1)) b r w
-operations-quiet op.Rev b r w = tt
-operations-quiet op.Bsub b r w = tt
-operations-quiet op.Diff b r w = tt
-operations-quiet op.Add b r w = halts_or_goes _ _ _
-operations-quiet op.Gcall b r w = tt
-operations-quiet op.Prod b r w = tt
-operations-quiet op.Gt b r w = tt
-operations-quiet op.Wsub b r w = tt
-operations-quiet op.Sub b r w = halts_or_goes _ _ _
-operations-quiet op.Seterr b r w = halts_or_goes _ _ _
-operations-quiet op.Csub0 b r w = halts_or_goes _ _ _
-operations-quiet op.Ladd b r w = halts_or_goes _ _ _
-operations-quiet op.Norm b r w = tt
-operations-quiet op.Ldiv b r w = halts_or_goes _ _ _
-operations-quiet op.Ldpi b r w = tt
-operations-quiet op.Xdble b r w = tt
-operations-quiet op.Rem b r w = halts_or_goes _ _ _
-operations-quiet op.Testerr b r w = tt
-operations-quiet op.Testpranal b r w = tt
-operations-quiet op.Div b r w = halts_or_goes _ _ _
-operations-quiet op.Lmul b r w = tt
-operations-quiet op.Not b r w = tt
-operations-quiet op.Xor b r w = tt
-operations-quiet op.Bcnt b r w = tt
-operations-quiet op.Lshr b r w = tt
-operations-quiet op.Lshl b r w = tt
-operations-quiet op.Lsum b r w = tt
-operations-quiet op.Lsub b r w = halts_or_goes _ _ _
-operations-quiet op.Xword b r w = tt
-operations-quiet op.Sb b r w = tt
-operations-quiet op.Gajw b r w = tt
-operations-quiet op.Wcnt b r w = tt
-operations-quiet op.Shr b r w = tt
-operations-quiet op.Shl b r w = tt
-operations-quiet op.Mint b r w = tt
-operations-quiet op.And b r w = tt
-operations-quiet op.Move b r w = tt
-operations-quiet op.Or b r w = tt
-operations-quiet op.Csngl b r w = halts_or_goes _ _ _
-operations-quiet op.Ccnt1 b r w = halts_or_goes _ _ _
-operations-quiet op.Ldiff b r w = tt
-operations-quiet op.Sum b r w = tt
-operations-quiet op.Mul b r w = halts_or_goes _ _ _
-operations-quiet op.Cword b r w = halts_or_goes _ _ _
-operations-quiet op.Clrhalterr b r w = tt
-operations-quiet op.Sethalterr b r w = tt
-operations-quiet op.Testhalterr b r w = tt
-operations-quiet op.Dup b r w = tt
-operations-quiet _ b r w = tt
+operations-quiet _ b r w = search halts_or_goes
 
 -- an effect may also be left to the scheduler
 abbrev IsStay : Registers → Outcome → Type 0

@@ -2,8 +2,6 @@
 #![tactic(auto, unfolding(crate::specs::Functions::function_effect, crate::specs::Operations::operation_effect))]
 
 ghost use Rattle.std.specs.Prelude.{◌≡◌, Some};
-ghost use Rattle.tcode.specs.declared.instruction.Function.TheVariants as function;
-ghost use Rattle.tcode.specs.declared.instruction.Operation.TheVariants as op;
 ghost use Rattle.tword.specs.Actions.{answer};
 ghost use Rattle.tcpu.specs.Functions.{function_effect};
 ghost use Rattle.tcpu.specs.Operations.{operation_effect};
@@ -12,13 +10,14 @@ use crate::registers::{Next, Registers};
 use crate::word_arithmetic::{
     signed_difference, signed_product, signed_quotient, signed_sum, truth, word_address,
 };
+use tcode::{Function, Operation};
 use tword::Word;
 
 impl Registers {
     /// `adc`: the signed sum with the operand
     #[inline]
     pub(crate) fn add_constant(&mut self, operand: Word) -> Next
-        ensures { function_effect function.Adc operand self.old ≡ answer (self.new, result) }
+        ensures { function_effect Function.Adc operand self.old ≡ answer (self.new, result) }
     {
         let (sum, overflows) = signed_sum(self.a, operand);
         self.replace_top(sum);
@@ -28,7 +27,7 @@ impl Registers {
     /// `eqc`: 1 where A is the operand, else 0
     #[inline]
     pub(crate) fn equals_constant(&mut self, operand: Word) -> Next
-        ensures { function_effect function.Eqc operand self.old ≡ answer (self.new, result) }
+        ensures { function_effect Function.Eqc operand self.old ≡ answer (self.new, result) }
     {
         self.replace_top(truth(self.a.get() == operand.get()));
         Next::Go
@@ -37,7 +36,7 @@ impl Registers {
     /// `add`: the signed sum of B and A, with Error on overflow
     #[inline(always)]
     pub(crate) fn add(&mut self) -> Next
-        ensures { operation_effect op.Add self.old ≡ Some (answer (self.new, result)) }
+        ensures { operation_effect Operation.Add self.old ≡ Some (answer (self.new, result)) }
     {
         let (sum, overflows) = signed_sum(self.b, self.a);
         self.replace_all(sum);
@@ -47,7 +46,7 @@ impl Registers {
     /// `sub`: the signed difference of B and A, with Error on overflow
     #[inline(always)]
     pub(crate) fn subtract(&mut self) -> Next
-        ensures { operation_effect op.Sub self.old ≡ Some (answer (self.new, result)) }
+        ensures { operation_effect Operation.Sub self.old ≡ Some (answer (self.new, result)) }
     {
         let (difference, overflows) = signed_difference(self.b, self.a);
         self.replace_all(difference);
@@ -57,7 +56,7 @@ impl Registers {
     /// `mul`: the signed product of B and A, with Error on overflow
     #[inline]
     pub(crate) fn multiply(&mut self) -> Next
-        ensures { operation_effect op.Mul self.old ≡ Some (answer (self.new, result)) }
+        ensures { operation_effect Operation.Mul self.old ≡ Some (answer (self.new, result)) }
     {
         let (product, overflows) = signed_product(self.b, self.a);
         self.replace_all(product);
@@ -66,7 +65,7 @@ impl Registers {
 
     /// `div`: by 0 the quotient is 0 (own choice).
     pub(crate) fn divide(&mut self) -> Next
-        ensures { operation_effect op.Div self.old ≡ Some (answer (self.new, result)) }
+        ensures { operation_effect Operation.Div self.old ≡ Some (answer (self.new, result)) }
     {
         if self.a.get() == 0 {
             self.replace_all(Word::new(0));
@@ -79,7 +78,7 @@ impl Registers {
 
     /// `rem`: by 0 the remainder is 0, and the least number by -1 leaves 0 without Error (own choices).
     pub(crate) fn remainder(&mut self) -> Next
-        ensures { operation_effect op.Rem self.old ≡ Some (answer (self.new, result)) }
+        ensures { operation_effect Operation.Rem self.old ≡ Some (answer (self.new, result)) }
     {
         if self.a.get() == 0 {
             self.replace_all(Word::new(0));
@@ -93,7 +92,7 @@ impl Registers {
     /// `sum`: B + A modulo 2 ^ 32
     #[inline]
     pub(crate) fn sum(&mut self) -> Next
-        ensures { operation_effect op.Sum self.old ≡ Some (answer (self.new, result)) }
+        ensures { operation_effect Operation.Sum self.old ≡ Some (answer (self.new, result)) }
     {
         self.replace_all(self.b.plus(self.a));
         Next::Go
@@ -102,7 +101,7 @@ impl Registers {
     /// `diff`: B - A modulo 2 ^ 32
     #[inline]
     pub(crate) fn difference(&mut self) -> Next
-        ensures { operation_effect op.Diff self.old ≡ Some (answer (self.new, result)) }
+        ensures { operation_effect Operation.Diff self.old ≡ Some (answer (self.new, result)) }
     {
         self.replace_all(self.b.minus(self.a));
         Next::Go
@@ -111,7 +110,7 @@ impl Registers {
     /// `prod`: B times A modulo 2 ^ 32
     #[inline]
     pub(crate) fn product(&mut self) -> Next
-        ensures { operation_effect op.Prod self.old ≡ Some (answer (self.new, result)) }
+        ensures { operation_effect Operation.Prod self.old ≡ Some (answer (self.new, result)) }
     {
         let product = self.b.get().wrapping_mul(self.a.get());
         self.replace_all(Word::new(product));
@@ -121,7 +120,7 @@ impl Registers {
     /// `gt`: 1 where B is above A, signed, else 0
     #[inline(always)]
     pub(crate) fn greater_than(&mut self) -> Next
-        ensures { operation_effect op.Gt self.old ≡ Some (answer (self.new, result)) }
+        ensures { operation_effect Operation.Gt self.old ≡ Some (answer (self.new, result)) }
     {
         self.replace_all(truth(self.b.signed() > self.a.signed()));
         Next::Go
@@ -130,7 +129,7 @@ impl Registers {
     /// `bsub`: the address of byte B from A on
     #[inline]
     pub(crate) fn byte_subscript(&mut self) -> Next
-        ensures { operation_effect op.Bsub self.old ≡ Some (answer (self.new, result)) }
+        ensures { operation_effect Operation.Bsub self.old ≡ Some (answer (self.new, result)) }
     {
         self.replace_all(self.a.plus(self.b));
         Next::Go
@@ -139,7 +138,7 @@ impl Registers {
     /// `wsub`: the address of word B from A on
     #[inline]
     pub(crate) fn word_subscript(&mut self) -> Next
-        ensures { operation_effect op.Wsub self.old ≡ Some (answer (self.new, result)) }
+        ensures { operation_effect Operation.Wsub self.old ≡ Some (answer (self.new, result)) }
     {
         self.replace_all(word_address(self.a, self.b));
         Next::Go
@@ -147,7 +146,7 @@ impl Registers {
 
     /// `bcnt`: how many bytes A words have
     pub(crate) fn byte_count(&mut self) -> Next
-        ensures { operation_effect op.Bcnt self.old ≡ Some (answer (self.new, result)) }
+        ensures { operation_effect Operation.Bcnt self.old ≡ Some (answer (self.new, result)) }
     {
         self.replace_top(Word::new(self.a.get().wrapping_mul(4)));
         Next::Go
@@ -155,7 +154,7 @@ impl Registers {
 
     /// `wcnt`: the index of a word, with its sign, and the byte within it
     pub(crate) fn word_count(&mut self) -> Next
-        ensures { operation_effect op.Wcnt self.old ≡ Some (answer (self.new, result)) }
+        ensures { operation_effect Operation.Wcnt self.old ≡ Some (answer (self.new, result)) }
     {
         let index = self.a.signed() >> 2;
         let byte = self.a.get() % 4;

@@ -2,18 +2,18 @@
 #![tactic(auto, unfolding(crate::specs::Operations::operation_effect))]
 
 ghost use Rattle.std.specs.Prelude.{◌≡◌, Some};
-ghost use Rattle.tcode.specs.declared.instruction.Operation.TheVariants as op;
 ghost use Rattle.tword.specs.Actions.{answer};
 ghost use Rattle.tcpu.specs.Operations.{operation_effect};
 
 use crate::registers::{Next, Registers};
+use tcode::Operation;
 use tword::Word;
 
 impl Registers {
     /// `and`: of B and A
     #[inline]
     pub(crate) fn bitwise_and(&mut self) -> Next
-        ensures { operation_effect op.And self.old ≡ Some (answer (self.new, result)) }
+        ensures { operation_effect Operation.And self.old ≡ Some (answer (self.new, result)) }
     {
         self.replace_all(Word::new(self.b.get() & self.a.get()));
         Next::Go
@@ -22,7 +22,7 @@ impl Registers {
     /// `or`: of B and A
     #[inline]
     pub(crate) fn bitwise_or(&mut self) -> Next
-        ensures { operation_effect op.Or self.old ≡ Some (answer (self.new, result)) }
+        ensures { operation_effect Operation.Or self.old ≡ Some (answer (self.new, result)) }
     {
         self.replace_all(Word::new(self.b.get() | self.a.get()));
         Next::Go
@@ -31,7 +31,7 @@ impl Registers {
     /// `xor`: of B and A
     #[inline]
     pub(crate) fn exclusive_or(&mut self) -> Next
-        ensures { operation_effect op.Xor self.old ≡ Some (answer (self.new, result)) }
+        ensures { operation_effect Operation.Xor self.old ≡ Some (answer (self.new, result)) }
     {
         self.replace_all(Word::new(self.b.get() ^ self.a.get()));
         Next::Go
@@ -40,7 +40,7 @@ impl Registers {
     /// `not`: of A
     #[inline]
     pub(crate) fn complement(&mut self) -> Next
-        ensures { operation_effect op.Not self.old ≡ Some (answer (self.new, result)) }
+        ensures { operation_effect Operation.Not self.old ≡ Some (answer (self.new, result)) }
     {
         self.replace_top(Word::new(!self.a.get()));
         Next::Go

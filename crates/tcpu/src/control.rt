@@ -2,8 +2,6 @@
 #![tactic(auto, unfolding(crate::specs::Functions::function_effect, crate::specs::Operations::operation_effect))]
 
 ghost use Rattle.std.specs.Prelude.{◌≡◌, Some, OnOk, OnErr, length, true};
-ghost use Rattle.tcode.specs.declared.instruction.Function.TheVariants as function;
-ghost use Rattle.tcode.specs.declared.instruction.Operation.TheVariants as op;
 ghost use Rattle.tword.specs.Actions.{answer, or_break};
 ghost use Rattle.tword.specs.Stores.{word_at};
 ghost use Rattle.tword.specs.Touches.{Writes, word_break, first_break, is_inside, word_span};
@@ -14,13 +12,14 @@ ghost use Rattle.tcpu.specs.Operations.{operation_effect};
 
 use crate::registers::{Next, Registers, Step};
 use crate::word_arithmetic::{is_word_address, word_address};
+use tcode::{Function, Operation};
 use tword::{Break, Bytes, Marks, Word};
 
 impl Registers {
     /// `j`: jumps by the operand
     #[inline]
     pub(crate) fn jump(&mut self, operand: Word) -> Next
-        ensures { function_effect function.J operand self.old ≡ answer (self.new, result) }
+        ensures { function_effect Function.J operand self.old ≡ answer (self.new, result) }
     {
         self.iptr = self.iptr.plus(operand);
         Next::Jumped
@@ -29,7 +28,7 @@ impl Registers {
     /// `cj`: jumps by the operand where A is 0, which stays on the stack; else pops it
     #[inline]
     pub(crate) fn conditional_jump(&mut self, operand: Word) -> Next
-        ensures { function_effect function.Cj operand self.old ≡ answer (self.new, result) }
+        ensures { function_effect Function.Cj operand self.old ≡ answer (self.new, result) }
     {
         if self.a.get() == 0 {
             self.iptr = self.iptr.plus(operand);
@@ -42,7 +41,7 @@ impl Registers {
     /// `ajw`: moves the workspace by a number of words
     #[inline]
     pub(crate) fn adjust_workspace(&mut self, operand: Word) -> Next
-        ensures { function_effect function.Ajw operand self.old ≡ answer (self.new, result) }
+        ensures { function_effect Function.Ajw operand self.old ≡ answer (self.new, result) }
     {
         self.wptr = word_address(self.wptr, operand);
         Next::Go
@@ -50,7 +49,7 @@ impl Registers {
 
     /// `gcall`: exchanges Iptr and A
     pub(crate) fn general_call(&mut self) -> Next
-        ensures { operation_effect op.Gcall self.old ≡ Some (answer (self.new, result)) }
+        ensures { operation_effect Operation.Gcall self.old ≡ Some (answer (self.new, result)) }
     {
         let target = self.a;
         self.a = self.iptr;
@@ -60,7 +59,7 @@ impl Registers {
 
     /// `ldpi`: the address A bytes behind the instruction
     pub(crate) fn load_pointer_to_instruction(&mut self) -> Next
-        ensures { operation_effect op.Ldpi self.old ≡ Some (answer (self.new, result)) }
+        ensures { operation_effect Operation.Ldpi self.old ≡ Some (answer (self.new, result)) }
     {
         self.replace_top(self.iptr.plus(self.a));
         Next::Go
@@ -72,7 +71,7 @@ impl Registers {
     /// `Unaligned` where A is no multiple of 4.
     #[inline(always)]
     pub(crate) fn general_adjust_workspace(&mut self, memory: &Bytes, marks: &Marks) -> Step
-        ensures done { DoesOperation op.Gajw self.old memory.now marks.now result self.new memory.now }
+        ensures done { DoesOperation Operation.Gajw self.old memory.now marks.now result self.new memory.now }
         ensures kept { OnErr result (self.new ≡ self.old) }
     {
         let workspace = self.a;
@@ -90,17 +89,17 @@ impl Registers {
     /// The break of the first of the four words, from the lowest up, that may not be written.
     #[inline(always)]
     pub(crate) fn call(&mut self, memory: &mut Bytes, marks: &Marks, operand: Word) -> Step
-        ensures done { DoesFunction function.Call operand self.old memory.old marks.now result self.new memory.new }
+        ensures done { DoesFunction Function.Call operand self.old memory.old marks.now result self.new memory.new }
         ensures kept { OnErr result ((memory.new ≡ memory.old) × (self.new ≡ self.old)) }
         ensures sized { length memory.new ≡ length memory.old }
     {
         self.may_call(memory, marks)?;
         let wptr = self.wptr;
-        let workspace = wptr.minus(Word::new(16));
+        let workspace = wptr.below(4);
         memory.set_word(workspace, self.iptr);
-        memory.set_word(wptr.minus(Word::new(12)), self.a);
-        memory.set_word(wptr.minus(Word::new(8)), self.b);
-        memory.set_word(wptr.minus(Word::new(4)), self.c);
+        memory.set_word(wptr.below(3), self.a);
+        memory.set_word(wptr.below(2), self.b);
+        memory.set_word(wptr.below(1), self.c);
         self.wptr = workspace;
         self.a = self.iptr;
         self.iptr = self.iptr.plus(operand);
@@ -124,10 +123,10 @@ impl Registers {
         ensures fourth { OnOk result (is_inside (length memory.now) (word_span (minus self.now.wptr 4)) ≡ true) }
     {
         let wptr = self.wptr;
-        memory.may_write_word(marks, wptr.minus(Word::new(16)))?;
-        memory.may_write_word(marks, wptr.minus(Word::new(12)))?;
-        memory.may_write_word(marks, wptr.minus(Word::new(8)))?;
-        memory.may_write_word(marks, wptr.minus(Word::new(4)))
+        memory.may_write_word(marks, wptr.below(4))?;
+        memory.may_write_word(marks, wptr.below(3))?;
+        memory.may_write_word(marks, wptr.below(2))?;
+        memory.may_write_word(marks, wptr.below(1))
     }
 
     /// `ret`: goes on behind the call, in the workspace of the caller
@@ -136,7 +135,7 @@ impl Registers {
     /// The break of a read of the workspace's first word.
     #[inline(always)]
     pub(crate) fn return_from_call(&mut self, memory: &Bytes, marks: &Marks) -> Step
-        ensures done { DoesOperation op.Ret self.old memory.now marks.now result self.new memory.now }
+        ensures done { DoesOperation Operation.Ret self.old memory.now marks.now result self.new memory.now }
         ensures kept { OnErr result (self.new ≡ self.old) }
     {
         self.iptr = memory.read_word(marks, self.wptr)?;
@@ -151,7 +150,7 @@ impl Registers {
     /// The break of a write of the count, else of the index.
     #[inline(always)]
     pub(crate) fn loop_end(&mut self, memory: &mut Bytes, marks: &Marks) -> Step
-        ensures done { DoesOperation op.Lend self.old memory.old marks.now result self.new memory.new }
+        ensures done { DoesOperation Operation.Lend self.old memory.old marks.now result self.new memory.new }
         ensures kept { OnErr result ((memory.new ≡ memory.old) × (self.new ≡ self.old)) }
         ensures sized { length memory.new ≡ length memory.old }
     {

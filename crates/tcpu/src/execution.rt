@@ -32,7 +32,7 @@ pub fn local(
     ensures sized { length memory.new.bytes ≡ length memory.old.bytes }
     ensures kind { memory.new.kind ≡ memory.old.kind }
 {
-    local_for(
+    act_or_stay(
         &memory.kind,
         registers,
         &mut memory.bytes,
@@ -41,13 +41,13 @@ pub fn local(
     )
 }
 
-/// Does a local instruction as `local` does, by the bytes of the memory and the kind apart.
+/// Does an instruction as `local` does, by the kind and the bytes of the memory.
 ///
 /// # Errors
 /// The breaks of `local`.
 #[inline(always)]
 #[tactic(auto, unfolding(crate::specs::Effects::effect))]
-pub fn local_for(
+fn act_or_stay(
     kind: &Kind,
     registers: &mut Registers,
     memory: &mut Bytes,
@@ -105,6 +105,7 @@ fn act(
         Function::Stnl => registers.store_non_local(memory, marks, operand),
         Function::Opr => match operation_of(operand, *kind) {
             Some(operation) => operate(registers, memory, marks, start, operation),
+            // Whoever makes an instruction without decoding it may name an operation that the kind does not have.
             None => Err(Break::NoSuchOperation),
         },
     }

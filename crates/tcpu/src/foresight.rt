@@ -9,12 +9,13 @@ ghost use Rattle.tcpu.specs.Operations.{operation_effect};
 use crate::registers::Registers;
 use crate::word_arithmetic::{is_word_address, word_address};
 use tcode::{Function, Instruction, Operation, operation_of};
-use tword::{Break, Bytes, Kind, Marks, Memory};
+use tword::{Break, Bytes, Marks, Memory};
 
 /// Whether an instruction would jump so that a timeslice may end, as `local` would answer it. Nothing is changed.
 ///
 /// # Errors
 /// The break that `local` would answer.
+#[tactic(auto, unfolding(crate::specs::Effects::effect, crate::specs::Functions::function_effect))]
 pub fn jumps(
     registers: &Registers,
     memory: &Memory,
@@ -24,48 +25,33 @@ pub fn jumps(
     ensures { result ≡ would_jump
         (run (effect memory.now.kind instruction registers.now) memory.now.bytes marks.now) }
 {
-    jumps_for(&memory.kind, registers, &memory.bytes, marks, instruction)
-}
-
-/// Whether an instruction would jump, as `jumps` tells it, by the bytes of the memory and the kind apart.
-///
-/// # Errors
-/// The breaks of `jumps`.
-#[tactic(auto, unfolding(crate::specs::Effects::effect, crate::specs::Functions::function_effect))]
-pub fn jumps_for(
-    kind: &Kind,
-    registers: &Registers,
-    memory: &Bytes,
-    marks: &Marks,
-    instruction: Instruction,
-) -> Result<bool, Break>
-    ensures { result ≡ would_jump (run (effect kind.now instruction registers.now) memory.now marks.now) }
-{
+    let bytes = &memory.bytes;
     let operand = instruction.operand;
     match instruction.function {
         Function::J => Ok(true),
         Function::Ldnl => {
-            memory.may_read_word(marks, word_address(registers.a, operand))?;
+            bytes.may_read_word(marks, word_address(registers.a, operand))?;
             Ok(false)
         }
         Function::Ldl => {
-            memory.may_read_word(marks, word_address(registers.wptr, operand))?;
+            bytes.may_read_word(marks, word_address(registers.wptr, operand))?;
             Ok(false)
         }
         Function::Call => {
-            registers.may_call(memory, marks)?;
+            registers.may_call(bytes, marks)?;
             Ok(false)
         }
         Function::Stl => {
-            memory.may_write_word(marks, word_address(registers.wptr, operand))?;
+            bytes.may_write_word(marks, word_address(registers.wptr, operand))?;
             Ok(false)
         }
         Function::Stnl => {
-            memory.may_write_word(marks, word_address(registers.a, operand))?;
+            bytes.may_write_word(marks, word_address(registers.a, operand))?;
             Ok(false)
         }
-        Function::Opr => match operation_of(operand, *kind) {
-            Some(operation) => operation_jumps(registers, memory, marks, operation),
+        Function::Opr => match operation_of(operand, memory.kind) {
+            Some(operation) => operation_jumps(registers, bytes, marks, operation),
+            // Whoever makes an instruction without decoding it may name an operation that the kind does not have.
             None => Err(Break::NoSuchOperation),
         },
         Function::Ldlp

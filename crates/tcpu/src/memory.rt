@@ -2,12 +2,11 @@
 #![tactic(auto, unfolding(crate::specs::Functions::function_effect, crate::specs::Operations::operation_effect))]
 
 ghost use Rattle.std.specs.Prelude.{◌≡◌, OnErr, length};
-ghost use Rattle.tcode.specs.declared.instruction.Function.TheVariants as function;
-ghost use Rattle.tcode.specs.declared.instruction.Operation.TheVariants as op;
 ghost use Rattle.tcpu.specs.Local.{DoesFunction, DoesOperation};
 
 use crate::registers::{Next, Registers, Step};
 use crate::word_arithmetic::word_address;
+use tcode::{Function, Operation};
 use tword::{Bytes, Marks, Word};
 
 impl Registers {
@@ -17,7 +16,7 @@ impl Registers {
     /// The break of a read of the word.
     #[inline(always)]
     pub(crate) fn load_local(&mut self, memory: &Bytes, marks: &Marks, operand: Word) -> Step
-        ensures done { DoesFunction function.Ldl operand self.old memory.now marks.now result self.new memory.now }
+        ensures done { DoesFunction Function.Ldl operand self.old memory.now marks.now result self.new memory.now }
         ensures kept { OnErr result (self.new ≡ self.old) }
     {
         let value = memory.read_word(marks, word_address(self.wptr, operand))?;
@@ -31,7 +30,7 @@ impl Registers {
     /// The break of a read of the word.
     #[inline(always)]
     pub(crate) fn load_non_local(&mut self, memory: &Bytes, marks: &Marks, operand: Word) -> Step
-        ensures done { DoesFunction function.Ldnl operand self.old memory.now marks.now result self.new memory.now }
+        ensures done { DoesFunction Function.Ldnl operand self.old memory.now marks.now result self.new memory.now }
         ensures kept { OnErr result (self.new ≡ self.old) }
     {
         let value = memory.read_word(marks, word_address(self.a, operand))?;
@@ -45,7 +44,7 @@ impl Registers {
     /// The break of a write of the word.
     #[inline(always)]
     pub(crate) fn store_local(&mut self, memory: &mut Bytes, marks: &Marks, operand: Word) -> Step
-        ensures done { DoesFunction function.Stl operand self.old memory.old marks.now result self.new memory.new }
+        ensures done { DoesFunction Function.Stl operand self.old memory.old marks.now result self.new memory.new }
         ensures kept { OnErr result ((memory.new ≡ memory.old) × (self.new ≡ self.old)) }
         ensures sized { length memory.new ≡ length memory.old }
     {
@@ -65,7 +64,7 @@ impl Registers {
         marks: &Marks,
         operand: Word,
     ) -> Step
-        ensures done { DoesFunction function.Stnl operand self.old memory.old marks.now result self.new memory.new }
+        ensures done { DoesFunction Function.Stnl operand self.old memory.old marks.now result self.new memory.new }
         ensures kept { OnErr result ((memory.new ≡ memory.old) × (self.new ≡ self.old)) }
         ensures sized { length memory.new ≡ length memory.old }
     {
@@ -81,7 +80,7 @@ impl Registers {
     /// The break of a read of the byte.
     #[inline(always)]
     pub(crate) fn load_byte(&mut self, memory: &Bytes, marks: &Marks) -> Step
-        ensures done { DoesOperation op.Lb self.old memory.now marks.now result self.new memory.now }
+        ensures done { DoesOperation Operation.Lb self.old memory.now marks.now result self.new memory.now }
         ensures kept { OnErr result (self.new ≡ self.old) }
     {
         let value = memory.read_byte(marks, self.a)?;
@@ -95,7 +94,7 @@ impl Registers {
     /// The break of a write of the byte.
     #[inline(always)]
     pub(crate) fn store_byte(&mut self, memory: &mut Bytes, marks: &Marks) -> Step
-        ensures done { DoesOperation op.Sb self.old memory.old marks.now result self.new memory.new }
+        ensures done { DoesOperation Operation.Sb self.old memory.old marks.now result self.new memory.new }
         ensures kept { OnErr result ((memory.new ≡ memory.old) × (self.new ≡ self.old)) }
         ensures sized { length memory.new ≡ length memory.old }
     {
@@ -112,7 +111,7 @@ impl Registers {
     /// The break of a read of the source, else of a write of the target.
     #[inline(always)]
     pub(crate) fn move_bytes(&mut self, memory: &mut Bytes, marks: &Marks) -> Step
-        ensures done { DoesOperation op.Move self.old memory.old marks.now result self.new memory.new }
+        ensures done { DoesOperation Operation.Move self.old memory.old marks.now result self.new memory.new }
         ensures kept { OnErr result ((memory.new ≡ memory.old) × (self.new ≡ self.old)) }
         ensures sized { length memory.new ≡ length memory.old }
     {

@@ -2,14 +2,13 @@
 #![tactic(auto, unfolding(crate::specs::Functions::function_effect, crate::specs::Operations::operation_effect))]
 
 ghost use Rattle.std.specs.Prelude.{◌≡◌, Some};
-ghost use Rattle.tcode.specs.declared.instruction.Function.TheVariants as function;
-ghost use Rattle.tcode.specs.declared.instruction.Operation.TheVariants as op;
 ghost use Rattle.tword.specs.Actions.{answer};
 ghost use Rattle.tcpu.specs.Functions.{function_effect};
 ghost use Rattle.tcpu.specs.Operations.{operation_effect};
 
 use crate::registers::{Next, Registers};
 use crate::word_arithmetic::word_address;
+use tcode::{Function, Operation};
 use tword::Word;
 use tword::limits::MOST_NEG;
 
@@ -17,7 +16,7 @@ impl Registers {
     /// `ldc`: pushes the operand
     #[inline]
     pub(crate) fn load_constant(&mut self, operand: Word) -> Next
-        ensures { function_effect function.Ldc operand self.old ≡ answer (self.new, result) }
+        ensures { function_effect Function.Ldc operand self.old ≡ answer (self.new, result) }
     {
         self.push(operand);
         Next::Go
@@ -26,7 +25,7 @@ impl Registers {
     /// `ldlp`: pushes the address of a word of the workspace, by its index
     #[inline]
     pub(crate) fn load_local_pointer(&mut self, operand: Word) -> Next
-        ensures { function_effect function.Ldlp operand self.old ≡ answer (self.new, result) }
+        ensures { function_effect Function.Ldlp operand self.old ≡ answer (self.new, result) }
     {
         self.push(word_address(self.wptr, operand));
         Next::Go
@@ -35,7 +34,7 @@ impl Registers {
     /// `ldnlp`: the address of a word from A on, by its index
     #[inline]
     pub(crate) fn load_non_local_pointer(&mut self, operand: Word) -> Next
-        ensures { function_effect function.Ldnlp operand self.old ≡ answer (self.new, result) }
+        ensures { function_effect Function.Ldnlp operand self.old ≡ answer (self.new, result) }
     {
         self.replace_top(word_address(self.a, operand));
         Next::Go
@@ -43,7 +42,7 @@ impl Registers {
 
     /// `mint`: pushes the least word
     pub(crate) fn minimum_integer(&mut self) -> Next
-        ensures { operation_effect op.Mint self.old ≡ Some (answer (self.new, result)) }
+        ensures { operation_effect Operation.Mint self.old ≡ Some (answer (self.new, result)) }
     {
         self.push(Word::new(MOST_NEG));
         Next::Go
@@ -51,7 +50,7 @@ impl Registers {
 
     /// `dup`: pushes A
     pub(crate) fn duplicate(&mut self) -> Next
-        ensures { operation_effect op.Dup self.old ≡ Some (answer (self.new, result)) }
+        ensures { operation_effect Operation.Dup self.old ≡ Some (answer (self.new, result)) }
     {
         self.push(self.a);
         Next::Go
@@ -60,7 +59,7 @@ impl Registers {
     /// `rev`: exchanges A and B
     #[inline]
     pub(crate) fn reverse(&mut self) -> Next
-        ensures { operation_effect op.Rev self.old ≡ Some (answer (self.new, result)) }
+        ensures { operation_effect Operation.Rev self.old ≡ Some (answer (self.new, result)) }
     {
         self.replace_all_by_pair(self.b, self.a);
         Next::Go

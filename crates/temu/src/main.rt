@@ -9,12 +9,13 @@ mod streams;
 mod words;
 
 use crate::commands::do_command;
+use crate::log_file::output_fault;
 use crate::progress::ProgressLine;
 use crate::streams::Missing;
 use crate::words::{WordFault, given_words};
 use clap::error::ErrorKind;
 use std::process::ExitCode;
-use tfiles::{Uncounted, WriteFault};
+use tfiles::Uncounted;
 use ttext::{Fault, Verdict, end_command};
 use twords::{Command, CommandFault, read_words};
 
@@ -36,7 +37,7 @@ fn refuse(rt: &HostRuntime, fault: &CommandFault) -> ExitCode {
         return end(rt, Err(Fault::Memory));
     }
     match fault.print(rt) {
-        Err(_) if !fault.use_stderr() => end(rt, Err(Fault::Output(WriteFault { written: 0 }))),
+        Err(_) if !fault.use_stderr() => end(rt, Err(output_fault())),
         // Where standard error fails too, the status alone tells.
         _ => ExitCode::from(fault.exit_code() as u8),
     }

@@ -3,7 +3,7 @@ use Rattle.std.proofs.Common.{◌≡◌, ℕ, ◌<◌, ◌≤◌, sym, ap, ◌�
 use Rattle.std.proofs.Common.{inl, inr, arith}
 use Rattle.std.proofs.lemmas.Option.{same_Some, slice_get_within}
 use Rattle.tword.specs.declared.breaks.Break.{Break}
-use Rattle.tproc.specs.declared.offer.Ran.{Ran}
+use Rattle.tproc.specs.declared.ran.Ran.{Ran}
 use Rattle.tproc.specs.Machine.{Machine}
 use Rattle.tproc.specs.Steps.{step}
 use Rattle.tproc.specs.LinkChannels.{link_end}

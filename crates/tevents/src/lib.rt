@@ -1,6 +1,7 @@
 //! How steps of the rendezvous machine are done by events of a net of packets.
 #![tactic(auto)]
 
+mod done_event;
 pub mod finding;
 pub mod laws;
 pub mod moves;

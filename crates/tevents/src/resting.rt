@@ -2,14 +2,17 @@
 
 ghost use Rattle.std.specs.Prelude.{◌≡◌, ◌≤◌, true, not, None, [], length, IfOk, OnErr, IfSome, MatchOption};
 ghost use Rattle.std.specs.List.{list_all};
+ghost use Rattle.tword.specs.Limits.{most_nodes};
 ghost use Rattle.tnet.specs.Packets.{is_enabled, IsQuiet};
 ghost use Rattle.tnet.specs.Quiet.{node_events};
 ghost use Rattle.tevents.specs.Doing.{IsLogged, Logs, ComesToRest};
 
-use crate::finding::{acked_at, asks_at, first_enabled, is_seen};
+use crate::done_event::do_event;
+use crate::finding::first_enabled;
 use std::alloc::AllocError;
 use tnet::Net;
 use tplan::{Act, Event};
+use tword::limits::MOST_NODES;
 
 /// An event of a node.
 fn event(node: u8, act: Act) -> Event
@@ -54,11 +57,11 @@ fn enabled_at(net: &Net, node: u8) -> Option<Event>
 
 /// An event of a net that is enabled, if one is; of a net of at most 64 nodes, where it says none, none is.
 pub fn enabled_event(net: &Net) -> Option<Event>
-    ensures { MatchOption result (length net.now.nodes ≤ 64 → IsQuiet net.now) (λ e. is_enabled net.now e ≡ true) }
+    ensures { MatchOption result (length net.now.nodes ≤ most_nodes → IsQuiet net.now) (λ e. is_enabled net.now e ≡ true) }
 {
     net.know_sound();
     let nodes = net.nodes().len();
-    if nodes > 64 {
+    if nodes > MOST_NODES {
         return None;
     }
     for node in 0..nodes {
@@ -81,10 +84,8 @@ pub fn rest(net: &mut Net, log: &mut Vec<Event>) -> Result<bool, AllocError>
 {
     while let Some(event) = enabled_event(net) {
         net.know_sound();
-        let asked = asks_at(net, event);
-        log.push(event)?;
-        let told = net.step(event);
-        if is_seen(event.act, asked, told, acked_at(net, event)) {
+        let done = do_event(net, event, log)?;
+        if done.is_seen {
             return Ok(false);
         }
     }

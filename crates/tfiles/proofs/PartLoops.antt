@@ -1,7 +1,7 @@
 -- A loop that reads parts of one kind, one after another.
 use Rattle.std.proofs.Common.{◌≡◌, ℕ, zero, suc, ◌+◌, ◌-◌, ◌<◌, refl, sym, ap, ◌∙◌, List, [], ◌∷◌, ◌++◌, Some, None}
 use Rattle.std.proofs.Common.{arith}
-use Rattle.tfiles.specs.Images.{Reading, behind, then_read, parts_in}
+use Rattle.tfiles.specs.Images.{Reading, left_over, then_read, parts_in}
 
 then_read-then_read : {A B C : Type 0} (r : Reading A) (f : A → List ℕ → Reading B) (g : B → List ℕ → Reading C)
     → then_read (then_read r f) g ≡ then_read r (λ x rest. then_read (f x rest) g)
@@ -61,27 +61,27 @@ module _ {A : Type 0} (read : List ℕ → Reading A) where
       (λ ys rest. Some (xs ++ ys, rest))) e
 
   -- one more part, of which only what is behind it counts
-  pub behind-more : (n : ℕ) (bytes mid rest : List ℕ) (x : A) → Some mid ≡ behind (parts_in read n bytes)
-      → read mid ≡ Some (x, rest) → Some rest ≡ behind (parts_in read (n + 1) bytes)
+  pub behind-more : (n : ℕ) (bytes mid rest : List ℕ) (x : A) → Some mid ≡ left_over (parts_in read n bytes)
+      → read mid ≡ Some (x, rest) → Some rest ≡ left_over (parts_in read (n + 1) bytes)
   behind-more n bytes mid rest x h e = by (parts_in read n bytes) refl h
     where
-      by : (r : Reading (List A)) → parts_in read n bytes ≡ r → Some mid ≡ behind r
-          → Some rest ≡ behind (parts_in read (n + 1) bytes)
+      by : (r : Reading (List A)) → parts_in read n bytes ≡ r → Some mid ≡ left_over r
+          → Some rest ≡ left_over (parts_in read (n + 1) bytes)
       by None p h = cc
       by (Some (xs, end)) p h =
           let same : end ≡ mid = cc in
           let all : parts_in read n bytes ≡ Some (xs, mid) = rw (← same) p in
-          sym (ap behind (parts-more n bytes mid rest xs x all e))
+          sym (ap left_over (parts-more n bytes mid rest xs x all e))
 
   -- a part that is not there, behind others
-  pub behind-none : (n k : ℕ) (bytes mid : List ℕ) → Some mid ≡ behind (parts_in read n bytes) → read mid ≡ None
-      → n < k → None ≡ behind (parts_in read k bytes)
+  pub behind-none : (n k : ℕ) (bytes mid : List ℕ) → Some mid ≡ left_over (parts_in read n bytes) → read mid ≡ None
+      → n < k → None ≡ left_over (parts_in read k bytes)
   behind-none n k bytes mid h e l = by (parts_in read n bytes) refl h
     where
-      by : (r : Reading (List A)) → parts_in read n bytes ≡ r → Some mid ≡ behind r
-          → None ≡ behind (parts_in read k bytes)
+      by : (r : Reading (List A)) → parts_in read n bytes ≡ r → Some mid ≡ left_over r
+          → None ≡ left_over (parts_in read k bytes)
       by None p h = cc
       by (Some (xs, end)) p h =
           let same : end ≡ mid = cc in
           let all : parts_in read n bytes ≡ Some (xs, mid) = rw (← same) p in
-          sym (ap behind (parts-none n k bytes mid xs all e l))
+          sym (ap left_over (parts-none n k bytes mid xs all e l))

@@ -3,6 +3,7 @@
 use Rattle.std.specs.Prelude.{ℕ, zero, suc, ◌≡◌, ◌≤◌, ◌<◌, ◌^◌, nat_lt, List, [], ◌∷◌, ◌++◌, length, take, drop, All}
 use Rattle.std.specs.Prelude.{Option, Some, None, Result, Ok, Err, codes, flat_map, bytes_eq, not, if◌then◌else◌}
 use Rattle.std.specs.Int.{w32, to_le_bytes, from_le_bytes}
+use Rattle.tword.specs.Limits.{most_processes, most_segments}
 use Rattle.tplan.specs.declared.plan.Segment.{Segment}
 use Rattle.tplan.specs.declared.plan.Process.{Process}
 use Rattle.tplan.specs.declared.plan.Image.{Image}
@@ -34,8 +35,8 @@ spelling i =
 
 -- an image that has a spelling
 pub record Fits (i : Image) : Type 0 where
-  pub segments : length i.segments ≤ 4096
-  pub processes : length i.processes ≤ 512
+  pub segments : length i.segments ≤ most_segments
+  pub processes : length i.processes ≤ most_processes
   pub lengths : All (λ s. length s.bytes < 2 ^ 32) i.segments
   pub words : AreImageWords i
 
@@ -76,20 +77,20 @@ parts_in part (suc n) bytes =
     then_read (part bytes) (λ x rest. then_read (parts_in part n rest) (λ xs rest. Some (x ∷ xs, rest)))
 
 -- the bytes behind what is read
-abbrev pub behind : {A : Type 0} → Reading A → Option (List ℕ)
-behind None = None
-behind (Some (x, rest)) = Some rest
+abbrev pub left_over : {A : Type 0} → Reading A → Option (List ℕ)
+left_over None = None
+left_over (Some (x, rest)) = Some rest
 
 -- the image whose parts end with the bytes, or what is wrong behind its two counts
-abbrev pub ends_with : Reading Image → Result Image ImageFault
-ends_with None = Err Truncated
-ends_with (Some (i, [])) = Ok i
-ends_with (Some (i, byte ∷ bytes)) = Err Trailing
+abbrev pub whole_image : Reading Image → Result Image ImageFault
+whole_image None = Err Truncated
+whole_image (Some (i, [])) = Ok i
+whole_image (Some (i, byte ∷ bytes)) = Err Trailing
 
 -- segments and processes are read, and no byte may follow
 abbrev pub body_of : ℕ → ℕ → List ℕ → Result Image ImageFault
 body_of segments processes bytes =
-    ends_with (
+    whole_image (
     then_read (parts_in segment_in segments bytes) (λ ss rest.
     then_read (parts_in process_in processes rest) (λ ps rest. Some (record { segments = ss; processes = ps }, rest))))
 
@@ -101,8 +102,8 @@ with_count limit (Some (count, rest)) f = if nat_lt limit count then Err TooMany
 -- the two counts and what follows them
 abbrev pub counted_body : List ℕ → Result Image ImageFault
 counted_body bytes =
-    with_count 4096 (word_in bytes)
-    (λ segments rest. with_count 512 (word_in rest) (λ processes rest. body_of segments processes rest))
+    with_count most_segments (word_in bytes)
+    (λ segments rest. with_count most_processes (word_in rest) (λ processes rest. body_of segments processes rest))
 
 -- the image that bytes stand for, or the lowest fault
 unfoldable pub image_of : List ℕ → Result Image ImageFault

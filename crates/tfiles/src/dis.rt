@@ -4,17 +4,15 @@ ghost use Rattle.std.specs.Prelude.{IfErr, OnOk, ◌≡◌, ◌++◌, codes};
 ghost use Rattle.std.specs.Fmt.{signed_decimal};
 ghost use Rattle.tcode.specs.Table.{function_entry};
 ghost use Rattle.tcode.specs.Texts.{instruction_text};
-ghost use Rattle.tfiles.specs.Disassembly.{at_address, byte_text, dis_text as disassembled, head_size, head_text};
-ghost use Rattle.tfiles.specs.Disassembly.{segment_lines};
+ghost use Rattle.tfiles.specs.Disassembly as spec;
+ghost use Rattle.tfiles.specs.Disassembly.{at_address, byte_text, head_size, head_text, segment_lines};
 ghost use Rattle.tfiles.specs.Failures.{HasRisen, HasStayed};
 ghost use Rattle.tfiles.specs.Outputs.{IsOut, Tells};
 
 use crate::counted::CountedWrite;
 use crate::writing::output::{Output, WriteFault};
 use crate::writing::text::{put_byte, put_hex, put_signed};
-use tcode::{
-    DecodeFault, Function, Instruction, decode_bytes, function_name, operation_name, operation_of,
-};
+use tcode::{DecodeFault, Function, Instruction, decode_bytes, function_name, operation_name};
 use tplan::plan::{Image, Segment};
 use tword::{Kind, Word};
 
@@ -25,7 +23,7 @@ use tword::{Kind, Word};
 /// # Errors
 /// Where the writer fails or takes nothing. Just so many of the first bytes are written as the fault tells.
 pub fn dis_text<W: CountedWrite>(image: &Image, kind: Kind, out: &mut W) -> Result<(), WriteFault>
-    ensures out { IsOut (W.contents out.old) (W.contents out.new) (disassembled kind image.now) result }
+    ensures out { IsOut (W.contents out.old) (W.contents out.new) (spec.dis_text kind image.now) result }
     ensures cause { IfErr result (λ _. HasRisen (W.failures out.old) (W.failures out.new)) }
     ensures stayed { OnOk result (HasStayed (W.failures out.old) (W.failures out.new)) }
 {
@@ -36,7 +34,7 @@ pub fn dis_text<W: CountedWrite>(image: &Image, kind: Kind, out: &mut W) -> Resu
 
 /// The lines of an image.
 fn put_image<W: CountedWrite>(out: &mut Output<'_, W>, image: &Image, kind: Kind)
-    ensures { Tells W.contents W.failures out.old out.new (disassembled kind image.now) }
+    ensures { Tells W.contents W.failures out.old out.new (spec.dis_text kind image.now) }
 {
     for segment in image.segments.as_slice() {
         put_segment(out, segment, kind);
@@ -101,12 +99,9 @@ fn put_head<W: CountedWrite>(
 pub fn put_instruction<W: CountedWrite>(out: &mut Output<'_, W>, instruction: &Instruction)
     ensures { Tells W.contents W.failures out.old out.new (instruction_text instruction.now) }
 {
-    if let Function::Opr = instruction.function
-        && let Some(operation) = operation_of(instruction.operand, Kind::Two)
-    {
-        out.put(operation_name(operation).as_bytes());
-    } else {
-        put_function(out, instruction.function, instruction.operand.signed());
+    match instruction.named_operation() {
+        Some(operation) => out.put(operation_name(operation).as_bytes()),
+        None => put_function(out, instruction.function, instruction.operand.signed()),
     }
 }
 

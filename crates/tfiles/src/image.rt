@@ -3,7 +3,7 @@
 ghost use Rattle.std.specs.Prelude.{◌≡◌, IsErrOf, IsOk, MatchOption, MatchResult, option_map, bytes_eq, take, drop};
 ghost use Rattle.std.specs.Prelude.{true, false};
 ghost use Rattle.tfiles.specs.Images.{image_of, body_of, magic, word_in, segment_in, process_in, parts_in};
-ghost use Rattle.tfiles.specs.Images.{behind, IsImageAnswer, IsPartFault};
+ghost use Rattle.tfiles.specs.Images.{left_over, IsImageAnswer, IsPartFault};
 ghost use Rattle.tfiles.specs.declared.image.ImageFault.TheVariants.{OutOfMemory};
 
 use byteorder::{ByteOrder, LittleEndian};
@@ -128,7 +128,7 @@ fn first_fault(segment_count: u32, process_count: u32, bytes: &[u8]) -> Result<(
 
 /// The bytes behind some segments.
 fn behind_segments(count: u32, bytes: &[u8]) -> Option<&[u8]>
-    ensures { option_map (λ rest. rest.now) result ≡ behind (parts_in segment_in count bytes.now) }
+    ensures { option_map (λ rest. rest.now) result ≡ left_over (parts_in segment_in count bytes.now) }
 {
     let mut rest = bytes;
     for _place in 0..count {
@@ -142,7 +142,7 @@ fn behind_segments(count: u32, bytes: &[u8]) -> Option<&[u8]>
 
 /// The bytes behind some processes.
 fn behind_processes(count: u32, bytes: &[u8]) -> Option<&[u8]>
-    ensures { option_map (λ rest. rest.now) result ≡ behind (parts_in process_in count bytes.now) }
+    ensures { option_map (λ rest. rest.now) result ≡ left_over (parts_in process_in count bytes.now) }
 {
     let mut rest = bytes;
     for _place in 0..count {

@@ -9,9 +9,7 @@ ghost use Rattle.tfiles.specs.Failures.{HasRisen, HasStayed};
 use crate::counted::CountedRead;
 use std::alloc::{AllocError, Global};
 use thiserror::Error;
-
-/// How many bytes a file may have (own choice): 1 GiB.
-pub const LONGEST_FILE: usize = 1_073_741_824;
+use tword::limits::LONGEST_FILE;
 
 /// How many bytes are asked for at once.
 const PIECE: usize = 16_384;

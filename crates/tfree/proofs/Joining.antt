@@ -1,230 +1,234 @@
 -- The rings of a net that is opened, one by one.
-use Rattle.std.proofs.Common.{◌≡◌, ◌≢◌, ℕ, zero, suc, ◌+◌, ◌*◌, ◌/◌, ◌%◌, ◌<◌, ◌≤◌, ◌∷◌, map, refl, sym, ap, ◌∙◌, arith}
-use Rattle.std.proofs.Common.{List, [], length, length-set, get_or, Option, Some, None, ◌⊎◌, inl, inr}
-use Rattle.std.specs.Prelude.{is_some, slice_set, option_map, replicate}
-use Rattle.std.proofs.lemmas.Bool.{cases_eq, cases_lt}
-use Rattle.std.proofs.lemmas.List.{get_or-set_same, get_or-set_other}
+use Rattle.std.proofs.Common.{◌≡◌, ◌≢◌, ℕ, zero, suc, ◌+◌, ◌<◌, ◌∷◌, refl, sym, ap, ◌∙◌, subst, arith, List, [], length}
+use Rattle.std.proofs.Common.{Option, Some, None, ◌⊎◌, inl, inr}
+use Rattle.std.specs.Prelude.{is_some, replicate}
+use Rattle.std.proofs.lemmas.Bool.{cases_eq}
+use Rattle.std.proofs.lemmas.List.{append-nil}
 use Rattle.std.proofs.lemmas.Option.{same_Some}
-use Rattle.tplan.specs.declared.plan.Wire.{Wire}
-use Rattle.std.proofs.lemmas.List.{length-replicate, append-nil}
 use Rattle.tplan.specs.declared.plan.End.{End}
 use Rattle.tnet.specs.Wires.{end_at, far_end}
 use Rattle.tnet.specs.Net.{NetState, inbox_at}
-use Rattle.tfree.specs.Lists.{lying}
 use Rattle.tnet.specs.Sound.{AreWires, IsEnd}
 use Rattle.tnet.proofs.OpenedWires.{wired_ends}
+use Rattle.tfree.specs.Kept.{put_to}
+use Rattle.tfree.specs.Lists.{lying}
+use Rattle.tfree.specs.Rings.{ComesBefore, IsNewRing, AreJoined, AreRings}
+use Rattle.tfree.specs.Slots.{slot_of_end, with_slot, map_slots, AreRowsOfFour}
 use Rattle.tfree.specs.Views.{InView, OutView, got_of, put_of}
-use Rattle.tfree.specs.Rings.{place_of, far_place, in_at, out_at, first_put, AreJoined, AreRings}
+use Rattle.tfree.proofs.LinkSlots.{slot-set_same, slot-set_other, row_length, four-set, four-none, none-held}
 
-module _ (opened : NetState) (p q : ℕ) (ins : List (Option InView)) (outs : List (Option OutView))
-    (j : AreJoined opened p ins outs) (b : p < length outs) (leads : far_place opened.wires p ≡ Some q)
-    (v : InView) (o : OutView) (same : o.id ≡ v.id) (no_got : v.got ≡ []) (put_is : o.put ≡ first_put opened p) where
-  abbrev ins' : List (Option InView)
-  ins' = slice_set ins q (Some v)
+-- two ends are one, or differ by node or by link
+same_end_or_not : (x y : End) → (x ≡ y) ⊎ ((x.node ≢ y.node) ⊎ (x.link ≢ y.link))
+same_end_or_not x y = by (cases_eq x.node y.node) (cases_eq x.link y.link)
+  where
+    by : (x.node ≡ y.node) ⊎ (x.node ≢ y.node) → (x.link ≡ y.link) ⊎ (x.link ≢ y.link)
+        → (x ≡ y) ⊎ ((x.node ≢ y.node) ⊎ (x.link ≢ y.link))
+    by (inl p) (inl q) = inl (ap (λ (n : ℕ). end_at n x.link) p ∙ ap (end_at y.node) q)
+    by (inl p) (inr q) = inr (inr q)
+    by (inr p) q = inr (inl p)
 
-  abbrev outs' : List (Option OutView)
-  outs' = slice_set outs p (Some o)
+differs : (x y : End) → x ≢ y → (x.node ≢ y.node) ⊎ (x.link ≢ y.link)
+differs x y d = by (same_end_or_not x y)
+  where
+    by : (x ≡ y) ⊎ ((x.node ≢ y.node) ⊎ (x.link ≢ y.link)) → (x.node ≢ y.node) ⊎ (x.link ≢ y.link)
+    by (inl e) = absurd (d e)
+    by (inr h) = h
 
-  in_here : in_at ins' q ≡ Some v
-  in_here = get_or-set_same ins q (Some v) None (j.within p q leads b)
+-- the ends before the next link
+before_self : (e : End) → ComesBefore e.node (e.link + 1) e
+before_self e = inr (refl, omega arith)
 
-  out_here : out_at outs' p ≡ Some o
-  out_here = get_or-set_same outs p (Some o) None b
+not_before : (e : End) → ComesBefore e.node e.link e → ⊥
+not_before e (inl h) = omega (arith, h)
+not_before e (inr h) = omega (arith, h.1)
 
-  in_else : (k : ℕ) → k ≢ q → in_at ins' k ≡ in_at ins k
-  in_else k d = get_or-set_other ins q k (Some v) None d
+before_more : (n l : ℕ) (x : End) → ComesBefore n l x → ComesBefore n (l + 1) x
+before_more n l x (inl h) = inl h
+before_more n l x (inr h) = inr (h.0, omega (arith, h.1))
 
-  out_else : (k : ℕ) → k ≢ p → out_at outs' k ≡ out_at outs k
-  out_else k d = get_or-set_other outs p k (Some o) None d
+before_next : (e x : End) → ComesBefore e.node (e.link + 1) x → (x ≡ e) ⊎ ComesBefore e.node e.link x
+before_next e x (inl h) = inr (inl h)
+before_next e x (inr h) = by (cases_eq x.link e.link)
+  where
+    by : (x.link ≡ e.link) ⊎ (x.link ≢ e.link) → (x ≡ e) ⊎ ComesBefore e.node e.link x
+    by (inl q) = inl (ap (λ (n : ℕ). end_at n x.link) h.0 ∙ ap (end_at e.node) q)
+    by (inr d) = inr (inr (h.0, omega (arith, h.1, d)))
 
-  -- no other link leads there
-  only : (k : ℕ) → k < p → far_place opened.wires k ≡ Some q → ⊥
-  only k c h = let e : k ≡ p = same_Some k p (sym (j.back k q h (omega (arith, c, b))) ∙ j.back p q leads b) in
-      omega (arith, e, c)
+before_differs : (e x : End) → ComesBefore e.node e.link x → x ≢ e
+before_differs e x b q = not_before e (subst (ComesBefore e.node e.link) q b)
 
-  pub joined_more : AreJoined opened (p + 1) ins' outs'
+module _ (opened : NetState) (e f : End) (ins : List (List (Option InView))) (outs : List (List (Option OutView)))
+    (wires : AreWires (length opened.nodes) opened.wires) (j : AreJoined opened e.node e.link ins outs)
+    (here : IsEnd (length opened.nodes) e) (leads : far_end opened.wires e ≡ Some f)
+    (v : InView) (o : OutView) (same : o.id ≡ v.id) (no_got : v.got ≡ []) (put_is : o.put ≡ put_to opened e []) where
+  abbrev ins' : List (List (Option InView))
+  ins' = with_slot f.node f.link (Some v) ins
+
+  abbrev outs' : List (List (Option OutView))
+  outs' = with_slot e.node e.link (Some o) outs
+
+  far_there : IsEnd (length opened.nodes) f
+  far_there = (wired_ends (length opened.nodes) opened.wires e f wires.ends leads).1
+
+  in_row : f.node < length ins
+  in_row = omega (arith, far_there.0, j.ins_are.count)
+
+  out_row : e.node < length outs
+  out_row = omega (arith, here.0, j.outs_are.count)
+
+  in_here : slot_of_end ins' f ≡ Some v
+  in_here =
+      slot-set_same ins f.node f.link (Some v) in_row
+      (omega (arith, far_there.1, row_length (length opened.nodes) ins j.ins_are f.node far_there.0))
+
+  out_here : slot_of_end outs' e ≡ Some o
+  out_here =
+      slot-set_same outs e.node e.link (Some o) out_row
+      (omega (arith, here.1, row_length (length opened.nodes) outs j.outs_are e.node here.0))
+
+  in_else : (x : End) → x ≢ f → slot_of_end ins' x ≡ slot_of_end ins x
+  in_else x d = slot-set_other ins f.node f.link (Some v) x.node x.link in_row (differs x f d)
+
+  out_else : (x : End) → x ≢ e → slot_of_end outs' x ≡ slot_of_end outs x
+  out_else x d = slot-set_other outs e.node e.link (Some o) x.node x.link out_row (differs x e d)
+
+  -- no end before leads there
+  only : (x : End) → ComesBefore e.node e.link x → far_end opened.wires x ≡ Some f → ⊥
+  only x b h = before_differs e x b (same_Some x e (sym (wires.back x f h) ∙ wires.back e f leads))
+
+  new_ring : IsNewRing opened e (slot_of_end ins' f) (slot_of_end outs' e)
+  new_ring =
+      record { v = v; o = o; taker_is = in_here; putter_is = out_here; one = same; got = no_got; put = put_is }
+
+  pub joined_more : AreJoined opened e.node (e.link + 1) ins' outs'
   joined_more =
       record {
-        same = length-set ins q (Some v) ∙ j.same ∙ sym (length-set outs p (Some o));
-        within = λ k m h c. omega (
-          arith,
-          j.within k m h (omega (arith, c, length-set outs p (Some o))),
-          length-set ins q (Some v),
-        );
-        back = λ k m h c. j.back k m h (omega (arith, c, length-set outs p (Some o)));
-        there = λ k c. there k c (cases_eq k p);
-        not_yet = λ k c. out_else k (λ e. omega (arith, e, c)) ∙ j.not_yet k (omega (arith, c));
-        pairs = λ k m h c. pairs k m h c (cases_eq k p);
-        alone = λ k h. in_else k (λ e. let l : p + 1 ≤ p = h p (leads ∙ ap (λ (x : ℕ). Some x) (sym e)) in
-            omega (arith, l)) ∙ j.alone k (λ m e. omega (arith, h m e));
-        got = λ k. got k (cases_eq k q);
-        put = λ k c. put k c (cases_eq k p);
+        ins_are = four-set (length opened.nodes) ins f.node f.link (Some v) far_there.0 j.ins_are;
+        outs_are = four-set (length opened.nodes) outs e.node e.link (Some o) here.0 j.outs_are;
+        rings = λ x y h b. rings x y h (before_next e x b);
+        no_out = λ x h. no_out x h;
+        no_in = λ y h. in_else y (λ q. h e (leads ∙ ap (λ (z : End). Some z) (sym q)) (before_self e))
+            ∙ j.no_in y (λ x w b. h x w (before_more e.node e.link x b));
       }
     where
-      there : (k : ℕ) → k < p + 1 → (k ≡ p) ⊎ (k ≢ p) → is_some (out_at outs' k) ≡ is_some (far_place opened.wires k)
-      there k c (inl e) = rw e (ap is_some out_here ∙ ap is_some (sym leads))
-      there k c (inr d) = ap is_some (out_else k d) ∙ j.there k (omega (arith, c, d))
+      rings : (x y : End) → far_end opened.wires x ≡ Some y → (x ≡ e) ⊎ ComesBefore e.node e.link x
+          → IsNewRing opened x (slot_of_end ins' y) (slot_of_end outs' x)
+      rings x y h (inl q) =
+          let to : y ≡ f = same_Some y f (sym h ∙ ap (far_end opened.wires) q ∙ leads) in
+          rw (q, to) new_ring
+      rings x y h (inr b) =
+          rw (in_else y (λ q. only x b (h ∙ ap (λ (z : End). Some z) q)), out_else x (before_differs e x b))
+          (j.rings x y h b)
 
-      pairs : (k m : ℕ) → far_place opened.wires k ≡ Some m → k < p + 1 → (k ≡ p) ⊎ (k ≢ p) → (v : InView)
-          × (o : OutView) × (in_at ins' m ≡ Some v) × (out_at outs' k ≡ Some o) × (o.id ≡ v.id)
-      pairs k m h c (inl e) =
-          let to : m ≡ q = same_Some m q (sym h ∙ ap (far_place opened.wires) e ∙ leads) in
-          (v, o, ap (in_at ins') to ∙ in_here, ap (out_at outs') e ∙ out_here, same)
-      pairs k m h c (inr d) =
-          let was : (v : InView) × (o : OutView) × (in_at ins m ≡ Some v) × (out_at outs k ≡ Some o) × (o.id ≡ v.id) =
-          j.pairs k m h (omega (arith, c, d)) in (
-            was.0,
-            was.1,
-            in_else m (λ e. only k (omega (arith, c, d)) (h ∙ ap (λ (x : ℕ). Some x) e))
-                ∙ was.2,
-            out_else k d ∙ was.3,
-            was.4,
-          )
-
-      got : (k : ℕ) → (k ≡ q) ⊎ (k ≢ q) → got_of (in_at ins' k) ≡ []
-      got k (inl e) = ap (λ (x : ℕ). got_of (in_at ins' x)) e ∙ ap got_of in_here ∙ no_got
-      got k (inr d) = ap got_of (in_else k d) ∙ j.got k
-
-      put : (k : ℕ) → k < p + 1 → (k ≡ p) ⊎ (k ≢ p) → put_of (out_at outs' k) ≡ first_put opened k
-      put k c (inl e) = ap (λ (x : ℕ). put_of (out_at outs' x)) e ∙ ap put_of out_here ∙ put_is
-          ∙ ap (first_put opened) (sym e)
-      put k c (inr d) = ap put_of (out_else k d) ∙ j.put k (omega (arith, c, d))
+      no_out : (x : End) → (far_end opened.wires x ≡ None) ⊎ (ComesBefore e.node (e.link + 1) x → ⊥)
+          → slot_of_end outs' x ≡ None
+      no_out x (inl none) =
+          out_else x (λ q. let n : far_end opened.wires e ≡ None = ap (far_end opened.wires) (sym q) ∙ none in cc)
+          ∙ j.no_out x (inl none)
+      no_out x (inr h) =
+          out_else x (λ q. h (subst (ComesBefore e.node (e.link + 1)) (sym q) (before_self e)))
+          ∙ j.no_out x (inr (λ b. h (before_more e.node e.link x b)))
 
 -- what lies at the other side of a wire is put in first
-pub put_there : (opened : NetState) (p : ℕ) (f : End) → far_end opened.wires (end_at (p / 4) (p % 4)) ≡ Some f
-    → lying (inbox_at opened f) ≡ first_put opened p
-put_there opened p f h = rw h (sym (append-nil (lying (inbox_at opened f))))
+pub put_there : (opened : NetState) (e f : End) → far_end opened.wires e ≡ Some f
+    → lying (inbox_at opened f) ≡ put_to opened e []
+put_there opened e f h = rw h (sym (append-nil (lying (inbox_at opened f))))
 
--- a link without a wire has no ring
-pub joined_bare : (opened : NetState) (p : ℕ) (ins : List (Option InView)) (outs : List (Option OutView))
-    → AreJoined opened p ins outs → far_end opened.wires (end_at (p / 4) (p % 4)) ≡ None
-    → AreJoined opened (p + 1) ins outs
-joined_bare opened p ins outs j bare =
+-- behind the last link of a node
+pub joined_node : (opened : NetState) (n : ℕ) (ins : List (List (Option InView))) (outs : List (List (Option OutView)))
+    → AreWires (length opened.nodes) opened.wires → AreJoined opened n 4 ins outs → AreJoined opened (n + 1) 0 ins outs
+joined_node opened n ins outs wires j =
     record {
-      same = j.same;
-      within = j.within;
-      back = j.back;
-      there = λ k c. there k c (cases_eq k p);
-      not_yet = λ k c. j.not_yet k (omega (arith, c));
-      pairs = λ k m h c. j.pairs k m h (omega (arith, c, other k m h));
-      alone = λ q h. j.alone q (λ k e. let b : p + 1 ≤ k = h k e in omega (arith, b));
-      got = j.got;
-      put = λ k c. put k c (cases_eq k p);
+      ins_are = j.ins_are;
+      outs_are = j.outs_are;
+      rings = λ x y h b. j.rings x y h
+          (earlier x (wired_ends (length opened.nodes) opened.wires x y wires.ends h).0.1 b);
+      no_out = λ x h. no_out x h;
+      no_in = λ y h. j.no_in y (λ x w b. h x w (later x b));
     }
   where
-    no_place : far_place opened.wires p ≡ None
-    no_place = ap (option_map place_of) bare
+    earlier : (x : End) → x.link < 4 → ComesBefore (n + 1) 0 x → ComesBefore n 4 x
+    earlier x c (inl h) = by (cases_eq x.node n)
+      where
+        by : (x.node ≡ n) ⊎ (x.node ≢ n) → ComesBefore n 4 x
+        by (inl q) = inr (q, c)
+        by (inr d) = inl (omega (arith, h, d))
+    earlier x c (inr h) = absurd (omega (arith, h.1))
 
-    other : (k m : ℕ) → far_place opened.wires k ≡ Some m → k ≢ p
-    other k m h e = let n : far_place opened.wires p ≡ Some m = ap (far_place opened.wires) (sym e) ∙ h in cc
+    later : (x : End) → ComesBefore n 4 x → ComesBefore (n + 1) 0 x
+    later x (inl h) = inl (omega (arith, h))
+    later x (inr h) = inl (omega (arith, h.0))
 
-    there : (k : ℕ) → k < p + 1 → (k ≡ p) ⊎ (k ≢ p) → is_some (out_at outs k) ≡ is_some (far_place opened.wires k)
-    there k c (inl e) = rw e (ap is_some (j.not_yet p (omega arith)) ∙ ap is_some (sym no_place))
-    there k c (inr d) = j.there k (omega (arith, c, d))
+    no_out : (x : End) → (far_end opened.wires x ≡ None) ⊎ (ComesBefore (n + 1) 0 x → ⊥) → slot_of_end outs x ≡ None
+    no_out x (inl none) = j.no_out x (inl none)
+    no_out x (inr h) = j.no_out x (inr (λ b. h (later x b)))
 
-    put : (k : ℕ) → k < p + 1 → (k ≡ p) ⊎ (k ≢ p) → put_of (out_at outs k) ≡ first_put opened k
-    put k c (inl e) = rw e (ap put_of (j.not_yet p (omega arith)) ∙ sym (rw bare refl))
-    put k c (inr d) = j.put k (omega (arith, c, d))
-
--- nothing stands among empty slots
-empty_at : {A : Type 0} (n k : ℕ) (d : Option A) → d ≡ None → get_or (replicate n d) k None ≡ None
-empty_at zero k d e = refl
-empty_at (suc n) zero d e = e
-empty_at (suc n) (suc k) d e = empty_at n k d e
-
-pub map_empty : {A B : Type 0} (f : A → B) (n : ℕ) → map (option_map f) (replicate n None) ≡ replicate n None
-map_empty f zero = refl
-map_empty {A} {B} f (suc n) = ap (λ (xs : List (Option B)). None ∷ xs) (map_empty f n)
-
--- a place and its end
-pub place_back : (n l : ℕ) → l < 4 → ((4 * n + l) / 4 ≡ n) × ((4 * n + l) % 4 ≡ l)
-place_back n l b = (omega (arith, b), omega (arith, b))
-
-leads_to : (wires : List Wire) (p q : ℕ) → far_place wires p ≡ Some q → (f : End)
-    × (far_end wires (end_at (p / 4) (p % 4)) ≡ Some f) × (place_of f ≡ q)
-leads_to wires p q h = by (far_end wires (end_at (p / 4) (p % 4))) refl h
-  where
-    by : (o : Option End) → far_end wires (end_at (p / 4) (p % 4)) ≡ o → option_map place_of o ≡ Some q → (f : End)
-        × (far_end wires (end_at (p / 4) (p % 4)) ≡ Some f) × (place_of f ≡ q)
-    by None e k = cc
-    by (Some f) e k = (f, e, same_Some (place_of f) q k)
+map-none : {A B : Type 0} (f : A → B) (n : ℕ)
+    → map_slots f (replicate n (replicate 4 None)) ≡ replicate n (replicate 4 None)
+map-none f zero = refl
+map-none {A} {B} f (suc n) =
+    ap (λ (rows : List (List (Option B))). (None ∷ None ∷ None ∷ None ∷ []) ∷ rows) (map-none f n)
 
 -- before the first ring
-pub joined_none : (opened : NetState) (nodes : ℕ) (ins : List (Option InView)) (outs : List (Option OutView))
-    → AreWires nodes opened.wires → ins ≡ replicate (4 * nodes) None → outs ≡ replicate (4 * nodes) None
-    → AreJoined opened 0 ins outs
-joined_none opened nodes ins outs w a b =
+pub joined_none : {A B : Type 0} (opened : NetState) (nodes : ℕ) (f : A → InView) (g : B → OutView)
+    (ins : List (List (Option A))) (outs : List (List (Option B))) → nodes ≡ length opened.nodes
+    → ins ≡ replicate nodes (replicate 4 None) → outs ≡ replicate nodes (replicate 4 None)
+    → AreJoined opened 0 0 (map_slots f ins) (map_slots g outs)
+joined_none {A} {B} opened nodes f g ins outs all a b =
     record {
-      same = len_in ∙ sym len_out;
-      within = λ p q h c. within p q h;
-      back = λ p q h c. back p q h;
-      there = λ p c. absurd (omega (arith, c));
-      not_yet = λ p c. none_out p;
-      pairs = λ p q h c. absurd (omega (arith, c));
-      alone = λ q h. none_in q;
-      got = λ q. ap got_of (none_in q);
-      put = λ p c. absurd (omega (arith, c));
+      ins_are = subst (λ (n : ℕ). AreRowsOfFour n (map_slots f ins)) all (four-none nodes (map_slots f ins) no_ins);
+      outs_are = subst (λ (n : ℕ). AreRowsOfFour n (map_slots g outs)) all (four-none nodes (map_slots g outs) no_outs);
+      rings = λ x y w h. absurd (nothing x h);
+      no_out = λ x h. none-held nodes (map_slots g outs) no_outs x.node x.link;
+      no_in = λ y h. none-held nodes (map_slots f ins) no_ins y.node y.link;
     }
   where
-    len_in : length ins ≡ 4 * nodes
-    len_in = ap length a ∙ length-replicate (4 * nodes) None
+    no_ins : map_slots f ins ≡ replicate nodes (replicate 4 None)
+    no_ins = ap (map_slots f) a ∙ map-none f nodes
 
-    len_out : length outs ≡ 4 * nodes
-    len_out = ap length b ∙ length-replicate (4 * nodes) None
+    no_outs : map_slots g outs ≡ replicate nodes (replicate 4 None)
+    no_outs = ap (map_slots g) b ∙ map-none g nodes
 
-    none_in : (q : ℕ) → in_at ins q ≡ None
-    none_in q = ap (λ (xs : List (Option InView)). in_at xs q) a ∙ empty_at (4 * nodes) q None refl
-
-    none_out : (p : ℕ) → out_at outs p ≡ None
-    none_out p = ap (λ (xs : List (Option OutView)). out_at xs p) b ∙ empty_at (4 * nodes) p None refl
-
-    within : (p q : ℕ) → far_place opened.wires p ≡ Some q → q < length ins
-    within p q h =
-        let t : (f : End) × (far_end opened.wires (end_at (p / 4) (p % 4)) ≡ Some f) × (place_of f ≡ q) =
-        leads_to opened.wires p q h in
-        let e : IsEnd nodes t.0 = (wired_ends nodes opened.wires (end_at (p / 4) (p % 4)) t.0 w.ends t.1).1 in
-        omega (arith, t.2, e.0, e.1, len_in)
-
-    back : (p q : ℕ) → far_place opened.wires p ≡ Some q → far_place opened.wires q ≡ Some p
-    back p q h =
-        let t : (f : End) × (far_end opened.wires (end_at (p / 4) (p % 4)) ≡ Some f) × (place_of f ≡ q) =
-        leads_to opened.wires p q h in
-        let e : IsEnd nodes t.0 = (wired_ends nodes opened.wires (end_at (p / 4) (p % 4)) t.0 w.ends t.1).1 in
-        let n : (place_of t.0 / 4 ≡ t.0.node) × (place_of t.0 % 4 ≡ t.0.link) = place_back t.0.node t.0.link e.1 in
-        let f : far_end opened.wires (end_at (q / 4) (q % 4)) ≡ Some (end_at (p / 4) (p % 4)) =
-        ap (λ (x : ℕ). far_end opened.wires (end_at (x / 4) (x % 4))) (sym t.2)
-        ∙ rw (n.0, n.1) (w.back (end_at (p / 4) (p % 4)) t.0 t.1) in
-        ap (option_map place_of) f ∙ ap (λ (x : ℕ). Some x) (let d : 4 * (p / 4) + p % 4 ≡ p = omega arith in d)
+    nothing : (x : End) → ComesBefore 0 0 x → ⊥
+    nothing x (inl h) = omega (arith, h)
+    nothing x (inr h) = omega (arith, h.1)
 
 -- behind the last ring
-pub joined_all : (opened : NetState) (ins : List (Option InView)) (outs : List (Option OutView))
-    → length ins ≡ 4 * length opened.nodes → length outs ≡ 4 * length opened.nodes
-    → AreJoined opened (4 * length opened.nodes) ins outs
+pub joined_all : (opened : NetState) (ins : List (List (Option InView))) (outs : List (List (Option OutView)))
+    → AreWires (length opened.nodes) opened.wires → AreJoined opened (length opened.nodes) 0 ins outs
     → AreRings opened ins outs
-joined_all opened ins outs a b j =
+joined_all opened ins outs wires j =
     record {
-      ins_are = a;
-      outs_are = b;
-      wired_in = λ q c. wired_in q c (far_place opened.wires q) refl;
-      wired_out = λ p c. j.there p (omega (arith, b, c));
-      pairs = λ p q c h. let t : (v : InView) × (o : OutView) × (in_at ins q ≡ Some v) × (out_at outs p ≡ Some o)
-          × (o.id ≡ v.id) = j.pairs p q h (omega (arith, b, c)) in rw (t.2, t.3) (ap (λ (i : _). Some i) (sym t.4));
-      got = j.got;
-      put = λ n l c d. let e : ((4 * n + l) / 4 ≡ n) × ((4 * n + l) % 4 ≡ l) = place_back n l d in
-          j.put (4 * n + l) (omega (arith, c, d)) ∙ rw (e.0, e.1) refl;
+      ins_are = j.ins_are;
+      outs_are = j.outs_are;
+      wired_in = λ x. wired_in x (far_end opened.wires x) refl;
+      wired_out = λ x. wired_out x (far_end opened.wires x) refl;
+      pairs = λ x y h. let t : IsNewRing opened x (slot_of_end ins y) (slot_of_end outs x) = ring x y h in
+          rw (t.taker_is, t.putter_is) (ap (λ (i : _). Some i) (sym t.one));
+      got = λ x. got x (far_end opened.wires x) refl;
+      put = λ x. put x (far_end opened.wires x) refl;
     }
   where
-    wired_in : (q : ℕ) → q < length ins → (o : Option ℕ) → far_place opened.wires q ≡ o
-        → is_some (in_at ins q) ≡ is_some (far_place opened.wires q)
-    wired_in q c (Some p) h =
-        let in_outs : q < length outs = omega (arith, c, j.same) in
-        let back : far_place opened.wires p ≡ Some q = j.back q p h in_outs in
-        let t : (v : InView) × (o : OutView) × (in_at ins q ≡ Some v) × (out_at outs p ≡ Some o) × (o.id ≡ v.id) =
-        j.pairs p q back (omega (arith, j.within q p h in_outs, a)) in
-        ap is_some t.2 ∙ ap is_some (sym h)
-    wired_in q c None h = ap is_some (j.alone q (λ p e. by p e (cases_lt p (length outs)))) ∙ ap is_some (sym h)
-      where
-        by : (p : ℕ) → far_place opened.wires p ≡ Some q → (p < length outs) ⊎ (length outs ≤ p)
-            → 4 * length opened.nodes ≤ p
-        by p e (inl d) = let back : far_place opened.wires q ≡ Some p = j.back p q e d in cc
-        by p e (inr d) = omega (arith, d, b)
+    ring : (x y : End) → far_end opened.wires x ≡ Some y → IsNewRing opened x (slot_of_end ins y) (slot_of_end outs x)
+    ring x y h = j.rings x y h (inl (wired_ends (length opened.nodes) opened.wires x y wires.ends h).0.0)
+
+    no_in : (x : End) → far_end opened.wires x ≡ None → slot_of_end ins x ≡ None
+    no_in x h = j.no_in x (λ y e b. let back : far_end opened.wires x ≡ Some y = wires.back y x e in cc)
+
+    wired_in : (x : End) (o : Option End) → far_end opened.wires x ≡ o
+        → is_some (slot_of_end ins x) ≡ is_some (far_end opened.wires x)
+    wired_in x (Some y) h = ap is_some (ring y x (wires.back x y h)).taker_is ∙ ap is_some (sym h)
+    wired_in x None h = ap is_some (no_in x h) ∙ ap is_some (sym h)
+
+    wired_out : (x : End) (o : Option End) → far_end opened.wires x ≡ o
+        → is_some (slot_of_end outs x) ≡ is_some (far_end opened.wires x)
+    wired_out x (Some y) h = ap is_some (ring x y h).putter_is ∙ ap is_some (sym h)
+    wired_out x None h = ap is_some (j.no_out x (inl h)) ∙ ap is_some (sym h)
+
+    got : (x : End) (o : Option End) → far_end opened.wires x ≡ o → got_of (slot_of_end ins x) ≡ []
+    got x (Some y) h = let t = ring y x (wires.back x y h) in ap got_of t.taker_is ∙ t.got
+    got x None h = ap got_of (no_in x h)
+
+    put : (x : End) (o : Option End) → far_end opened.wires x ≡ o → put_of (slot_of_end outs x) ≡ put_to opened x []
+    put x (Some y) h = let t = ring x y h in ap put_of t.putter_is ∙ t.put
+    put x None h = ap put_of (j.no_out x (inl h)) ∙ rw h refl

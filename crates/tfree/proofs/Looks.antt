@@ -1,7 +1,7 @@
 -- What is seen of a ring where its other end is at hand.
-use Rattle.std.proofs.Common.{◌≡◌, ℕ, ◌+◌, ◌<◌, arith, length, nat_lt, Bool, true, refl, sym, ap, ◌∙◌, List, [], ◌∷◌}
-use Rattle.std.proofs.Common.{◌++◌, map, get_or, Option, Some, None, false}
-use Rattle.std.specs.Prelude.{slice_get, option_map, MatchOption, IsTrue}
+use Rattle.std.proofs.Common.{◌≡◌, ℕ, ◌+◌, ◌<◌, arith, length, nat_lt, Bool, true, refl, sym, ap, ◌∙◌, List, ◌∷◌}
+use Rattle.std.proofs.Common.{◌++◌, get_or, Option, Some, None, false}
+use Rattle.std.specs.Prelude.{option_map, MatchOption, IsTrue}
 use Rattle.std.proofs.lemmas.Option.{same_Some}
 use Rattle.std.proofs.lemmas.Bool.{lt-ltb}
 use Rattle.tlink.specs.Node.{NodeState}
@@ -10,30 +10,29 @@ use Rattle.tfree.specs.declared.stamp.Sent.{Sent}
 use Rattle.tfree.specs.Lists.{event_taking}
 use Rattle.tfree.specs.Ends.{IsFront}
 use Rattle.tfree.specs.Views.{InView, OutView}
-use Rattle.tfree.specs.Steps.{HasRoom}
-use Rattle.tfree.proofs.Slots.{seen_at, same_place, same_rest, same_head}
+use Rattle.tfree.specs.declared.steps.OwnLink.{OwnLink}
+use Rattle.tfree.specs.Slots.{slot_at, map_slots}
+use Rattle.tfree.specs.Steps.{AnswersRoom}
+use Rattle.tfree.proofs.LinkSlots.{slot_found}
+use Rattle.tfree.proofs.Slots.{same_place, same_rest, same_head}
 
-module _ {A B : Type 0} (f : A → B) where
-  -- the end that stands at a place
-  pub end_there : (own : Option ℕ) (place q : ℕ) (ends : List (Option A)) (slot : Option A) (end : A) (o : B)
-      → own ≡ Some place → slot ≡ get_or ends place slot → slot ≡ Some end
-      → own ≡ Some q → slice_get (map (option_map f) ends) q ≡ Some (Some o) → o ≡ f end
-  end_there own place q ends slot end o e is some g there =
-      let same : q ≡ place = same_place own place q e g in
-      let at : slice_get (map (option_map f) ends) place ≡ Some (Some o) =
-      ap (slice_get (map (option_map f) ends)) (sym same) ∙ there in
-      same_Some o (f end) (seen_at (option_map f) ends place slot (Some o) is at ∙ ap (option_map f) some)
+module _ {A B : Type 0} (f : A → B) (ends : List (List (Option A))) (own : Option OwnLink) (p q : OwnLink)
+    (row : List (Option A)) (l : ℕ) (slot : Option A) (o : B) (p_is : own ≡ Some p) (l_is : l ≡ p.link)
+    (row_is : row ≡ get_or ends p.node row) (slot_is : slot ≡ get_or row l slot) (q_is : own ≡ Some q)
+    (there : slot_at (map_slots f ends) q.node q.link ≡ Some o) where
+  seen : option_map f slot ≡ Some o
+  seen =
+      slot_found f ends p.node l row slot row_is slot_is o
+      (ap (slot_at (map_slots f ends) p.node) l_is
+      ∙ ap (λ (x : OwnLink). slot_at (map_slots f ends) x.node x.link) (sym (same_place own p q p_is q_is)) ∙ there)
+
+  -- the end that stands at a link
+  pub end_there : (end : A) → get_or row l slot ≡ Some end → o ≡ f end
+  end_there end e = same_Some o (f end) (sym seen ∙ ap (option_map f) (slot_is ∙ e))
 
   -- none stands there
-  pub none_there : (own : Option ℕ) (place q : ℕ) (ends : List (Option A)) (slot : Option A) (o : B) → own ≡ Some place
-      → slot ≡ get_or ends place slot → slot ≡ None
-      → own ≡ Some q → slice_get (map (option_map f) ends) q ≡ Some (Some o) → ⊥
-  none_there own place q ends slot o e is none g there =
-      let same : q ≡ place = same_place own place q e g in
-      let at : slice_get (map (option_map f) ends) place ≡ Some (Some o) =
-      ap (slice_get (map (option_map f) ends)) (sym same) ∙ there in
-      let h : Some o ≡ None = seen_at (option_map f) ends place slot (Some o) is at ∙ ap (option_map f) none in
-      cc
+  pub none_there : get_or row l slot ≡ None → ⊥
+  none_there e = let h : Some o ≡ None = sym seen ∙ ap (option_map f) (slot_is ∙ e) in cc
 
 -- nothing was answered, so nothing is seen
 pub none_seen : {A : Type 0} (r : Option A) (P : Type 0) (Q : A → Type 0) → MatchOption r P Q → r ≡ None → P
@@ -52,16 +51,11 @@ pub none_enabled : (l : ℕ) (node : NodeState) (front p : Sent) → front ≡ p
     → is_node_enabled (event_taking l p.packet) node ≡ false
 none_enabled l node front p e h = ap (λ (s : Sent). is_node_enabled (event_taking l s.packet) node) (sym e) ∙ h
 
--- where nothing is seen, nothing lies there
-pub nothing_due : (got seen put : List Sent) (p : Sent) (rest : List Sent) → got ++ seen ≡ put → seen ≡ []
-    → got ++ p ∷ rest ≡ put → ⊥
-nothing_due got seen put p rest all none is =
-    let h : [] ≡ p ∷ rest = sym none ∙ same_rest got seen (p ∷ rest) (all ∙ sym is) in cc
-
 -- room with the other end at hand
-pub room_there : (own : Option ℕ) (o : OutView) (ins : List (Option InView)) (end : InView) (r : Bool)
+pub room_there : (own : Option OwnLink) (o : OutView) (ins : List (List (Option InView))) (end : InView) (r : Bool)
     → r ≡ nat_lt (length o.put) (length end.got + 2)
-    → ((q : ℕ) (w : InView) → own ≡ Some q → slice_get ins q ≡ Some (Some w) → w ≡ end) → HasRoom own (Some o) ins r
+    → ((q : OwnLink) (w : InView) → own ≡ Some q → slot_at ins q.node q.link ≡ Some w → w ≡ end)
+    → AnswersRoom own (Some o) ins r
 room_there own o ins end r e there =
     record {
       bare = λ e. cc;

@@ -1,5 +1,5 @@
 -- The event that a phase would do next, from phase to phase.
-use Rattle.std.proofs.Common.{◌≡◌, ℕ, suc, ◌+◌, ◌<◌, ◌∙◌, refl, sym, subst, arith, List, Bool, true, false, inl, inr}
+use Rattle.std.proofs.Common.{◌≡◌, ℕ, suc, ◌+◌, ◌<◌, ◌∙◌, refl, subst, arith, List, true, false, inl, inr}
 use Rattle.std.specs.Prelude.{Result, Ok, Err, IfErr, max}
 use Rattle.tfree.specs.declared.stamp.OwnEvent.{OwnEvent}
 use Rattle.tfree.specs.declared.log.TurnFault.{TurnFault}

@@ -1,9 +1,9 @@
 -- How many nodes each worker gets, and its portion of a list.
-use Rattle.std.proofs.Common.{◌≡◌, ℕ, ◌+◌, ◌*◌, ◌-◌, ◌≤◌, sym, ap, ◌∙◌, arith, List, map, take, drop}
+use Rattle.std.proofs.Common.{◌≡◌, ℕ, ◌+◌, ◌*◌, ◌-◌, sym, ap, ◌∙◌, arith, List, map, take, drop}
 use Rattle.std.specs.Prelude.{min}
 use Rattle.std.proofs.lemmas.List.{drop-drop, drop-map, take-map}
-use Rattle.tfree.specs.Shares.{share}
-use Rattle.tfree.specs.Rings.{part_of}
+use Rattle.tnet.specs.Sharing.{share}
+use Rattle.tfree.specs.Rings.{portion_of}
 use Rattle.tfree.specs.Opened.{first_of, owned_of}
 
 -- one worker more
@@ -22,18 +22,11 @@ owned_is n w k = omega (arith, next_first n w k)
 pub first_more : (n w k : ℕ) → first_of n w k + owned_of n w k ≡ first_of n w (k + 1)
 first_more n w k = omega (arith, next_first n w k)
 
-pub first_within : (n w k : ℕ) → first_of n w k ≤ n
-first_within n w k = omega arith
-
 -- the portion of a list of which so many were given away
 pub portion : {A B : Type 0} (f : A → B) (xs : List A) (whole : List B) (a b : ℕ) → map f xs ≡ drop a whole
-    → map f (take b xs) ≡ part_of a b whole
+    → map f (take b xs) ≡ portion_of a b whole
 portion f xs whole a b h = sym (take-map f b xs) ∙ ap (take b) h
 
 pub rest : {A B : Type 0} (f : A → B) (xs : List A) (whole : List B) (a b : ℕ) → map f xs ≡ drop a whole
     → map f (drop b xs) ≡ drop (a + b) whole
 rest f xs whole a b h = sym (drop-map f b xs) ∙ ap (drop b) h ∙ drop-drop b a whole
-
--- one element more was moved
-pub one_dropped : {A : Type 0} (k : ℕ) (xs : List A) → drop 1 (drop k xs) ≡ drop (k + 1) xs
-one_dropped k xs = drop-drop 1 k xs

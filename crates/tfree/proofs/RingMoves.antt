@@ -1,9 +1,9 @@
 -- What an event of a node does to the ends of the rings of its worker.
 use Rattle.std.proofs.Common.{◌≡◌, ◌≢◌, ℕ, ◌+◌, ◌<◌, refl, sym, ap, ◌∙◌, arith, List, [], ◌∷◌, ◌++◌, length, false, Ok}
 use Rattle.std.proofs.Common.{Err, Option, Some, None, ◌⊎◌, inl, inr}
-use Rattle.std.specs.Prelude.{IsSome, is_some, slice_set, slice_index_or, option_map}
+use Rattle.std.specs.Prelude.{IsSome, is_some, slice_index_or, option_map}
 use Rattle.std.proofs.lemmas.Bool.{cases_eq, and_left, and_right, ne_eqb}
-use Rattle.std.proofs.lemmas.List.{append-nil, get_or-set_same, get_or-set_other}
+use Rattle.std.proofs.lemmas.List.{append-nil}
 use Rattle.tlink.specs.declared.event.Packet.{Packet}
 use Rattle.tlink.specs.declared.event.Packet.TheVariants as packet
 use Rattle.tlink.specs.declared.event.NodeEvent.{NodeEvent}
@@ -18,7 +18,9 @@ use Rattle.tfree.specs.Lists.{taken_packet}
 use Rattle.tfree.specs.Lists.{event_taking}
 use Rattle.tfree.specs.Views.{InView, OutView, got_of, put_of, with_got, with_put, Share}
 use Rattle.tfree.specs.Logs.{packet_of, sent_as, IsActOf}
-use Rattle.tfree.specs.Kept.{link_place, own_end}
+use Rattle.tfree.specs.Kept.{own_end}
+use Rattle.tfree.specs.Slots.{slot_at, with_slot}
+use Rattle.tfree.proofs.LinkSlots.{slot-set_same, slot-set_other}
 use Rattle.tfree.proofs.RingOwners.{put_now, put-nothing}
 use Rattle.tfree.proofs.NodeAnswers.{EmitsOn, EmitsNone}
 use Rattle.tfree.proofs.Keeps.{put_there}
@@ -49,59 +51,58 @@ takes-elsewhere : (n l m k : ℕ) (p : Packet) (t : ℕ) → (n ≢ m) ⊎ (l �
 takes-elsewhere n l m k (packet.Data byte last) t h = rw (other_ends n l m k h) refl
 takes-elsewhere n l m k packet.Ack t h = rw (other_ends n l m k h) refl
 
--- places of links differ where node or link does
-pub same_or_not : (i l j k : ℕ) → l < 4 → k < 4 → ((j ≡ i) × (k ≡ l))
-    ⊎ ((link_place j k ≢ link_place i l) × ((i ≢ j) ⊎ (l ≢ k)))
-same_or_not i l j k b c = by (cases_eq j i) (cases_eq k l)
+-- two links are one, or differ by node or by number
+pub same_or_not : (i l j k : ℕ) → ((j ≡ i) × (k ≡ l)) ⊎ ((j ≢ i) ⊎ (k ≢ l))
+same_or_not i l j k = by (cases_eq j i) (cases_eq k l)
   where
-    by : (j ≡ i) ⊎ (j ≢ i) → (k ≡ l) ⊎ (k ≢ l) → ((j ≡ i) × (k ≡ l))
-        ⊎ ((link_place j k ≢ link_place i l) × ((i ≢ j) ⊎ (l ≢ k)))
+    by : (j ≡ i) ⊎ (j ≢ i) → (k ≡ l) ⊎ (k ≢ l) → ((j ≡ i) × (k ≡ l)) ⊎ ((j ≢ i) ⊎ (k ≢ l))
     by (inl p) (inl q) = inl (p, q)
-    by (inl p) (inr q) = inr (λ e. q (omega (arith, e, p)), inr (λ e. q (sym e)))
-    by (inr p) q = inr (λ e. p (omega (arith, e, b, c)), inl (λ e. p (sym e)))
+    by (inl p) (inr q) = inr (inr q)
+    by (inr p) q = inr (inl p)
 
 more_got : (x : Option InView) (more : List Sent) → IsSome x → got_of (option_map (with_got more) x) ≡ got_of x ++ more
 more_got None more h = cc
 more_got (Some v) more h = refl
 
 -- a packet was taken at a link
-module _ (s : Share) (i l : ℕ) (sent : Sent) (ins : List (Option InView)) (x x' : Option InView) (small : l < 4)
-    (here : link_place i l < length ins) (is : x ≡ slice_index_or ins (link_place i l) None)
+module _ (s : Share) (i l : ℕ) (sent : Sent) (ins : List (List (Option InView))) (x x' : Option InView)
+    (here : i < length ins) (four : l < length (slice_index_or ins i [])) (is : x ≡ slot_at ins i l)
     (some : IsSome x) (more : x' ≡ option_map (with_got (sent ∷ [])) x) where
   pub took_in : (j k : ℕ) → j < s.owned → k < 4
-      → got_of (slice_index_or (slice_set ins (link_place i l) x') (link_place j k) None)
-      ≡ got_of (slice_index_or ins (link_place j k) None)
+      → got_of (slot_at (with_slot i l x' ins) j k)
+      ≡ got_of (slot_at ins j k)
       ++ taken_packet (s.first + i) (event_taking l sent.packet) (own_end s j k) sent.stamp
-  took_in j k b c = by (same_or_not i l j k small c)
+  took_in j k b c = by (same_or_not i l j k)
     where
-      by : ((j ≡ i) × (k ≡ l)) ⊎ ((link_place j k ≢ link_place i l) × ((i ≢ j) ⊎ (l ≢ k)))
-          → got_of (slice_index_or (slice_set ins (link_place i l) x') (link_place j k) None)
-          ≡ got_of (slice_index_or ins (link_place j k) None)
+      by : ((j ≡ i) × (k ≡ l)) ⊎ ((j ≢ i) ⊎ (k ≢ l))
+          → got_of (slot_at (with_slot i l x' ins) j k)
+          ≡ got_of (slot_at ins j k)
           ++ taken_packet (s.first + i) (event_taking l sent.packet) (own_end s j k) sent.stamp
       by (inl h) =
           rw (h.0, h.1)
-          (ap got_of (get_or-set_same ins (link_place i l) x' None here ∙ more) ∙ more_got x (sent ∷ []) some
+          (ap got_of (slot-set_same ins i l x' here four ∙ more) ∙ more_got x (sent ∷ []) some
           ∙ ap (λ (y : Option InView). got_of y ++ sent ∷ []) is
-          ∙ ap (λ (ys : List Sent). got_of (slice_index_or ins (link_place i l) None) ++ ys)
+          ∙ ap (λ (ys : List Sent). got_of (slot_at ins i l) ++ ys)
           (sym (takes-here (s.first + i) l sent)))
       by (inr h) =
-          ap got_of (get_or-set_other ins (link_place i l) (link_place j k) x' None h.0)
-          ∙ sym (append-nil (got_of (slice_index_or ins (link_place j k) None)))
-          ∙ ap (λ (ys : List Sent). got_of (slice_index_or ins (link_place j k) None) ++ ys)
-          (sym (takes-elsewhere (s.first + i) l (s.first + j) k sent.packet sent.stamp (apart h.1)))
+          ap got_of (slot-set_other ins i l x' j k here h)
+          ∙ sym (append-nil (got_of (slot_at ins j k)))
+          ∙ ap (λ (ys : List Sent). got_of (slot_at ins j k) ++ ys)
+          (sym (takes-elsewhere (s.first + i) l (s.first + j) k sent.packet sent.stamp (apart h)))
         where
-          apart : (i ≢ j) ⊎ (l ≢ k) → (s.first + i ≢ s.first + j) ⊎ (l ≢ k)
+          apart : (j ≢ i) ⊎ (k ≢ l) → (s.first + i ≢ s.first + j) ⊎ (l ≢ k)
           apart (inl d) = inl (λ e. d (omega (arith, e)))
-          apart (inr d) = inr d
+          apart (inr d) = inr (λ e. d (sym e))
 
 -- nothing was taken
-pub took_none : (s : Share) (i l : ℕ) (e : NodeEvent) (t : ℕ) (ins : List (Option InView)) → IsActOf l e → (j k : ℕ)
+pub took_none : (s : Share) (i l : ℕ) (e : NodeEvent) (t : ℕ) (ins : List (List (Option InView))) → IsActOf l e
+    → (j k : ℕ)
     → j < s.owned → k < 4
-    → got_of (slice_index_or ins (link_place j k) None) ≡ got_of (slice_index_or ins (link_place j k) None)
+    → got_of (slot_at ins j k) ≡ got_of (slot_at ins j k)
     ++ taken_packet (s.first + i) e (own_end s j k) t
 took_none s i l e t ins h j k b c =
     rw (takes-none (s.first + i) l e (own_end s j k) t h)
-    (sym (append-nil (got_of (slice_index_or ins (link_place j k) None))))
+    (sym (append-nil (got_of (slot_at ins j k))))
 
 -- an answer that emits nothing puts nothing anywhere
 none_now : (f : Option End) (e : End) (n st : ℕ) (a : Answer) → EmitsNone a → put_now f e n st a ≡ []
@@ -117,13 +118,13 @@ puts-none opened f n st a h = by (far_end opened.wires f) refl
     by None e = rw e refl
     by (Some x) e = rw e (none_now (Some f) x n st a h)
 
-pub put_none : (s : Share) (i st : ℕ) (a : Answer) (outs : List (Option OutView)) → EmitsNone a → (j k : ℕ)
+pub put_none : (s : Share) (i st : ℕ) (a : Answer) (outs : List (List (Option OutView))) → EmitsNone a → (j k : ℕ)
     → j < s.owned → k < 4
-    → put_of (slice_index_or outs (link_place j k) None) ≡ put_of (slice_index_or outs (link_place j k) None)
+    → put_of (slot_at outs j k) ≡ put_of (slot_at outs j k)
     ++ put_there s.opened (own_end s j k) (s.first + i) st a
 put_none s i st a outs h j k b c =
     rw (puts-none s.opened (own_end s j k) (s.first + i) st a h)
-    (sym (append-nil (put_of (slice_index_or outs (link_place j k) None))))
+    (sym (append-nil (put_of (slot_at outs j k))))
 
 -- what is emitted on a link is put there
 now_here : (n l : ℕ) (x : End) (st : ℕ) (a : Answer) → EmitsOn l a
@@ -144,8 +145,8 @@ more_put None more h = cc
 more_put (Some v) more h = refl
 
 -- something was put at a link, if it has a wire
-module _ (s : Share) (i l st : ℕ) (a : Answer) (outs : List (Option OutView)) (x x' : Option OutView) (small : l < 4)
-    (here : link_place i l < length outs) (is : x ≡ slice_index_or outs (link_place i l) None)
+module _ (s : Share) (i l st : ℕ) (a : Answer) (outs : List (List (Option OutView))) (x x' : Option OutView)
+    (here : i < length outs) (four : l < length (slice_index_or outs i [])) (is : x ≡ slot_at outs i l)
     (wired : is_some x ≡ is_some (far_end s.opened.wires (own_end s i l))) (on : EmitsOn l a)
     (more : x' ≡ option_map (with_put (sent_as (packet_of a) st)) x) where
   now_there : (o : Option End) → far_end s.opened.wires (own_end s i l) ≡ o → is_some x ≡ is_some o
@@ -160,32 +161,32 @@ module _ (s : Share) (i l st : ℕ) (a : Answer) (outs : List (Option OutView)) 
       rw (e, more) (more_put x (sent_as (packet_of a) st) w
       ∙ ap (λ (ys : List Sent). put_of x ++ ys) (sym (now_here (s.first + i) l z st a on)))
 
-  elsewhere : (j k : ℕ) → (i ≢ j) ⊎ (l ≢ k) → (o : Option End) → far_end s.opened.wires (own_end s j k) ≡ o
+  elsewhere : (j k : ℕ) → (j ≢ i) ⊎ (k ≢ l) → (o : Option End) → far_end s.opened.wires (own_end s j k) ≡ o
       → put_there s.opened (own_end s j k) (s.first + i) st a ≡ []
   elsewhere j k d None e = rw e refl
   elsewhere j k (inl d) (Some z) e = rw e (put-nothing (own_end s j k) z (s.first + i) st a (λ q. d (omega (arith, q))))
   elsewhere j k (inr d) (Some z) e = by (cases_eq i j)
     where
       by : (i ≡ j) ⊎ (i ≢ j) → put_there s.opened (own_end s j k) (s.first + i) st a ≡ []
-      by (inl q) = rw (e, q) (now_elsewhere (s.first + j) l k z st a on d)
+      by (inl q) = rw (e, q) (now_elsewhere (s.first + j) l k z st a on (λ h. d (sym h)))
       by (inr q) = rw e (put-nothing (own_end s j k) z (s.first + i) st a (λ h. q (omega (arith, h))))
 
   pub put_out : (j k : ℕ) → j < s.owned → k < 4
-      → put_of (slice_index_or (slice_set outs (link_place i l) x') (link_place j k) None)
-      ≡ put_of (slice_index_or outs (link_place j k) None) ++ put_there s.opened (own_end s j k) (s.first + i) st a
-  put_out j k b c = by (same_or_not i l j k small c)
+      → put_of (slot_at (with_slot i l x' outs) j k)
+      ≡ put_of (slot_at outs j k) ++ put_there s.opened (own_end s j k) (s.first + i) st a
+  put_out j k b c = by (same_or_not i l j k)
     where
-      by : ((j ≡ i) × (k ≡ l)) ⊎ ((link_place j k ≢ link_place i l) × ((i ≢ j) ⊎ (l ≢ k)))
-          → put_of (slice_index_or (slice_set outs (link_place i l) x') (link_place j k) None)
-          ≡ put_of (slice_index_or outs (link_place j k) None)
+      by : ((j ≡ i) × (k ≡ l)) ⊎ ((j ≢ i) ⊎ (k ≢ l))
+          → put_of (slot_at (with_slot i l x' outs) j k)
+          ≡ put_of (slot_at outs j k)
           ++ put_there s.opened (own_end s j k) (s.first + i) st a
       by (inl h) =
           rw (h.0, h.1)
-          (ap put_of (get_or-set_same outs (link_place i l) x' None here)
+          (ap put_of (slot-set_same outs i l x' here four)
           ∙ now_there (far_end s.opened.wires (own_end s i l)) refl wired
           ∙ ap (λ (y : Option OutView). put_of y ++ put_there s.opened (own_end s i l) (s.first + i) st a) is)
       by (inr h) =
-          ap put_of (get_or-set_other outs (link_place i l) (link_place j k) x' None h.0)
-          ∙ sym (append-nil (put_of (slice_index_or outs (link_place j k) None)))
-          ∙ ap (λ (ys : List Sent). put_of (slice_index_or outs (link_place j k) None) ++ ys)
-          (sym (elsewhere j k h.1 (far_end s.opened.wires (own_end s j k)) refl))
+          ap put_of (slot-set_other outs i l x' j k here h)
+          ∙ sym (append-nil (put_of (slot_at outs j k)))
+          ∙ ap (λ (ys : List Sent). put_of (slot_at outs j k) ++ ys)
+          (sym (elsewhere j k h (far_end s.opened.wires (own_end s j k)) refl))

@@ -1,27 +1,28 @@
 -- The shares of all workers of an opening.
-use Rattle.std.proofs.Common.{◌≡◌, ◌≢◌, ℕ, zero, suc, ◌+◌, ◌*◌, ◌-◌, ◌<◌, ◌≤◌, refl, sym, ap, ◌∙◌, arith, List, [], ◌∷◌}
-use Rattle.std.proofs.Common.{◌++◌, length, map, Option, Some, None}
-use Rattle.std.specs.Prelude.{All, min, slice_get, slice_index_or, option_map}
+use Rattle.std.proofs.Common.{◌≡◌, ◌≢◌, ℕ, zero, suc, ◌+◌, ◌-◌, ◌<◌, ◌≤◌, refl, sym, ap, ◌∙◌, arith, List, [], ◌∷◌}
+use Rattle.std.proofs.Common.{◌++◌, length, map, Option, Some}
+use Rattle.std.specs.Prelude.{All, min, slice_get, option_map}
 use Rattle.std.proofs.lemmas.List.{length-map, map-append}
 use Rattle.std.proofs.lemmas.List.Elements.{All-nil, All-head, All-tail, All-append, All-cons, All-map, All-weaker}
 use Rattle.std.proofs.lemmas.Option.{same_Some, slice_get-map, slice_get_within}
 use Rattle.tplan.specs.declared.plan.End.{End}
 use Rattle.tnet.specs.Wires.{far_end}
 use Rattle.tnet.specs.Net.{NetState}
-use Rattle.tnet.specs.Sound.{IsSound, IsEnd}
-use Rattle.tnet.proofs.OpenedWires.{wired_ends}
+use Rattle.tnet.specs.Sound.{IsSound}
 use Rattle.tfree.specs.Views.{InView, OutView, Share}
-use Rattle.tfree.specs.Kept.{link_place, IsMine}
-use Rattle.tfree.specs.Shares.{share, first_nodes}
+use Rattle.tfree.specs.Slots.{slot_at}
+use Rattle.tfree.specs.Kept.{IsMine}
+use Rattle.tnet.specs.Sharing.{share}
+use Rattle.tfree.specs.Shares.{first_nodes}
 use Rattle.tfree.specs.Rings.{AreRings}
 use Rattle.tfree.specs.Opened.{first_of, owned_of, IsShareOf, AreShares, AreApart, AreOf}
 use Rattle.tfree.specs.Allotments.{share_at}
-use Rattle.tfree.proofs.FreshWorkers.{in_id_at, out_id_at, far_of}
+use Rattle.tfree.proofs.FreshWorkers.{in_id_at, out_id_at}
 use Rattle.tfree.proofs.BroughtLogs.{number_here}
 use Rattle.tfree.proofs.NodeOwners.{first-length, first-below}
 use Rattle.tfree.proofs.Portions.{next_first}
 
-module _ (opened : NetState) (count : ℕ) (ins : List (Option InView)) (outs : List (Option OutView))
+module _ (opened : NetState) (count : ℕ) (ins : List (List (Option InView))) (outs : List (List (Option OutView)))
     (sound : IsSound opened) (few : length opened.nodes ≤ 64) (some : 0 < count) (r : AreRings opened ins outs) where
   abbrev n : ℕ
   n = length opened.nodes
@@ -58,23 +59,18 @@ module _ (opened : NetState) (count : ℕ) (ins : List (Option InView)) (outs : 
 
   -- the ends of a ring that two workers share
   one_ring : (e f : End) (k m : ℕ) → far_end opened.wires e ≡ Some f → IsMine (at k) e.node → IsMine (at m) f.node
-      → slice_index_or (at k).ins (link_place (e.node - (at k).first) e.link) None
-      ≡ slice_index_or (at m).outs (link_place (f.node - (at m).first) f.link) None
+      → slot_at (at k).ins (e.node - (at k).first) e.link ≡ slot_at (at m).outs (f.node - (at m).first) f.link
   one_ring e f k m wire mine yours =
-      let ends : IsEnd n e × IsEnd n f = wired_ends n opened.wires e f sound.wires.ends wire in
       let back : far_end opened.wires f ≡ Some e = sound.wires.back e f wire in
       let i : ℕ = e.node - first_of n count k in
       let j : ℕ = f.node - first_of n count m in
       let there : first_of n count k + i ≡ e.node = omega (arith, mine.0) in
       let here : first_of n count m + j ≡ f.node = omega (arith, yours.0) in
       in_id_at k count (first_of n count k) (owned_of n count k) opened ins outs sound few (within k) r i e.link
-      (omega (arith, mine.0, mine.1)) ends.0.1
-      ∙ rw there
-      (r.pairs (4 * f.node + f.link) (4 * e.node + e.link) (omega (arith, ends.1.0, ends.1.1, r.outs_are))
-      (far_of m count (first_of n count m) (owned_of n count m) opened ins outs sound few (within m) r f.node f.link e
-      ends.1.1 back)
+      (omega (arith, mine.0, mine.1))
+      ∙ rw there (r.pairs f e back
       ∙ sym (out_id_at m count (first_of n count m) (owned_of n count m) opened ins outs sound few (within m) r j f.link
-      (omega (arith, yours.0, yours.1)) ends.1.1 ∙ rw here refl))
+      (omega (arith, yours.0, yours.1)) ∙ rw here refl))
 
   pub are_shares : count ≤ 64 → AreShares opened shares
   are_shares many =

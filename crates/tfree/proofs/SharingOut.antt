@@ -1,7 +1,7 @@
 -- One worker more gets its allotment and its nodes.
 use Rattle.std.proofs.Common.{◌≡◌, ℕ, suc, ◌+◌, ◌-◌, ◌<◌, ◌≤◌, refl, sym, ap, ◌∙◌, subst, arith, List, [], ◌∷◌, ◌++◌}
 use Rattle.std.proofs.Common.{length, length-drop, map, get_or, take, drop, Option}
-use Rattle.std.specs.Prelude.{min, vec_capacity}
+use Rattle.std.specs.Prelude.{min}
 use Rattle.std.proofs.lemmas.List.{length-map, map-append, drop-drop}
 use Rattle.std.proofs.lemmas.List.Elements.{All-push}
 use Rattle.tlink.specs.Node.{NodeState}
@@ -12,17 +12,19 @@ use Rattle.tfree.specs.declared.allotments.Allotment.{Allotment}
 use Rattle.tfree.specs.Ends.{ins_view, outs_view}
 use Rattle.tfree.specs.Views.{InView, OutView, Share, View}
 use Rattle.tfree.specs.Kept.{IsShare, Kept, share_with}
-use Rattle.tfree.specs.Shares.{share, first_nodes}
-use Rattle.tfree.specs.Rings.{part_of}
+use Rattle.tnet.specs.Sharing.{share}
+use Rattle.tfree.specs.Shares.{first_nodes}
+use Rattle.tfree.specs.Rings.{portion_of}
 use Rattle.tfree.specs.Opened.{first_of, owned_of, share_of, HasDoneNothing, IsOpened}
-use Rattle.tfree.specs.Allotments.{share_at, IsAllotment, AreAllotments, AreAllotted, AreSharedOut}
+use Rattle.tfree.specs.Allotments.{share_at, IsAllotment, AreAllotments, AreSharedOut}
 use Rattle.tfree.proofs.FreshWorkers.{part_length, fresh_share, fresh_kept}
 use Rattle.tfree.proofs.NodeOwners.{first-length}
 use Rattle.tfree.proofs.Portions.{owned_is}
 use Rattle.tfree.proofs.SharedRings.{within, ends_at, one_opening}
 
 -- the allotment in front, and those behind it
-front_allotment : (opened : NetState) (count : ℕ) (ins : List (Option InView)) (outs : List (Option OutView)) (k : ℕ)
+front_allotment : (opened : NetState) (count : ℕ) (ins : List (List (Option InView)))
+    (outs : List (List (Option OutView))) (k : ℕ)
     (allotments : List Allotment) (s : Allotment) → AreAllotments opened count ins outs k allotments
     → 0 < length allotments → s ≡ get_or allotments 0 s
     → IsAllotment opened count ins outs k s × AreAllotments opened count ins outs (k + 1) (drop 1 allotments)
@@ -31,7 +33,8 @@ front_allotment opened count ins outs k (x ∷ xs) s h b e =
     (rw e h.0, let n : suc k ≡ k + 1 = omega arith in subst (λ (j : ℕ). AreAllotments opened count ins outs j xs) n h.1)
 
 -- one allotment more
-pub allotments_more : (opened : NetState) (count : ℕ) (ins : List (Option InView)) (outs : List (Option OutView))
+pub allotments_more : (opened : NetState) (count : ℕ) (ins : List (List (Option InView)))
+    (outs : List (List (Option OutView)))
     (k j : ℕ) (allotments : List Allotment) (s : Allotment) → AreAllotments opened count ins outs k allotments
     → j ≡ k + length allotments
     → IsAllotment opened count ins outs j s → AreAllotments opened count ins outs k (allotments ++ s ∷ [])
@@ -39,20 +42,6 @@ allotments_more opened count ins outs k j [] s h e is = let n : j ≡ k = omega 
     (subst (λ (m : ℕ). IsAllotment opened count ins outs m s) n is, tt)
 allotments_more opened count ins outs k j (x ∷ xs) s h e is =
     (h.0, allotments_more opened count ins outs (suc k) j xs s h.1 (omega (arith, e)) is)
-
--- before the first worker
-pub none_shared : (opened : NetState) (count : ℕ) (allotments : List Allotment) → AreAllotted opened count allotments
-    → AreSharedOut opened count 0 opened.nodes allotments []
-none_shared opened count allotments h =
-    record {
-      ins = h.ins;
-      outs = h.outs;
-      rings = h.rings;
-      nodes_left = let z : first_of (length opened.nodes) count 0 ≡ 0 = omega arith in rw z refl;
-      allotments_left = h.allotments_are;
-      shares = refl;
-      fresh = λ i d b. absurd (omega (arith, b));
-    }
 
 -- behind the last one
 pub all_shared : (opened : NetState) (count : ℕ) (nodes : List NodeState) (allotments : List Allotment) (ws : List View)
@@ -86,12 +75,9 @@ module _ (opened : NetState) (count k : ℕ) (nodes : List NodeState) (allotment
   pub has_room : s.nodes.items ≡ []
   has_room = allotment.empty
 
-  pub room_is : owned_of n count k ≤ vec_capacity s.nodes
-  room_is = allotment.room
-
   module _ (first owned : ℕ) (first_is : first ≡ first_of n count k) (owned_is_it : owned ≡ owned_of n count k)
       (mine : List NodeState) (mine_is : mine ≡ [] ++ take owned nodes) where
-    mine_part : mine ≡ part_of (first_of n count k) (owned_of n count k) opened.nodes
+    mine_part : mine ≡ portion_of (first_of n count k) (owned_of n count k) opened.nodes
     mine_part = mine_is ∙ ap (λ (m : ℕ). take m nodes) owned_is_it ∙ ap (take (owned_of n count k)) sh.nodes_left
 
     mine_length : length mine ≡ owned_of n count k

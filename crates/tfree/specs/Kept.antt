@@ -1,8 +1,8 @@
 -- What holds of a worker between events: its nodes are where its events leave them, and each ring gave and got what
 -- they took and put.
 -- Source: own choice.
-use Rattle.std.specs.Prelude.{ℕ, ◌≡◌, ◌+◌, ◌*◌, ◌<◌, ◌≤◌, ◌⊎◌, IsTrue, List, [], ◌∷◌, ◌++◌, All, fold, length, Option}
-use Rattle.std.specs.Prelude.{Some, None, is_some, slice_get, slice_set, slice_index_or, map, option_map}
+use Rattle.std.specs.Prelude.{ℕ, ◌≡◌, ◌+◌, ◌<◌, ◌≤◌, ◌⊎◌, IsTrue, List, [], ◌∷◌, ◌++◌, All, fold, length, Option}
+use Rattle.std.specs.Prelude.{Some, None, is_some, slice_get, slice_set}
 use Rattle.std.specs.declared.alloc.Global.{Global}
 use Rattle.tlink.specs.declared.event.NodeEvent.{NodeEvent}
 use Rattle.tlink.specs.declared.event.NodeEvent.TheVariants.{Run, Send, Data, Take, Ack}
@@ -16,8 +16,10 @@ use Rattle.tnet.specs.Sound.{IsSound}
 use Rattle.tfree.specs.declared.stamp.Sent.{Sent}
 use Rattle.tfree.specs.declared.stamp.OwnEvent.{OwnEvent}
 use Rattle.tfree.specs.declared.stamp.StampedNote.{StampedNote}
+use Rattle.tfree.specs.declared.steps.OwnLink.{OwnLink}
 use Rattle.tfree.specs.Ids.{RingId}
 use Rattle.tfree.specs.Lists.{AreDone, AreStamped, lying, puts, takes, takes_packet}
+use Rattle.tfree.specs.Slots.{slot_at, map_slots, AreRowsOfFour}
 use Rattle.tfree.specs.WorkerNotes.{told_at}
 use Rattle.tfree.specs.Views.{InView, OutView, got_of, put_of, Share}
 use Rattle.tfree.specs.Logs.{notes_at}
@@ -63,10 +65,6 @@ kept_notes wires nodes (d ∷ ds) =
 abbrev pub IsMine : Share → ℕ → Type 0
 IsMine s n = (s.first ≤ n) × (n < s.first + s.owned)
 
--- the place of a link of the worker's i-th node
-abbrev pub link_place : ℕ → ℕ → ℕ
-link_place i l = 4 * i + l
-
 -- the end of a link of the worker's i-th node
 abbrev pub own_end : Share → ℕ → ℕ → End
 own_end s i l = end_at (s.first + i) l
@@ -77,52 +75,53 @@ pub record IsShare (s : Share) : Type 0 where
   pub sound : IsSound s.opened
   pub few : length s.opened.nodes ≤ 64
   pub within : s.first + s.owned ≤ length s.opened.nodes
-  pub ins_are : length s.ins ≡ 4 * s.owned
-  pub outs_are : length s.outs ≡ 4 * s.owned
+  pub ins_are : AreRowsOfFour s.owned s.ins
+  pub outs_are : AreRowsOfFour s.owned s.outs
   pub wired_in : (i l : ℕ) → i < s.owned → l < 4
-      → is_some (slice_index_or s.ins (link_place i l) None) ≡ is_some (far_end s.opened.wires (own_end s i l))
+      → is_some (slot_at s.ins i l) ≡ is_some (far_end s.opened.wires (own_end s i l))
   pub wired_out : (i l : ℕ) → i < s.owned → l < 4
-      → is_some (slice_index_or s.outs (link_place i l) None) ≡ is_some (far_end s.opened.wires (own_end s i l))
+      → is_some (slot_at s.outs i l) ≡ is_some (far_end s.opened.wires (own_end s i l))
   pub own : (i l j k : ℕ) → i < s.owned → l < 4 → j < s.owned → k < 4
       → far_end s.opened.wires (own_end s i l) ≡ Some (own_end s j k)
-      → slice_index_or s.ins (link_place i l) None ≡ slice_index_or s.outs (link_place j k) None
+      → slot_at s.ins i l ≡ slot_at s.outs j k
 
 -- the link of an event, and 0 for a run
-abbrev pub link_of : NodeEvent → ℕ
-link_of Run = 0
-link_of (Send l) = l
-link_of (Data l byte last) = l
-link_of (Take l) = l
-link_of (Ack l) = l
+abbrev pub event_link : NodeEvent → ℕ
+event_link Run = 0
+event_link (Send l) = l
+event_link (Data l byte last) = l
+event_link (Take l) = l
+event_link (Ack l) = l
 
 -- what a worker keeps
-pub record Kept (s : Share) (nodes : List NodeState) (clock : ℕ) (ins : List (Option InView))
-    (outs : List (Option OutView)) (events : List OwnEvent) (told : List StampedNote) : Type 0 where
+pub record Kept (s : Share) (nodes : List NodeState) (clock : ℕ) (ins : List (List (Option InView)))
+    (outs : List (List (Option OutView))) (events : List OwnEvent) (told : List StampedNote) : Type 0 where
   pub counted : length nodes ≡ s.owned
   -- the events of the worker were enabled one after another, and left its nodes as they are
   pub done : AreDone s.opened.nodes events (nodes_after s.opened.nodes events)
   pub left : (i : ℕ) → i < s.owned → slice_get (nodes_after s.opened.nodes events) (s.first + i) ≡ slice_get nodes i
   pub mine : All (λ d. IsMine s d.node) events
-  pub small : All (λ d. link_of d.event < 4) events
+  pub small : All (λ d. event_link d.event < 4) events
   -- what was taken from each ring, and what was put into it, is what the events took and put
   pub got : (i l : ℕ) → i < s.owned → l < 4
-      → got_of (slice_index_or ins (link_place i l) None) ≡ takes (own_end s i l) events
+      → got_of (slot_at ins i l) ≡ takes (own_end s i l) events
   pub put : (i l : ℕ) → i < s.owned → l < 4
-      → put_of (slice_index_or outs (link_place i l) None) ≡ put_to s.opened (own_end s i l) events
+      → put_of (slot_at outs i l) ≡ put_to s.opened (own_end s i l) events
   pub clock_is : clock ≡ last_stamp 0 events
   pub stamped : AreStamped 0 events
   pub unstamped : All (λ d. IsTrue (takes_packet d.event) ⊎ (d.taken ≡ 0)) events
   pub told_is : told ≡ kept_notes s.opened.wires s.opened.nodes events
 
 -- the identities of the rings
-abbrev pub in_ids : List (Option InView) → List (Option (RingId Global))
-in_ids xs = map (option_map (λ (v : InView). v.id)) xs
+abbrev pub in_ids : List (List (Option InView)) → List (List (Option (RingId Global)))
+in_ids rows = map_slots (λ (v : InView). v.id) rows
 
-abbrev pub out_ids : List (Option OutView) → List (Option (RingId Global))
-out_ids xs = map (option_map (λ (v : OutView). v.id)) xs
+abbrev pub out_ids : List (List (Option OutView)) → List (List (Option (RingId Global)))
+out_ids rows = map_slots (λ (v : OutView). v.id) rows
 
 -- a share by its parts
-abbrev pub share_with : (number count first owned : ℕ) → NetState → List (Option InView) → List (Option OutView) → Share
+abbrev pub share_with : (number count first owned : ℕ) → NetState → List (List (Option InView))
+    → List (List (Option OutView)) → Share
 share_with number count first owned opened ins outs =
     record {
       number = number;
@@ -135,8 +134,7 @@ share_with number count first owned opened ins outs =
           out_ids outs;
     }
 
--- the place of an end among the worker's links, if it is one of them
-pub record IsPlaceOf (s : Share) (far : Option End) (own : Option ℕ) : Type 0 where
-  pub there : (q : ℕ) → own ≡ Some q → (j : ℕ) × (k : ℕ) × (far ≡ Some (own_end s j k)) × (j < s.owned) × (k < 4)
-      × (q ≡ link_place j k)
+-- an end as a link of one of the worker's own nodes, if it is one
+pub record IsOwnLink (s : Share) (far : Option End) (own : Option OwnLink) : Type 0 where
+  pub there : (q : OwnLink) → own ≡ Some q → (far ≡ Some (own_end s q.node q.link)) × (q.node < s.owned) × (q.link < 4)
   pub none : own ≡ None → (f : End) → far ≡ Some f → IsMine s f.node → ⊥

@@ -1,7 +1,7 @@
 -- Workers that come from one opening, and their lists by their numbers.
 -- Source: own choice.
 use Rattle.std.specs.Prelude.{ℕ, ◌≡◌, ◌≢◌, ◌+◌, ◌*◌, ◌-◌, ◌<◌, ◌≤◌, ◌⊎◌, ◌==◌, min, All, List, [], ◌∷◌, length, map}
-use Rattle.std.specs.Prelude.{take, drop, Option, Some, None, slice_get, slice_index_or, if◌then◌else◌}
+use Rattle.std.specs.Prelude.{take, drop, Option, Some, None, slice_get, if◌then◌else◌}
 use Rattle.tplan.specs.declared.plan.End.{End}
 use Rattle.tnet.specs.Wires.{far_end}
 use Rattle.tnet.specs.Net.{NetState}
@@ -10,9 +10,11 @@ use Rattle.tplan.specs.declared.event.Note.{Note}
 use Rattle.tfree.specs.declared.stamp.OwnEvent.{OwnEvent}
 use Rattle.tfree.specs.Lists.{WorkerLog, lists_of}
 use Rattle.tfree.specs.Gathered.{IsGathered}
-use Rattle.tfree.specs.Shares.{share, first_nodes}
+use Rattle.tnet.specs.Sharing.{share}
+use Rattle.tfree.specs.Shares.{first_nodes}
 use Rattle.tfree.specs.Views.{Share, View}
-use Rattle.tfree.specs.Kept.{nodes_after, IsMine, link_place}
+use Rattle.tfree.specs.Kept.{nodes_after, IsMine}
+use Rattle.tfree.specs.Slots.{slot_at}
 
 -- the first node of a worker, of so many nodes and workers; that of the next worker is where its nodes end
 abbrev pub first_of : (nodes workers k : ℕ) → ℕ
@@ -38,8 +40,7 @@ pub record AreShares (opened : NetState) (o : List Share) : Type 0 where
   pub few_nodes : length opened.nodes ≤ 64
   pub rings : (e f : End) (k m : ℕ) (s t : Share) → far_end opened.wires e ≡ Some f → slice_get o k ≡ Some s
       → IsMine s e.node → slice_get o m ≡ Some t → IsMine t f.node
-      → slice_index_or s.ins (link_place (e.node - s.first) e.link) None
-      ≡ slice_index_or t.outs (link_place (f.node - t.first) f.link) None
+      → slot_at s.ins (e.node - s.first) e.link ≡ slot_at t.outs (f.node - t.first) f.link
 
 -- no two numbers of a list are equal
 abbrev pub AreApart : List ℕ → Type 0
@@ -75,10 +76,6 @@ pub record IsOpened (opened : NetState) (workers : ℕ) (ws : List View) : Type 
   pub all : length ws ≡ workers
   pub one : AreOf opened (map share_of ws) (map share_of ws)
   pub fresh : All HasDoneNothing ws
-
--- there are too few workers, or too many
-abbrev pub IsBadCount : ℕ → Type 0
-IsBadCount workers = (workers ≡ 0) ⊎ (64 < workers)
 
 -- the worker of a number
 abbrev pub worker_of : ℕ → List View → Option View

@@ -19,7 +19,7 @@ use Rattle.tfree.specs.Lists.{takes}
 use Rattle.tfree.specs.Lists.{event_taking}
 use Rattle.tfree.specs.Views.{Share, View}
 use Rattle.tfree.specs.Ends.{IsFront}
-use Rattle.tfree.specs.Kept.{nodes_after, put_to, last_stamp, link_place, IsMine}
+use Rattle.tfree.specs.Kept.{nodes_after, put_to, last_stamp, IsMine}
 
 -- a phase leads from the events so far to those after it; where it did not run to its end, it may have stopped anywhere
 abbrev pub Phase : Type 1
@@ -157,12 +157,21 @@ AreLeft v = v.nodes ≡ take v.share.owned (drop v.share.first (nodes_after v.sh
 abbrev pub IsFull : (last taken : ℕ) → Type 0
 IsFull last taken = max last taken + 1 ≡ 2 ^ 64
 
+-- why an event of a node was not done: it is enabled, and where the clock is full its stamp would pass 2^64 - 1
+pub record WhyStopped (e : NodeEvent) (node : NodeState) (clock taken : ℕ) (fault : TurnFault) : Type 0 where
+  pub enabled : is_node_enabled e node ≡ true
+  pub full : fault ≡ ClockFull → IsFull clock taken
+
+-- the packets that are seen in the ring of a link of the worker's i-th node
+abbrev pub seen_of_link : View → ℕ → ℕ → List Sent
+seen_of_link v i l = slice_index_or (slice_index_or v.seen i []) l []
+
 -- the stamp that an event of the worker's i-th node takes: that of the packet that is seen in front of its ring, or 0
 abbrev pub MayTake : View → ℕ → NodeEvent → ℕ → Type 0
 MayTake v i (Data l byte last) stamp =
-    IsFront (record { packet = packet.Data byte last; stamp = stamp }) (slice_index_or v.seen (link_place i l) [])
+    IsFront (record { packet = packet.Data byte last; stamp = stamp }) (seen_of_link v i l)
 MayTake v i (Ack l) stamp =
-    IsFront (record { packet = packet.Ack; stamp = stamp }) (slice_index_or v.seen (link_place i l) [])
+    IsFront (record { packet = packet.Ack; stamp = stamp }) (seen_of_link v i l)
 MayTake v i _ stamp = stamp ≡ 0
 
 -- a worker with one event more on its list

@@ -1,15 +1,15 @@
 //! What is left in a ring, once both of its ends are at hand.
 
-ghost use Rattle.std.specs.Prelude.{◌≡◌, ◌≢◌, ◌+◌, ◌*◌, ◌<◌, ◌≤◌, ℕ, length, vec_len, vec_capacity, Some};
+ghost use Rattle.std.specs.Prelude.{◌≡◌, ◌<◌, ◌≤◌, ℕ, length, vec_len, vec_capacity, None, Some};
 ghost use Rattle.std.specs.Prelude.{option_map, slice_index_or};
 ghost use Rattle.tnet.specs.Wires.{end_at};
 ghost use Rattle.tnet.specs.Net.{empty_inbox};
 ghost use Rattle.tfree.specs.Ends.{in_view, out_view, ins_view, outs_view};
-ghost use Rattle.tfree.specs.Rings.{in_at};
-ghost use Rattle.tfree.specs.Drained.{WasDrained, ArePaired, IsJoined, IsLeftAt, AreLeftAt, AreSameFrom};
+ghost use Rattle.tfree.specs.Slots.{slot_at};
+ghost use Rattle.tfree.specs.Drained.{WasDrained, ArePaired, IsJoined, IsLeftAt, AreLeftAt};
 
-use crate::ends::{InEnd, OutEnd};
-use tnet::{Inbox, Wires};
+use crate::ends::{InEnd, OutEnd, Slots};
+use tnet::{Inbox, Row, Wires};
 use tplan::End;
 
 /// Takes out of a ring all that is left in it, as an inbox.
@@ -44,73 +44,57 @@ fn drain_slot(end: &mut Option<InEnd>, out: &mut Option<OutEnd>) -> Inbox
     }
 }
 
-/// What is left at a link of a node, in the ring that leads there, if it has a wire.
-fn drain_at(
-    wires: &Wires,
-    ins: &mut [Option<InEnd>],
-    outs: &mut [Option<OutEnd>],
-    node: usize,
-    link: usize,
-) -> Inbox
-    requires node { node < 64 }
-    requires link { link < 4 }
-    requires place { 4 * node + link < length ins.old }
-    requires joined { IsJoined wires.now (ins_view ins.old) (outs_view outs.old) (end_at node link) }
-    ensures left { IsLeftAt wires.now (ins_view ins.old) (outs_view outs.old) (end_at node link) result }
-    ensures ins { (q : ℕ) → q ≢ 4 * node + link → in_at (ins_view ins.new) q ≡ in_at (ins_view ins.old) q }
+/// What is left at an end, in the ring that leads there, if it has a wire. The end of it that takes is in `slot`.
+fn drain_at(wires: &Wires, slot: &mut Option<InEnd>, outs: &mut [Slots<OutEnd>], end: End) -> Inbox
+    requires joined { IsJoined wires.now (option_map in_view slot.old) (outs_view outs.old) end }
+    ensures left { IsLeftAt wires.now (option_map in_view slot.old) (outs_view outs.old) end result }
     ensures outs { outs_view outs.new ≡ outs_view outs.old }
 {
-    let Some(far) = wires.far_end(End {
-        node: node as u32,
-        link: link as u32,
-    }) else {
+    let Some(far) = wires.far_end(end) else {
         return Inbox::EMPTY;
     };
-    let from = 4 * far.node as usize + far.link as usize;
-    drain_slot(&mut ins[4 * node + link], &mut outs[from])
+    drain_slot(slot, &mut outs[far.node as usize][far.link as usize])
 }
 
 /// What is left at the links of a node.
 fn drain_node(
     wires: &Wires,
-    ins: &mut [Option<InEnd>],
-    outs: &mut [Option<OutEnd>],
-    node: usize,
-) -> [Inbox; 4]
-    requires node { node < 64 }
-    requires place { 4 * node + 4 ≤ length ins.old }
-    requires joined { (l : ℕ) → l < 4 → IsJoined wires.now (ins_view ins.old) (outs_view outs.old) (end_at node l) }
+    slots: &mut Slots<InEnd>,
+    outs: &mut [Slots<OutEnd>],
+    node: u32,
+) -> Row<Inbox>
+    requires { (l : ℕ) → l < 4
+        → IsJoined wires.now (option_map in_view (slice_index_or slots.old l None)) (outs_view outs.old)
+        (end_at node l) }
     ensures left { (l : ℕ) → l < 4
-        → IsLeftAt wires.now (ins_view ins.old) (outs_view outs.old) (end_at node l)
-        (slice_index_or result l empty_inbox) }
-    ensures ins { AreSameFrom (4 * node + 4) (ins_view ins.old) (ins_view ins.new) }
+        → IsLeftAt wires.now (option_map in_view (slice_index_or slots.old l None)) (outs_view outs.old)
+        (end_at node l) (slice_index_or result l empty_inbox) }
+    ensures four { length result ≡ 4 }
     ensures outs { outs_view outs.new ≡ outs_view outs.old }
 {
-    let first = drain_at(wires, ins, outs, node, 0);
-    let second = drain_at(wires, ins, outs, node, 1);
-    let third = drain_at(wires, ins, outs, node, 2);
-    let fourth = drain_at(wires, ins, outs, node, 3);
+    let first = drain_at(wires, &mut slots[0], outs, End { node, link: 0 });
+    let second = drain_at(wires, &mut slots[1], outs, End { node, link: 1 });
+    let third = drain_at(wires, &mut slots[2], outs, End { node, link: 2 });
+    let fourth = drain_at(wires, &mut slots[3], outs, End { node, link: 3 });
     [first, second, third, fourth]
 }
 
 /// What is left at the links of all nodes.
 pub(crate) fn drain_all(
     wires: &Wires,
-    ins: &mut [Option<InEnd>],
-    outs: &mut [Option<OutEnd>],
-    nodes: usize,
-    inboxes: &mut Vec<[Inbox; 4]>,
+    ins: &mut [Slots<InEnd>],
+    outs: &mut [Slots<OutEnd>],
+    inboxes: &mut Vec<Row<Inbox>>,
 )
-    requires few { nodes ≤ 64 }
-    requires places { 4 * nodes ≤ length ins.old }
-    requires joined { (n l : ℕ) → n < nodes → l < 4
-        → IsJoined wires.now (ins_view ins.old) (outs_view outs.old) (end_at n l) }
+    requires few { length ins.old ≤ 64 }
+    requires joined { (n l : ℕ) → n < length ins.old → l < 4
+        → IsJoined wires.now (slot_at (ins_view ins.old) n l) (outs_view outs.old) (end_at n l) }
     requires empty { vec_len inboxes.old ≡ 0 }
-    requires room { nodes ≤ vec_capacity inboxes.old }
-    ensures { AreLeftAt wires.now (ins_view ins.old) (outs_view outs.old) nodes inboxes.new.items }
+    requires room { length ins.old ≤ vec_capacity inboxes.old }
+    ensures { AreLeftAt wires.now (ins_view ins.old) (outs_view outs.old) (length ins.old) inboxes.new.items }
 {
-    for node in 0..nodes {
-        let left = drain_node(wires, ins, outs, node);
+    for node in 0..ins.len() {
+        let left = drain_node(wires, &mut ins[node], outs, node as u32);
         inboxes.push_reserved(left);
     }
 }

@@ -1,19 +1,20 @@
 //! Opening a net for free workers.
 
 ghost use Rattle.std.specs.Prelude.{◌≡◌, ◌+◌, ◌<◌, ◌≤◌, ◌++◌, [], length, take, drop, vec_len, vec_capacity, IfOk};
-ghost use Rattle.std.specs.Prelude.{IfErr, Err};
+ghost use Rattle.std.specs.Prelude.{IfErr, IsTrue, Err};
 ghost use Rattle.tnet.specs.NetParts.{net_of_parts};
 ghost use Rattle.tnet.specs.Sound.{IsSound};
-ghost use Rattle.tfree.specs.Opened.{IsOpened, IsBadCount, ComeFromOneOpen};
+ghost use Rattle.tnet.specs.Sharing as spec;
+ghost use Rattle.tfree.specs.Opened.{IsOpened, ComeFromOneOpen};
 ghost use Rattle.tfree.specs.Allotments.{AreAllotted};
 ghost use Rattle.tfree.specs.declared.opening.OpenFault.TheVariants as fault;
 
-use crate::allotments::{Allotment, allotments, share};
+use crate::allotments::{Allotment, allotments};
 use crate::worker::Worker;
 use std::alloc::{AllocError, Global};
 use tlink::Node;
+use tnet::sharing::{is_bad_count, share};
 use tnet::{Net, NetParts};
-use tword::limits::MOST_WORKERS;
 
 /// Why a net was not opened.
 #[derive(Clone, Copy, Debug, PartialEq, Eq)]
@@ -44,7 +45,6 @@ fn share_out(
     mut workers: Vec<Worker>,
 ) -> Vec<Worker>
     requires sound { IsSound (net_of_parts parts) }
-    requires few { length parts.nodes.items ≤ 64 }
     requires some { (0 < length allotments.items) × (length allotments.items ≤ 64) }
     requires allotted { AreAllotted (net_of_parts parts) (length allotments.items) allotments.items }
     requires empty { workers.items ≡ [] }
@@ -76,7 +76,6 @@ fn room(
     workers: usize,
 ) -> Result<(Vec<Allotment>, Vec<Worker>), AllocError>
     requires sound { IsSound (net_of_parts parts.now) }
-    requires few { length parts.now.nodes.items ≤ 64 }
     requires workers { (0 < workers) × (workers ≤ 64) }
     ensures allotted { IfOk result (λ r. AreAllotted (net_of_parts parts.now) workers r.0.items) }
     ensures empty { IfOk result (λ r. r.1.items ≡ []) }
@@ -96,11 +95,11 @@ fn room(
 pub fn open(alloc: Global, net: Net, workers: usize) -> Result<Vec<Worker>, (OpenFault, Net)>
     ensures opened { IfOk result (λ ws. IsOpened net workers ws.items) }
     ensures one { IfOk result (λ ws. ComeFromOneOpen ws.items) }
-    ensures bad { IsBadCount workers → result ≡ Err (fault.BadWorkers, net) }
-    ensures counted { IfErr result (λ e. e.0 ≡ fault.BadWorkers → IsBadCount workers) }
+    ensures bad { IsTrue (spec.is_bad_count workers) → result ≡ Err (fault.BadWorkers, net) }
+    ensures counted { IfErr result (λ e. e.0 ≡ fault.BadWorkers → IsTrue (spec.is_bad_count workers)) }
     ensures same { IfErr result (λ e. e.1 ≡ net) }
 {
-    if workers == 0 || workers > MOST_WORKERS {
+    if is_bad_count(workers) {
         return Err((OpenFault::BadWorkers, net));
     }
     let parts = net.into_parts();

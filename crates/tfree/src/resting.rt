@@ -1,11 +1,11 @@
 //! Whether workers have anything left to do, with all of them in hand.
 
 ghost use Rattle.std.specs.Prelude.{◌≡◌, ◌+◌, ◌<◌, ℕ, IsTrue, length, false, Some, slice_get};
-ghost use Rattle.tlink.specs.declared.event.Packet.{Packet as Packets};
+ghost use Rattle.tlink.specs.declared.event.Packet.{Packet};
 ghost use Rattle.tfree.specs.Kept.{own_end};
 ghost use Rattle.tfree.specs.Lists.{event_taking};
 ghost use Rattle.tfree.specs.Resting.{IsRingEmpty, LinkRests, NodeRests, HasNothingLeft, IsIdle};
-ghost use Rattle.tfree.specs.Turning.{Ended as Endings};
+ghost use Rattle.tfree.specs.Turning as spec;
 ghost use Rattle.tfree.specs.Turns.{IsEnabled};
 ghost use Rattle.tfree.specs.Views.{View};
 
@@ -18,7 +18,7 @@ impl Worker {
     fn may_take(&self, i: usize, link: u8) -> bool
         requires i { i < self.now.share.owned }
         requires link { link < 4 }
-        ensures { result ≡ false → (p : Packets)
+        ensures { result ≡ false → (p : Packet)
             → IsEnabled self.now.share (self.now.share.first + i) (event_taking link p) self.now.events → ⊥ }
     {
         self.enabled(i, NodeEvent::Data(link, 0, false)) || self.enabled(i, NodeEvent::Ack(link))
@@ -91,7 +91,7 @@ impl Worker {
 /// Whether each worker that did not stop for a fault has nothing left to do.
 pub(crate) fn are_idle(workers: &[Worker], endings: &[Ended]) -> bool
     requires { length endings.now ≡ length workers.now }
-    ensures { IsTrue result → (k : ℕ) (e : Endings) (w : View) → slice_get endings.now k ≡ Some e
+    ensures { IsTrue result → (k : ℕ) (e : spec.Ended) (w : View) → slice_get endings.now k ≡ Some e
         → slice_get workers.now k ≡ Some w → IsIdle workers.now e w }
 {
     for (place, worker) in workers.iter().enumerate() {

@@ -6,34 +6,45 @@ ghost use Rattle.std.specs.Prelude.{IsTrue, IfSome, IfErr, IsSome, Ok, true, fal
 ghost use Rattle.std.specs.Prelude.{List};
 ghost use Rattle.rtrb.specs.Ring.{known_items, known_free};
 ghost use Rattle.tlink.specs.Events.{happens, is_node_enabled};
-ghost use Rattle.tfree.specs.Lists.{Sent as Packets};
+ghost use Rattle.tfree.specs.Slots.{slot_at};
+ghost use Rattle.tfree.specs.declared.steps.OwnLink as spec;
 ghost use Rattle.tfree.specs.Ends.{in_view, out_view, ins_view, outs_view, seen_of, IsFront, HasFree};
 ghost use Rattle.tfree.specs.Views.{InView, OutView, got_of, put_of, with_put};
 ghost use Rattle.tfree.specs.Logs.{log_view, Whether, sent_as};
-ghost use Rattle.tfree.specs.Steps.{SameRing, SameRingBack, Received, NoneDue, Emitted as Put, HasRoom};
+ghost use Rattle.tfree.specs.Steps.{SameRing, SameRingBack, Received, NoneDue, Emitted, AnswersRoom};
 ghost use Rattle.tfree.specs.Steps.{LeftAtFront, LeftWithRoom};
 
-use crate::ends::{InEnd, OutEnd};
+use crate::ends::{InEnd, OutEnd, Slots};
 use crate::log::{Log, TurnFault, act, receive};
 use crate::stamp::Sent;
 use tlink::{Node, NodeEvent, Packet};
+use tnet::Row;
 use tplan::End;
 
-/// The oldest packet that is seen in a ring. Where its other end is at hand, at the place `own` of `outs`, none is
+/// A link of one of a worker's own nodes.
+#[derive(Clone, Copy)]
+pub struct OwnLink {
+    /// The place of the node among those of the worker.
+    pub node: usize,
+    pub link: u8,
+}
+
+/// The oldest packet that is seen in a ring. Where its other end is at hand, at the link `own` of `outs`, none is
 /// missed.
-fn look(end: &mut InEnd, outs: &mut Vec<Option<OutEnd>>, own: Option<usize>) -> Option<Sent>
+fn look(end: &mut InEnd, outs: &mut Vec<Slots<OutEnd>>, own: Option<OwnLink>) -> Option<Sent>
     requires { SameRing own (in_view end.old) (outs_view outs.old.items) }
     ensures same { in_view end.new ≡ in_view end.old }
     ensures outs { outs_view outs.new.items ≡ outs_view outs.old.items }
     ensures front { IfSome result (λ p. IsFront p (known_items end.new.consumer)) }
-    ensures all { (q : ℕ) (o : OutView) → own ≡ Some q → slice_get (outs_view outs.old.items) q ≡ Some (Some o)
+    ensures all { (q : spec.OwnLink) (o : OutView) → own ≡ Some q
+        → slot_at (outs_view outs.old.items) q.node q.link ≡ Some o
         → ((in_view end.old).got ++ known_items end.new.consumer ≡ o.put)
         × (result ≡ None → known_items end.new.consumer ≡ []) }
 {
-    let Some(place) = own else {
+    let Some(own) = own else {
         return end.look();
     };
-    match &mut outs[place] {
+    match &mut outs[own.node][usize::from(own.link)] {
         Some(out) => end.look_beside(out),
         None => end.look(),
     }
@@ -46,14 +57,14 @@ pub struct Taker {
     pub number: u8,
     pub link: u8,
     /// Where the other end of its ring is, if it is at hand.
-    pub own: Option<usize>,
+    pub own: Option<OwnLink>,
 }
 
 /// The packet in front of the ring of a link is taken, if one is seen and its event is enabled.
 pub fn receive_at(
     node: &mut Node,
     slot: &mut Option<InEnd>,
-    outs: &mut Vec<Option<OutEnd>>,
+    outs: &mut Vec<Slots<OutEnd>>,
     log: &mut Log,
     taker: Taker,
 ) -> Result<bool, TurnFault>
@@ -78,14 +89,14 @@ pub fn receive_at(
     }
 }
 
-/// Whether a ring has room, if there is a ring. Where its other end is at hand, at the place `own` of `ins`, the
+/// Whether a ring has room, if there is a ring. Where its other end is at hand, at the link `own` of `ins`, the
 /// answer is exact.
-fn room(slot: &mut Option<OutEnd>, ins: &mut Vec<Option<InEnd>>, own: Option<usize>) -> bool
+fn room(slot: &mut Option<OutEnd>, ins: &mut Vec<Slots<InEnd>>, own: Option<OwnLink>) -> bool
     requires { (o : OutView) → option_map out_view slot.old ≡ Some o → SameRingBack own o (ins_view ins.old.items) }
     ensures same { option_map out_view slot.new ≡ option_map out_view slot.old }
     ensures ins { ins_view ins.new.items ≡ ins_view ins.old.items }
     ensures room { IsTrue result → HasFree slot.new }
-    ensures exact { HasRoom own (option_map out_view slot.old) (ins_view ins.old.items) result }
+    ensures exact { AnswersRoom own (option_map out_view slot.old) (ins_view ins.old.items) result }
 {
     match slot {
         None => true,
@@ -94,17 +105,17 @@ fn room(slot: &mut Option<OutEnd>, ins: &mut Vec<Option<InEnd>>, own: Option<usi
 }
 
 /// Whether a ring has room.
-fn room_of(out: &mut OutEnd, ins: &mut Vec<Option<InEnd>>, own: Option<usize>) -> bool
+fn room_of(out: &mut OutEnd, ins: &mut Vec<Slots<InEnd>>, own: Option<OwnLink>) -> bool
     requires { SameRingBack own (out_view out.old) (ins_view ins.old.items) }
     ensures same { out_view out.new ≡ out_view out.old }
     ensures ins { ins_view ins.new.items ≡ ins_view ins.old.items }
     ensures room { IsTrue result → 0 < known_free out.new.producer }
-    ensures exact { HasRoom own (Some (out_view out.old)) (ins_view ins.old.items) result }
+    ensures exact { AnswersRoom own (Some (out_view out.old)) (ins_view ins.old.items) result }
 {
-    let Some(place) = own else {
+    let Some(own) = own else {
         return out.has_room();
     };
-    match &mut ins[place] {
+    match &mut ins[own.node][usize::from(own.link)] {
         Some(end) => out.has_room_beside(end),
         None => out.has_room(),
     }
@@ -131,16 +142,16 @@ pub struct Emitter {
     /// The number of its node.
     pub number: u8,
     /// The far ends of the node's links.
-    pub far: [Option<End>; 4],
+    pub far: Row<Option<End>>,
     /// Where the other end of its ring is, if it is at hand.
-    pub own: Option<usize>,
+    pub own: Option<OwnLink>,
 }
 
 /// An event that emits is done, if it is enabled and there is room in its ring.
 pub fn emit_at(
     node: &mut Node,
     slot: &mut Option<OutEnd>,
-    ins: &mut Vec<Option<InEnd>>,
+    ins: &mut Vec<Slots<InEnd>>,
     log: &mut Log,
     emitter: &Emitter,
     event: NodeEvent,
@@ -149,12 +160,12 @@ pub fn emit_at(
         → SameRingBack emitter.now.own o (ins_view ins.old.items) }
     ensures ins { ins_view ins.new.items ≡ ins_view ins.old.items }
     ensures did { Whether result
-        (Put emitter.now.number emitter.now.far event emitter.now.own node.old node.new (log_view log.old)
+        (Emitted emitter.now.number emitter.now.far event emitter.now.own node.old node.new (log_view log.old)
         (log_view log.new) (option_map out_view slot.old) (option_map out_view slot.new) (ins_view ins.old.items))
         ((node.new ≡ node.old) × (log_view log.new ≡ log_view log.old)
         × (option_map out_view slot.new ≡ option_map out_view slot.old)) }
     ensures rests { result ≡ Ok false → is_node_enabled event node.old ≡ true
-        → HasRoom emitter.now.own (option_map out_view slot.old) (ins_view ins.old.items) false }
+        → AnswersRoom emitter.now.own (option_map out_view slot.old) (ins_view ins.old.items) false }
     ensures left { IfErr result (LeftWithRoom event emitter.now.own node.old log.old.clock
         (option_map out_view slot.old) (ins_view ins.old.items)) }
 {

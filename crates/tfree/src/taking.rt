@@ -3,9 +3,9 @@
 ghost use Rattle.std.specs.Prelude.{◌≡◌, ◌≢◌, ◌<◌, ◌≤◌, ◌+◌, ◌++◌, ℕ, vec_len, vec_capacity, IfOk, IfSome};
 ghost use Rattle.std.specs.Option.{IsSome};
 ghost use Rattle.tfree.specs.Opened.{worker_of, AreOfOpening};
-ghost use Rattle.tfree.specs.TakenApart.{IsAdded, HasRoomFor, KeepsRoom, AreTaken, IsRoom};
+ghost use Rattle.tfree.specs.TakenApart.{IsAdded, HasRoomForParts, KeepsRoom, AreTaken, IsRoom};
 
-use crate::ends::{InEnd, OutEnd};
+use crate::ends::{InEnd, OutEnd, Slots};
 use crate::gathering::place_of;
 use crate::history::Unmerged;
 use crate::worker::{Worker, WorkerParts};
@@ -19,10 +19,10 @@ use tword::limits::MOST_NODES;
 #[derive(Drop)]
 pub(crate) struct Brought {
     pub(crate) nodes: Vec<Node>,
-    /// The ends of rings that take, four for each node.
-    pub(crate) ins: Vec<Option<InEnd>>,
-    /// The ends of rings that put, four for each node.
-    pub(crate) outs: Vec<Option<OutEnd>>,
+    /// The ends of rings that take, a row for each node.
+    pub(crate) ins: Vec<Slots<InEnd>>,
+    /// The ends of rings that put, a row for each node.
+    pub(crate) outs: Vec<Slots<OutEnd>>,
     /// What each worker did and told.
     pub(crate) unmerged: Vec<Unmerged>,
 }
@@ -34,8 +34,8 @@ impl Brought {
     {
         Ok(Brought {
             nodes: Vec::with_capacity(alloc, MOST_NODES)?,
-            ins: Vec::with_capacity(alloc, 4 * MOST_NODES)?,
-            outs: Vec::with_capacity(alloc, 4 * MOST_NODES)?,
+            ins: Vec::with_capacity(alloc, MOST_NODES)?,
+            outs: Vec::with_capacity(alloc, MOST_NODES)?,
             unmerged: Vec::with_capacity(alloc, count)?,
         })
     }
@@ -53,7 +53,7 @@ fn move_all<T: Drop>(from: Vec<T>, to: &mut Vec<T>)
 
 /// The parts of a worker go behind the rest. Its wires are left.
 fn add(worker: Worker, all: &mut Brought) -> Wires
-    requires { HasRoomFor worker.share.owned all.old }
+    requires { HasRoomForParts worker.share.owned all.old }
     ensures added { IsAdded worker all.old all.new result }
     ensures room { KeepsRoom all.old all.new }
 {
@@ -77,7 +77,7 @@ fn add(worker: Worker, all: &mut Brought) -> Wires
 /// The worker of a number is taken out of a list, and apart.
 fn take_one(workers: &mut Vec<Worker>, number: usize, all: &mut Brought) -> Wires
     requires there { IsSome (worker_of number workers.old.items) }
-    requires room { IfSome (worker_of number workers.old.items) (λ v. HasRoomFor v.share.owned all.old) }
+    requires room { IfSome (worker_of number workers.old.items) (λ v. HasRoomForParts v.share.owned all.old) }
     ensures added { IfSome (worker_of number workers.old.items) (λ v. IsAdded v all.old all.new result) }
     ensures others { (j : ℕ) → j ≢ number → worker_of j workers.new.items ≡ worker_of j workers.old.items }
     ensures room { KeepsRoom all.old all.new }

@@ -1,9 +1,9 @@
 -- A node before its first event is whole where its processor is placed and has noticed nothing.
 use Rattle.std.proofs.Common.{◌≡◌, ◌∙◌, ℕ, zero, suc, ◌+◌, ◌<◌, ◌≤◌, refl, sym, ap, List, [], ◌∷◌, ◌++◌, length, map}
-use Rattle.std.proofs.Common.{take, get_or, length-append}
+use Rattle.std.proofs.Common.{take, get_or, length-append, subst, Fits, w8}
 use Rattle.std.proofs.Common.{Bool, true, false, Option, Some, None, ◌⊎◌, inl, inr, arith}
 use Rattle.std.proofs.lemmas.Bool.{cases_lt, lt-ltb}
-use Rattle.std.proofs.lemmas.List.{length-map, take_more, map-append, append-nil}
+use Rattle.std.proofs.lemmas.List.{length-map, take_more, map-append, append-nil, get_or_default}
 use Rattle.std.proofs.lemmas.List.Elements.{All-map}
 use Rattle.std.proofs.lemmas.List.Folds.{concat-append}
 use Rattle.std.proofs.lemmas.List.Sums.{sum_by-cons}
@@ -21,8 +21,13 @@ use Rattle.tproc.proofs.Opening.{same_at}
 use Rattle.tword.specs.Limits.{is_bad_message}
 use Rattle.tlink.specs.Roles.{script_control, first_offer, offering}
 use Rattle.tlink.specs.Node.{counts_at, fresh_node, fresh_source, input_at, no_counts, output_at}
+use Rattle.tlink.specs.Scripts.{AreBytes}
 use Rattle.tlink.proofs.Held.{script-else}
 use Rattle.tlink.specs.Whole.{HasNoticedNothing, IsCounted, IsWhole}
+
+-- what fits bytes is bytes
+pub are_bytes : (bytes : List ℕ) → ((k : ℕ) → Fits w8 (get_or bytes k 0)) → AreBytes bytes
+are_bytes bytes h k d l = subst (λ (b : ℕ). b < 256) (get_or_default bytes k 0 d l) (omega (arith, h k))
 
 module _ (m : Machine) (wired : List Bool) where
   not_counted : (l : ℕ) → counts_at (fresh_node m wired) l ≡ no_counts

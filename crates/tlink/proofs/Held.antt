@@ -11,8 +11,8 @@ use Rattle.tword.specs.Stores.{with_cells, as_cells}
 use Rattle.tword.specs.declared.span.Span.{Span}
 use Rattle.tword.specs.Claims.{AreApart, claims_overlap}
 use Rattle.tproc.specs.declared.offer.Offer.{Offer}
-use Rattle.tproc.specs.declared.offer.Ran.{Ran}
-use Rattle.tproc.specs.declared.offer.Ran.TheVariants as ran
+use Rattle.tproc.specs.declared.ran.Ran.{Ran}
+use Rattle.tproc.specs.declared.ran.Ran.TheVariants as ran
 use Rattle.tproc.specs.declared.waiter.LinkEnd.{LinkEnd}
 use Rattle.tproc.specs.Machine.{Control, Machine, claims_of}
 use Rattle.tproc.specs.LinkChannels.{link_end, quiet_end}
@@ -26,7 +26,7 @@ use Rattle.tproc.proofs.Scripted.{idle-step}
 use Rattle.tproc.proofs.Storing.{stored_claimed, stored_size}
 use Rattle.tlink.specs.declared.counts.Arrival.{Arrival}
 use Rattle.tlink.specs.declared.counts.Counts.{Counts}
-use Rattle.tlink.specs.Roles.{Role, Processor, Source, Sink, script_control, first_offer, offering, asking, behind}
+use Rattle.tlink.specs.Roles.{Role, Processor, Source, Sink, script_control, first_offer, offering, asking, address_behind}
 use Rattle.tlink.specs.Roles.{receives, has_room, is_full, role_woken, woken, role_filled, filled}
 use Rattle.tproc.specs.Links.{notice}
 use Rattle.tlink.specs.Node.{one_link}
@@ -175,7 +175,7 @@ sink_asks kept m l o s h = by l (rw s.control at h)
 
 -- what a source offers once its message is over; anything else that offered has nothing more to offer
 abbrev pub next_output : Role → ℕ → Machine → Option Offer
-next_output (Source done rest) l m = first_offer (behind (link_end m.control l).output) (drop 1 rest)
+next_output (Source done rest) l m = first_offer (address_behind (link_end m.control l).output) (drop 1 rest)
 next_output _ l m = None
 
 pub woken-links : (role : Role) (l : ℕ) (m : Machine) → (woken role l m).control.links
@@ -198,7 +198,7 @@ filled-links (Sink kept) l n m = refl
 -- the next message of a source
 source_next : (n : ℕ) (ns : List ℕ) (m : Machine) (s : IsSource (n ∷ ns) m)
     → IsSource ns
-    (record m { control = output_set 0 (first_offer (behind (link_end m.control 0).output) ns) m.control })
+    (record m { control = output_set 0 (first_offer (address_behind (link_end m.control 0).output) ns) m.control })
 source_next n ns m s =
     record {
       start = s.start + n;
@@ -219,7 +219,7 @@ held_woken (Source done rest) m l o h out = by rest l h (source_offers rest m l 
         → (l ≡ 0) × (first_offer (most_neg + h.start) rest ≡ Some o)
         → IsSource (drop 1 rest)
         (record m {
-          control = output_set l (first_offer (behind (link_end m.control l).output) (drop 1 rest)) m.control;
+          control = output_set l (first_offer (address_behind (link_end m.control l).output) (drop 1 rest)) m.control;
         })
     by [] l h p = let f : None ≡ Some o = p.1 in cc
     by (n ∷ ns) l h p = rw p.0 (source_next n ns m h)

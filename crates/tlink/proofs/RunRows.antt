@@ -4,9 +4,9 @@ use Rattle.std.proofs.Common.{Option, Some, None, Result, Ok, Err, arith}
 use Rattle.std.proofs.lemmas.Bool.{eqb-true}
 use Rattle.std.specs.Prelude.{◌==◌, is_some, option_map, if◌then◌else◌}
 use Rattle.tword.specs.declared.breaks.Break.{Break}
-use Rattle.tproc.specs.declared.offer.Ran.{Ran}
-use Rattle.tproc.specs.declared.offer.Ran.TheVariants as ran
-use Rattle.tproc.specs.declared.offer.RanMany.{RanMany}
+use Rattle.tproc.specs.declared.ran.Ran.{Ran}
+use Rattle.tproc.specs.declared.ran.Ran.TheVariants as ran
+use Rattle.tproc.specs.declared.ran.RanMany.{RanMany}
 use Rattle.tproc.specs.Machine.{Machine}
 use Rattle.tproc.specs.Steps.{step, step_answered, step_left_by}
 use Rattle.tproc.specs.Runs as steps

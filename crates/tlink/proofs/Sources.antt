@@ -60,7 +60,7 @@ rest_some (x ∷ xs) zero n h = ap (λ y. y ∷ xs) (same_Some _ _ h)
 rest_some (x ∷ xs) (suc d) n h = rest_some xs d n h
 
 -- the lengths of the messages that are over, with one more
-over_more : (lengths : List ℕ) (done n : ℕ) → slice_get lengths done ≡ Some n
+pub over_more : (lengths : List ℕ) (done n : ℕ) → slice_get lengths done ≡ Some n
     → take (suc done) lengths ≡ take done lengths ++ n ∷ []
 over_more [] done n h = cc
 over_more (x ∷ xs) zero n h = ap (λ y. y ∷ []) (same_Some _ _ h)

@@ -1,4 +1,5 @@
--- What may stand behind the links of a node: a processor, or a script at link 0.
+-- What may stand behind the links of a node: a processor, or a script at link 0. What a source and a sink are is defined
+-- in `MessageLists`; here stands how a node keeps them, as the machine of a processor that runs nothing.
 -- Source: own choice: what a node's surroundings send to it and take from it.
 use Rattle.std.specs.Prelude.{ℕ, ◌+◌, Bool, true, false, ◌==◌, nat_lt, List, [], ◌∷◌, ◌++◌, drop, take}
 use Rattle.std.specs.Prelude.{Option, Some, None}
@@ -45,9 +46,9 @@ abbrev pub asking : ℕ → ℕ → LinkEnd
 asking address room = record quiet_end { input = Some (record { wdesc = 0; buffer = address; length = room }) }
 
 -- the address behind an offer
-abbrev pub behind : Option Offer → ℕ
-behind None = most_neg
-behind (Some o) = o.buffer + o.length
+abbrev pub address_behind : Option Offer → ℕ
+address_behind None = most_neg
+address_behind (Some o) = o.buffer + o.length
 
 -- a source receives no byte
 abbrev pub receives : Role → Bool
@@ -73,7 +74,7 @@ role_woken role = role
 abbrev pub woken : Role → ℕ → Machine → Machine
 woken (Source over rest) l m =
     record m {
-      control = output_set l (first_offer (behind (link_end m.control l).output) (drop 1 rest)) m.control;
+      control = output_set l (first_offer (address_behind (link_end m.control l).output) (drop 1 rest)) m.control;
     }
 woken _ l m = finish_output l m
 

@@ -1,13 +1,18 @@
 -- Scripted ends as a program holds them.
 -- Source: own choice, words for contracts.
-use Rattle.std.specs.Prelude.{◌≡◌, ℕ, ◌+◌, ◌-◌, ◌<◌, ◌≤◌, List, [], ◌∷◌, ◌++◌, drop, take, length, sum, Option}
+use Rattle.std.specs.Prelude.{◌≡◌, ℕ, ◌+◌, ◌-◌, ◌<◌, ◌≤◌, All, List, [], ◌∷◌, ◌++◌, drop, take, length, sum, Option}
 use Rattle.std.specs.Prelude.{Some, None}
+use Rattle.tword.specs.Limits.{largest_capacity}
 use Rattle.tword.specs.Words.{most_neg}
 use Rattle.tword.specs.Stores.{shown}
 use Rattle.tproc.specs.Machine.{Machine}
 use Rattle.tlink.specs.declared.counts.Counts.{Counts}
 use Rattle.tlink.specs.Roles.{Role, Processor, Source, Sink, script_machine, offering, asking}
 use Rattle.tlink.specs.Node.{NodeState, no_counts, counts_at, one_link}
+
+-- each element of a list is a byte
+abbrev pub AreBytes : List ℕ → Type 0
+AreBytes bytes = All (λ b. b < 256) bytes
 
 -- the counts of link 0; the other links have counted nothing
 abbrev pub only_counts : Counts → List Counts
@@ -79,12 +84,12 @@ abbrev pub kept_messages : NodeState → List (List ℕ)
 kept_messages n = messages_of n.role (shown n.machine.store)
 
 -- the bytes that a sink has of the message that is not complete
-abbrev pub part_of : Role → ℕ → List ℕ → List ℕ
-part_of (Sink kept) got bytes = take got (drop (sum kept) bytes)
-part_of _ got bytes = []
+abbrev pub part_in : Role → ℕ → List ℕ → List ℕ
+part_in (Sink kept) got bytes = take got (drop (sum kept) bytes)
+part_in _ got bytes = []
 
 abbrev pub kept_part : NodeState → List ℕ
-kept_part n = part_of n.role (counts_at n 0).got (shown n.machine.store)
+kept_part n = part_in n.role (counts_at n 0).got (shown n.machine.store)
 
 -- the processor of a node, and a node that is a source or a sink
 abbrev pub processor_of : Role → Machine → Option Machine
@@ -112,4 +117,4 @@ pub record IsSinkWithin (bytes lengths : List ℕ) (messages kept : ℕ) : Type 
   pub each : messages ≤ kept
   pub within : kept ≤ length bytes
   pub room : length lengths ≡ length bytes
-  pub few : length bytes ≤ 65536
+  pub few : length bytes ≤ largest_capacity

@@ -1,17 +1,18 @@
 //! A node, whose parts fit one another at all times.
 
-ghost use Rattle.std.specs.Prelude.{◌≡◌, ◌≤◌, false, All, IfErr, IfOk, option_copied};
+ghost use Rattle.std.specs.Prelude.{◌≡◌, ◌≤◌, false, All, IfErr, IfOk, OnOk, option_copied};
 ghost use Rattle.tword.specs.Stores.{as_cells};
-ghost use Rattle.tword.specs.Limits.{is_bad_message};
+ghost use Rattle.tword.specs.Limits.{is_bad_message, largest_capacity};
 ghost use Rattle.tlink.specs.Node.{counts_at, due_at, fresh_node, fresh_source, fresh_sink};
 ghost use Rattle.tlink.specs.Events.{happens, node_answered, node_left_by, is_node_enabled};
 ghost use Rattle.tlink.specs.Runs.{runs};
-ghost use Rattle.tlink.specs.Scripts.{processor_of, source_of, sink_of};
+ghost use Rattle.tlink.specs.Scripts.{processor_of, source_of, sink_of, AreBytes};
 ghost use Rattle.tlink.specs.Whole.{HasNoticedNothing};
 
 use crate::counts::Counts;
 use crate::event::{Emitted, NodeEvent, Runs, StepFault};
 use crate::links::{Links, not_enabled};
+use crate::role::Role;
 use crate::sink::Sink;
 use crate::source::Source;
 use std::alloc::{AllocError, Global};
@@ -47,6 +48,8 @@ impl Model for Node {
 }
 
 impl Node {
+    ghost use Rattle.tlink.specs.Bodies.{IsRoleOf};
+
     /// A processor before its first event, and which of its links have a wire. It may be at any point of its run, as
     /// long as no byte was noticed at its links.
     pub fn new(processor: Processor, wired: [bool; 4]) -> Self
@@ -66,7 +69,8 @@ impl Node {
     /// Where the allocator refuses.
     pub fn new_source(alloc: Global, messages: &[Items<u8>]) -> Result<Node, AllocError>
         requires { All (λ m. is_bad_message m ≡ false) messages.now }
-        ensures { IfOk result (λ n. n ≡ fresh_source messages.now) }
+        ensures node { IfOk result (λ n. n ≡ fresh_source messages.now) }
+        ensures bytes { OnOk result (All AreBytes messages.now) }
     {
         let source = Source::new(alloc, messages)?;
         Ok(Node {
@@ -74,13 +78,13 @@ impl Node {
         })
     }
 
-    /// A sink for so many bytes, at most 65,536, before its first event: it keeps the messages that come at link 0. It
+    /// A sink for so many bytes before its first event: it keeps the messages that come at link 0. It
     /// takes all memory that it needs here.
     ///
     /// # Errors
     /// Where the allocator refuses.
     pub fn new_sink(alloc: Global, capacity: u32) -> Result<Node, AllocError>
-        requires { capacity ≤ 65536 }
+        requires { capacity ≤ largest_capacity }
         ensures { IfOk result (λ n. n ≡ fresh_sink capacity) }
     {
         let sink = Sink::new(alloc, capacity)?;
@@ -152,23 +156,35 @@ impl Node {
         }
     }
 
-    /// The processor, where it is none of the scripts.
-    pub fn processor(&self) -> Option<&Processor>
-        ensures { option_copied result ≡ processor_of self.now.role self.now.machine }
+    /// What stands behind the links.
+    #[inline(always)]
+    pub fn role(&self) -> Role<'_>
+        ensures { IsRoleOf result self.now }
     {
         match &self.body {
             Body::Processor(links) => {
                 links.know_role();
-                Some(links.processor())
+                Role::Processor(links.processor())
             }
             Body::Source(source) => {
                 source.know_role();
-                None
+                Role::Source(source)
             }
             Body::Sink(sink) => {
                 sink.know_role();
-                None
+                Role::Sink(sink)
             }
+        }
+    }
+
+    /// The processor, where it is none of the scripts.
+    pub fn processor(&self) -> Option<&Processor>
+        ensures { option_copied result ≡ processor_of self.now.role self.now.machine }
+    {
+        match self.role() {
+            Role::Processor(processor) => Some(processor),
+            Role::Source(_) => None,
+            Role::Sink(_) => None,
         }
     }
 
@@ -176,19 +192,10 @@ impl Node {
     pub fn source(&self) -> Option<&Source>
         ensures { option_copied result ≡ source_of self.now self.now.role }
     {
-        match &self.body {
-            Body::Processor(links) => {
-                links.know_role();
-                None
-            }
-            Body::Source(source) => {
-                source.know_role();
-                Some(source)
-            }
-            Body::Sink(sink) => {
-                sink.know_role();
-                None
-            }
+        match self.role() {
+            Role::Source(source) => Some(source),
+            Role::Processor(_) => None,
+            Role::Sink(_) => None,
         }
     }
 
@@ -196,19 +203,10 @@ impl Node {
     pub fn sink(&self) -> Option<&Sink>
         ensures { option_copied result ≡ sink_of self.now self.now.role }
     {
-        match &self.body {
-            Body::Processor(links) => {
-                links.know_role();
-                None
-            }
-            Body::Source(source) => {
-                source.know_role();
-                None
-            }
-            Body::Sink(sink) => {
-                sink.know_role();
-                Some(sink)
-            }
+        match self.role() {
+            Role::Sink(sink) => Some(sink),
+            Role::Processor(_) => None,
+            Role::Source(_) => None,
         }
     }
 

@@ -1,11 +1,11 @@
 //! A sink: a script that keeps the messages that come at link 0.
 
-ghost use Rattle.std.specs.Prelude.{◌≡◌, ◌≤◌, IfOk, None, Some, Ok, Err, if◌then◌else◌, length, option_map};
+ghost use Rattle.std.specs.Prelude.{◌≡◌, ◌≤◌, IfOk, None, Some, Ok, Err, if◌then◌else◌, length, option_map, take};
 ghost use Rattle.std.specs.Option.{ok_or};
-ghost use Rattle.tlink.specs.Roles as roles;
+ghost use Rattle.tlink.specs.Roles as spec;
+ghost use Rattle.tword.specs.Limits.{largest_capacity};
 ghost use Rattle.tword.specs.Stores.{as_cells};
 ghost use Rattle.tlink.specs.Node.{counts_at, due_at, fresh_sink};
-ghost use Rattle.std.specs.Prelude.{take};
 ghost use Rattle.tlink.specs.Scripts.{kept_lengths, kept_messages, kept_part, sink_state, IsSinkWithin};
 ghost use Rattle.tlink.specs.Events.{happens, is_node_enabled};
 ghost use Rattle.tlink.specs.Answers.{DoesNode};
@@ -85,7 +85,7 @@ impl Sink {
     /// # Errors
     /// Where the allocator refuses.
     pub(crate) fn new(alloc: Global, capacity: u32) -> Result<Sink, AllocError>
-        requires { capacity ≤ 65536 }
+        requires { capacity ≤ largest_capacity }
         ensures { IfOk result (λ s. s ≡ fresh_sink capacity) }
     {
         Ok(Sink {
@@ -194,7 +194,7 @@ impl Sink {
 
     /// A sink's role is that of a sink, and no break has frozen it.
     pub(crate) fn know_role(&self)
-        ensures role { self.now.role ≡ roles.Sink (kept_lengths self.now.role) }
+        ensures role { self.now.role ≡ spec.Sink (kept_lengths self.now.role) }
         ensures whole { self.now.broken ≡ None }
     {
         let _counts = &self.counts;

@@ -3,7 +3,7 @@ use Rattle.std.proofs.Common.{◌≡◌, ℕ, ◌+◌, refl, sym, ap, ◌∙◌,
 use Rattle.std.specs.Prelude.{slice_index_or, false}
 use Rattle.tword.specs.Stores.{cells, with_cells, as_cells, bytes_at}
 use Rattle.tproc.specs.declared.offer.Offer.{Offer}
-use Rattle.tproc.specs.declared.offer.Ran.TheVariants as ran
+use Rattle.tproc.specs.declared.ran.Ran.TheVariants as ran
 use Rattle.tproc.specs.Machine.{Machine}
 use Rattle.tproc.specs.LinkChannels.{link_end}
 use Rattle.tproc.specs.Hidden.{hidden, hidden_step}

@@ -1,106 +1,127 @@
--- The first fault of a list, element after element, and of a plan.
-use Rattle.std.proofs.Common.{◌≡◌, ℕ, suc, ◌+◌, ◌<◌, refl, sym, ap, ◌∙◌, List, [], ◌∷◌, length, get_or, take, drop}
-use Rattle.std.proofs.Common.{Bool, true, false, ◌||◌, Option, Some, None, is_some, option_map, add-one}
-use Rattle.std.specs.Prelude.{position, if◌then◌else◌}
-use Rattle.std.specs.List.{list_any, position_from}
-use Rattle.std.proofs.Math.Seq.{take-suc, drop-cons}
-use Rattle.std.proofs.lemmas.List.Folds.{list_any-append}
-use Rattle.tplan.specs.declared.plan.End.{End}
+-- The first fault of a list, and of a plan.
+use Rattle.std.proofs.Common.{◌≡◌, ℕ, ◌+◌, ◌<◌, refl, sym, ap, ◌∙◌, List, [], ◌∷◌, length, get_or, take, drop}
+use Rattle.std.proofs.Common.{Bool, true, false, Option, Some, None, is_some, option_map, add-one, zero-add, All, arith, cond}
+use Rattle.std.specs.Prelude.{position, slice_get}
+use Rattle.std.specs.List.{list_any, position_from, position_or_len, range_with_len}
+use Rattle.std.proofs.Math.Seq.{drop-cons}
+use Rattle.std.proofs.lemmas.Bool.{lt-ltb, le-ltb, ltb-false, both_ways}
+use Rattle.std.proofs.lemmas.List.{get_or-take, length-take-le}
+use Rattle.std.proofs.lemmas.List.FromFn.{length-range_with_len, get_or-range_with_len}
+use Rattle.std.proofs.lemmas.List.Sums.{position_or_len_is, fails_before_first}
+use Rattle.std.proofs.lemmas.Option.{slice_get_read, slice_get-get_or}
+use Rattle.std.proofs.lemmas.List.Quantifiers.{position-Some}
 use Rattle.tplan.specs.declared.plan.Wire.{Wire}
-use Rattle.tnet.specs.Wires.{same_end, joins, far_end}
+use Rattle.tnet.specs.Wires.{same_end}
 use Rattle.tplan.specs.declared.plan.Plan.{Plan}
 use Rattle.tplan.specs.declared.plan.BuildFault.{BuildFault}
 use Rattle.tplan.specs.declared.plan.BuildFault.TheVariants.{OutOfMemory, TooMany, BadSize, BadTimeslice, BadEnd}
 use Rattle.tplan.specs.declared.plan.BuildFault.TheVariants.{SameEnd, EndTwice, BadSegment, BadProcess, BadCapacity}
-use Rattle.tnet.specs.Building.{end_twice_from, too_many, is_bad_size, is_bad_timeslice, is_bad_end, bad_segment}
-use Rattle.tnet.specs.Building.{named_ends, all_wires, is_bad_capacity, bad_process, first_fault_from, or_else, when}
-use Rattle.tnet.specs.Building.{fault_of}
+use Rattle.tnet.specs.Building.{too_many, is_bad_size, is_bad_timeslice, is_bad_end, bad_segment, named_ends, all_wires}
+use Rattle.tnet.specs.Building.{is_bad_capacity, bad_process, or_else, when, fault_of, share_an_end, has_end_twice}
+use Rattle.tnet.specs.Building.{first_end_twice, fault_in, fault_at, first_with_fault}
 
--- an end has a wire where it is one of a wire
-found : (ws : List Wire) (e : End) → is_some (far_end ws e) ≡ list_any (joins e) ws
-found [] e = refl
-found (w ∷ ws) e = by (same_end w.a e) (same_end w.b e) (found ws e)
+-- the first place that passes, and none
+pub position_is : {X : Type 0} (test : X → Bool) (xs : List X) (place : ℕ) (d : X) → place < length xs
+    → ((k : ℕ) → k < place → test (get_or xs k d) ≡ false) → test (get_or xs place d) ≡ true
+    → position test xs ≡ Some place
+position_is test xs place d within before here =
+    let e : position_or_len test xs ≡ place =
+    position_or_len_is test xs place d (omega (arith, within)) before (λ _. here) in
+    rw (e, lt-ltb place (length xs) within) refl
+
+pub position_none : {X : Type 0} (test : X → Bool) (xs : List X) → All (λ x. test x ≡ false) xs
+    → position test xs ≡ None
+position_none test [] h = refl
+position_none test (x ∷ xs) h =
+    let e : position_or_len test (x ∷ xs) ≡ length (x ∷ xs) =
+    position_or_len_is test (x ∷ xs) (length (x ∷ xs)) x (omega arith) (λ k b. h k x b) (λ b. absurd (omega (arith, b)))
+    in
+    rw (e, le-ltb (length (x ∷ xs)) (length (x ∷ xs)) (omega arith)) refl
+
+-- no place passes the test
+cond-none : {A : Type 0} (b : Bool) (x : A) → cond b (Some x) None ≡ None → b ≡ false
+cond-none false x h = refl
+cond-none true x h = cc
+
+pub no_position : {X : Type 0} (test : X → Bool) (xs : List X) → position test xs ≡ None → All (λ x. test x ≡ false) xs
+no_position test xs h k d l =
+    fails_before_first test xs k d (omega (arith, ltb-false (position_or_len test xs) (length xs) (cond-none _ _ h)))
+
+none_some : {X : Type 0} (o : Option X) → o ≡ None → is_some o ≡ false
+none_some o h = rw h refl
+
+some_some : {X : Type 0} (o : Option X) (x : X) → o ≡ Some x → is_some o ≡ true
+some_some o x h = rw h refl
+
+-- no element has a fault
+pub none_faulty : {A B : Type 0} (f : A → Option B) (xs : List A) → All (λ x. f x ≡ None) xs
+    → first_with_fault f xs ≡ None
+none_faulty f xs h =
+    rw (position_none (λ x. is_some (f x)) xs (λ k d b. none_some (f (get_or xs k d)) (h k d b))) refl
+
+not_some : {X : Type 0} (o : Option X) → is_some o ≡ false → o ≡ None
+not_some None h = refl
+not_some (Some x) h = cc
+
+mapped_none : {B : Type 0} (place : ℕ) (o : Option B) → option_map {U = ℕ × B} (λ y. (place, y)) o ≡ None → o ≡ None
+mapped_none place None q = refl
+mapped_none place (Some y) q = cc
+
+pub no_fault : {A B : Type 0} (f : A → Option B) (xs : List A) → first_with_fault f xs ≡ None
+    → All (λ x. f x ≡ None) xs
+no_fault {A} {B} f xs h k d b = by (position (λ x. is_some (f x)) xs) refl h
   where
-    by : (a b : Bool) → is_some (far_end ws e) ≡ list_any (joins e) ws
-        → is_some (if a then Some w.b else if b then Some w.a else far_end ws e) ≡ ((a || b) || list_any (joins e) ws)
-    by true b h = refl
-    by false true h = refl
-    by false false h = h
+    by : (o : Option ℕ) → position (λ x. is_some (f x)) xs ≡ o → fault_at f xs o ≡ None → f (get_or xs k d) ≡ None
+    by None e q = not_some (f (get_or xs k d)) (no_position (λ x. is_some (f x)) xs e k d b)
+    by (Some place) e q =
+        let first = position-Some (λ x. is_some (f x)) xs place d e in
+        let none : f (get_or xs place d) ≡ None =
+        mapped_none place (f (get_or xs place d))
+        (ap (fault_in f place) (sym (slice_get-get_or xs place d first.0)) ∙ q) in
+        absurd (both_ways (is_some (f (get_or xs place d))) (none_some (f (get_or xs place d)) none) first.1)
 
--- the same ends are in both
-abbrev AreAlike : List Wire → List Wire → Type 0
-AreAlike ws vs = (e : End) → list_any (joins e) ws ≡ list_any (joins e) vs
+-- an element has one, and it is the first
+pub fault_told : {A B : Type 0} (f : A → Option B) (xs : List A) (place : ℕ) (x : A) (y : B)
+    → position (λ x. is_some (f x)) xs ≡ Some place → slice_get xs place ≡ Some x → f x ≡ Some y
+    → first_with_fault f xs ≡ Some (place, y)
+fault_told f xs place x y first there here = rw (first, there, here) refl
 
-or-swap : (a b : Bool) → (a || b) ≡ (b || (a || false))
-or-swap true true = refl
-or-swap true false = refl
-or-swap false true = refl
-or-swap false false = refl
+-- an element has one, and none before it
+pub first_faulty : {A B : Type 0} (f : A → Option B) (xs : List A) (place : ℕ) (x : A) (y : B) → place < length xs
+    → x ≡ get_or xs place x → All (λ x. f x ≡ None) (take place xs) → f x ≡ Some y
+    → first_with_fault f xs ≡ Some (place, y)
+first_faulty f xs place x y within read before here =
+    let there : slice_get xs place ≡ Some x = slice_get_read xs (length xs) place x refl within read in
+    let first : position (λ x. is_some (f x)) xs ≡ Some place =
+    position_is (λ x. is_some (f x)) xs place x within
+    (λ k b. none_some (f (get_or xs k x))
+    (ap f (sym (get_or-take place xs k x b)) ∙ before k x (omega (arith, length-take-le place xs (omega (arith, within)), b))))
+    (some_some (f (get_or xs place x)) y (ap f (sym read) ∙ here)) in
+    fault_told f xs place x y first there here
 
--- only which ends came before matters
-twice_alike : (place : ℕ) (earlier earlier' ws : List Wire) → AreAlike earlier earlier'
-    → end_twice_from place earlier ws ≡ end_twice_from place earlier' ws
-twice_alike place earlier earlier' [] h = refl
-twice_alike place earlier earlier' (w ∷ ws) h =
-    rw (found earlier w.a, found earlier w.b, found earlier' w.a, found earlier' w.b, h w.a, h w.b)
-    (ap (λ (rest : Option ℕ). if list_any (joins w.a) earlier' || list_any (joins w.b) earlier' then Some place
-    else rest)
-    (twice_alike (suc place) (w ∷ earlier) (w ∷ earlier') ws (λ e. ap (λ (b : Bool). joins e w || b) (h e))))
+-- a wire has an end of an earlier one, and none before it has
+pub twice_is : (ws : List Wire) (place : ℕ) → place < length ws
+    → ((k : ℕ) → k < place → has_end_twice ws k ≡ false) → has_end_twice ws place ≡ true
+    → first_end_twice ws ≡ Some place
+twice_is ws place within before here =
+    let count : length (range_with_len 0 (length ws)) ≡ length ws = length-range_with_len 0 (length ws) in
+    let at : (k : ℕ) → k < length ws → get_or (range_with_len 0 (length ws)) k 0 ≡ k = λ k b.
+    get_or-range_with_len 0 (length ws) k 0 b ∙ zero-add k in
+    position_is (has_end_twice ws) (range_with_len 0 (length ws)) place 0 (omega (arith, count, within))
+    (λ k b. ap (has_end_twice ws) (at k (omega (arith, b, within))) ∙ before k b)
+    (ap (has_end_twice ws) (at place within) ∙ here)
 
--- two tests of each element, or one
-any_of_both : (w : Wire) (ws : List Wire)
-    → (list_any (joins w.a) ws || list_any (joins w.b) ws) ≡ list_any (λ v. joins w.a v || joins w.b v) ws
-any_of_both w [] = refl
-any_of_both w (v ∷ ws) = by (joins w.a v) (joins w.b v) (any_of_both w ws)
-  where
-    by : (a b : Bool) → (list_any (joins w.a) ws || list_any (joins w.b) ws)
-        ≡ list_any (λ v. joins w.a v || joins w.b v) ws
-        → ((a || list_any (joins w.a) ws) || (b || list_any (joins w.b) ws))
-        ≡ ((a || b) || list_any (λ v. joins w.a v || joins w.b v) ws)
-    by true b h = refl
-    by false true h = by_right (list_any (joins w.a) ws)
-      where
-        by_right : (x : Bool) → (x || true) ≡ true
-        by_right true = refl
-        by_right false = refl
-    by false false h = h
+-- no wire has one
+pub twice_none : (ws : List Wire) → ((k : ℕ) → k < length ws → has_end_twice ws k ≡ false) → first_end_twice ws ≡ None
+twice_none ws h =
+    let count : length (range_with_len 0 (length ws)) ≡ length ws = length-range_with_len 0 (length ws) in
+    position_none (has_end_twice ws) (range_with_len 0 (length ws)) (λ k d b.
+    ap (has_end_twice ws) (get_or-range_with_len 0 (length ws) k d (omega (arith, count, b)) ∙ zero-add k)
+    ∙ h k (omega (arith, count, b)))
 
-abbrev is_wired_at : List Wire → ℕ → Wire → Bool
-is_wired_at ws place w = list_any (λ v. joins w.a v || joins w.b v) (take place ws)
-
--- the wire at a place has no end of an earlier one
-pub twice_next : (place : ℕ) (ws : List Wire) (d : Wire) → place < length ws
-    → is_wired_at ws place (get_or ws place d) ≡ false
-    → end_twice_from place (take place ws) (drop place ws)
-    ≡ end_twice_from (place + 1) (take (place + 1) ws) (drop (place + 1) ws)
-twice_next place ws d within h =
-    let w : Wire = get_or ws place d in
-    rw (
-      add-one,
-      drop-cons ws place d within,
-      found (take place ws) w.a,
-      found (take place ws) w.b,
-      any_of_both w (take place ws),
-      h,
-    )
-    (twice_alike (suc place) (w ∷ take place ws) (take (suc place) ws) (drop (suc place) ws)
-    (λ e. or-swap (joins e w) (list_any (joins e) (take place ws))
-    ∙ sym (list_any-append (joins e) (take place ws) (w ∷ []))
-    ∙ ap (list_any (joins e)) (sym (take-suc ws place d within))))
-
--- it has one
-pub twice_here : (place : ℕ) (ws : List Wire) (d : Wire) → place < length ws
-    → is_wired_at ws place (get_or ws place d) ≡ true
-    → end_twice_from place (take place ws) (drop place ws) ≡ Some place
-twice_here place ws d within h =
-    let w : Wire = get_or ws place d in
-    rw (
-      drop-cons ws place d within,
-      found (take place ws) w.a,
-      found (take place ws) w.b,
-      any_of_both w (take place ws),
-      h,
-    ) refl
+pub twice_at : (ws : List Wire) (place : ℕ) (w : Wire) → slice_get ws place ≡ Some w
+    → has_end_twice ws place ≡ list_any (share_an_end w) (take place ws)
+twice_at ws place w there = rw there refl
 
 -- the element at a place passes a test, or does not
 pub position_here : {X : Type 0} (test : X → Bool) (xs : List X) (place : ℕ) (d : X) → place < length xs
@@ -135,9 +156,9 @@ no_memory_fault p =
     (neither_of _ _ (not_when (is_bad_timeslice p.timeslice) BadTimeslice (λ e. cc))
     (neither_of _ _ (not_mapped BadEnd (position (list_any (is_bad_end (length p.nodes))) (named_ends p)) (λ x e. cc))
     (neither_of _ _ (not_mapped SameEnd (position (λ w. same_end w.a w.b) p.wires) (λ x e. cc))
-    (neither_of _ _ (not_mapped EndTwice (end_twice_from 0 [] (all_wires p)) (λ x e. cc))
+    (neither_of _ _ (not_mapped EndTwice (first_end_twice (all_wires p)) (λ x e. cc))
     (neither_of _ _
-    (not_mapped (λ f. BadSegment f.0 f.1) (first_fault_from 0 bad_segment p.nodes) (λ x e. cc))
+    (not_mapped (λ f. BadSegment f.0 f.1) (first_with_fault bad_segment p.nodes) (λ x e. cc))
     (neither_of _ _
-    (not_mapped (λ f. BadProcess f.0 f.1.0 f.1.1) (first_fault_from 0 (bad_process p.timeslice) p.nodes) (λ x e. cc))
+    (not_mapped (λ f. BadProcess f.0 f.1.0 f.1.1) (first_with_fault (bad_process p.timeslice) p.nodes) (λ x e. cc))
     (not_mapped BadCapacity (position is_bad_capacity p.sinks) (λ x e. cc)))))))))

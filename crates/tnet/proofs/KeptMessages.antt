@@ -6,7 +6,7 @@ use Rattle.std.proofs.Math.ListN.{get_or-map}
 use Rattle.std.proofs.lemmas.List.{ext_get_or, length-map, take-map, drop-map}
 use Rattle.std.proofs.lemmas.List.Sums.{sum_by-cons}
 use Rattle.tword.specs.Words.{most_neg}
-use Rattle.tword.specs.Stores.{Store, place, with_cells, cells, shown, bytes_at}
+use Rattle.tword.specs.Stores.{Store, with_cells, cells, shown, bytes_at}
 use Rattle.tword.specs.Claims.{is_input}
 use Rattle.tword.specs.Touches.{byte_span}
 use Rattle.tword.proofs.Hiding.{length-hiding_from}
@@ -17,8 +17,7 @@ use Rattle.tproc.proofs.Given.{IsGiven, filled_size}
 use Rattle.tlink.specs.Roles.{Role, Processor, Source, Sink, role_filled, filled}
 use Rattle.tlink.specs.Scripts.{cut, messages_of}
 use Rattle.tlink.proofs.Held.{sink_asks}
-use Rattle.tplan.specs.declared.plan.End.{End}
-use Rattle.tnet.specs.Rendezvous.{Node, Configuration, node_of, given, Fits, IsCopy}
+use Rattle.tnet.specs.Rendezvous.{given, Fits}
 use Rattle.tnet.specs.Corollaries.{SinksKeepWhole}
 use Rattle.tnet.proofs.CopiesWhole.{receiver_after}
 use Rattle.tnet.proofs.Reached.{copy_given, reached_veiled}

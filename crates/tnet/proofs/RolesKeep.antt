@@ -3,8 +3,8 @@ use Rattle.std.proofs.Common.{◌≡◌, ℕ, zero, suc, refl, sym, ap, ◌∙�
 use Rattle.std.specs.Prelude.{slice_index_or, sum, ◌+◌}
 use Rattle.tword.specs.Words.{most_neg}
 use Rattle.tproc.specs.declared.offer.Offer.{Offer}
-use Rattle.tproc.specs.declared.offer.Ran.{Ran}
-use Rattle.tproc.specs.declared.offer.Ran.TheVariants as ran
+use Rattle.tproc.specs.declared.ran.Ran.{Ran}
+use Rattle.tproc.specs.declared.ran.Ran.TheVariants as ran
 use Rattle.tproc.specs.Machine.{Machine}
 use Rattle.tproc.specs.LinkChannels.{link_end}
 use Rattle.tproc.specs.Links.{notice}

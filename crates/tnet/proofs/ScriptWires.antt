@@ -1,8 +1,8 @@
 -- The wires of sources and sinks, each at link 0 of its own.
-use Rattle.std.proofs.Common.{◌≡◌, ◌≢◌, ℕ, zero, suc, ◌+◌, ◌-◌, ◌<◌, ◌≤◌, refl, sym, ap, ◌∙◌, List, [], ◌∷◌, ◌++◌}
+use Rattle.std.proofs.Common.{◌≡◌, ◌≢◌, ℕ, zero, suc, ◌+◌, ◌≤◌, refl, sym, ap, ◌∙◌, List, [], ◌∷◌, ◌++◌}
 use Rattle.std.proofs.Common.{length}
-use Rattle.std.proofs.Common.{map, Bool, true, false, ◌||◌, Option, Some, None, All, arith, add-zero}
-use Rattle.std.specs.Prelude.{slice_get, if◌then◌else◌}
+use Rattle.std.proofs.Common.{map, Bool, true, false, Option, Some, None, All, arith, add-zero}
+use Rattle.std.specs.Prelude.{slice_get}
 use Rattle.std.specs.List.{list_any}
 use Rattle.std.proofs.lemmas.Bool.{or_parts}
 use Rattle.std.proofs.lemmas.List.Elements.{All-nil, All-cons, All-head, All-tail, All-append, All-weaker}
@@ -11,10 +11,10 @@ use Rattle.tplan.specs.declared.plan.End.{End}
 use Rattle.tplan.specs.declared.plan.Wire.{Wire}
 use Rattle.tplan.specs.declared.plan.Plan.{Plan}
 use Rattle.tnet.specs.Wires.{end_at, same_end, far_end}
-use Rattle.tnet.specs.Building.{is_bad_end, node_count, script_wires, script_ends, all_wires, named_ends}
+use Rattle.tnet.specs.Building.{is_bad_end, node_count, script_wires, script_ends, all_wires}
 use Rattle.tnet.specs.Sound.{IsEnd, AreWires}
 use Rattle.tnet.proofs.Ends.{same_end-true, same_end-self}
-use Rattle.tnet.proofs.OpenedPlans.{IsFaultless}
+use Rattle.tnet.proofs.OpenedPlans.{HasGoodWires}
 use Rattle.tnet.proofs.OpenedWires.{good_end, far_end-none, wired_ends, are_wires}
 use Rattle.tnet.proofs.PlannedWires.{script_wire, length-script_ends}
 
@@ -102,7 +102,7 @@ script_bare nodes k (x ∷ es) e good past other =
     let not_second : same_end x e ≡ false = other_node x e (λ q. absurd (omega (arith, q, here.0, past))) in
     rw (not_first, not_second) (script_bare nodes (suc k) es e (All-tail (IsEnd nodes) x es good) past other)
 
-module _ (p : Plan) (good : IsFaultless p) where
+module _ (p : Plan) (good : HasGoodWires p) where
   -- ends of wires and scripts are links of nodes
   wires_good : All (λ w. IsEnd (length p.nodes) w.a × IsEnd (length p.nodes) w.b) p.wires
   wires_good =

@@ -8,7 +8,7 @@ use Rattle.tnet.specs.Net.{NetState}
 use Rattle.tnet.specs.Packets.{NetAnswer, net_happens, net_left_by}
 use Rattle.tnet.specs.Sound.{IsSound}
 use Rattle.tnet.proofs.SoundEvents.{stays_sound}
-use Rattle.tnet.specs.Answers.{DoesNet}
+use Rattle.tnet.specs.Answers.{DoesEvent, DoesNet}
 
 by_answer : (e : Event) (net : NetState) (a : NetAnswer) → IsSound net → net_happens e net ≡ a
     → IsSound (net_left_by e net a)
@@ -18,5 +18,5 @@ by_answer e net (Err (Frozen b)) sound h = stays_sound net (net_left_by e net (E
 
 -- an event leaves a sound net
 pub left_sound : (e : Event) (net net' : NetState) (r : Result Emitted StepFault) → IsSound net
-    → DoesNet e (net_happens e net) net r net' → IsSound net'
+    → DoesEvent e net r net' → IsSound net'
 left_sound e net net' r sound does = subst IsSound (sym does.left) (by_answer e net (net_happens e net) sound refl)

@@ -1,7 +1,7 @@
 -- With so many of its messages over, a source offers the next one, byte for byte, and its memory stands.
 use Rattle.std.proofs.Common.{◌≡◌, ◌≢◌, ℕ, zero, suc, ◌+◌, ◌-◌, refl, sym, ap, ◌∙◌, subst, List, [], ◌∷◌, ◌++◌, length, map}
 use Rattle.std.proofs.Common.{take, drop, Bool, true, false, Option, Some, None, ◌⊎◌, inl, inr, arith}
-use Rattle.std.specs.Prelude.{sum, slice_get, option_map, filter}
+use Rattle.std.specs.Prelude.{sum, slice_get, option_map}
 use Rattle.std.specs.List.{concat}
 use Rattle.std.proofs.Math.Seq.{take-append_seam, drop-append-add}
 use Rattle.std.proofs.lemmas.Bool.{cases_eq, ne_eqb, eq-eqb}
@@ -9,7 +9,7 @@ use Rattle.std.proofs.lemmas.List.{length-map}
 use Rattle.std.proofs.lemmas.List.Sums.{sum_by-cons, sum_by_push}
 use Rattle.std.proofs.lemmas.Option.{same_Some, slice_get-map}
 use Rattle.tword.specs.Words.{most_neg}
-use Rattle.tword.specs.Stores.{Store, as_cells, bytes_at, shown, hiding_from}
+use Rattle.tword.specs.Stores.{Store, as_cells, bytes_at, hiding_from}
 use Rattle.tword.specs.Claims.{is_input}
 use Rattle.tword.specs.Touches.{byte_span}
 use Rattle.tproc.specs.declared.offer.Offer.{Offer}
@@ -27,7 +27,7 @@ use Rattle.tplan.specs.declared.plan.Plan.{Plan}
 use Rattle.tplan.specs.declared.plan.SourcePlan.{SourcePlan}
 use Rattle.tplan.specs.declared.plan.SinkPlan.{SinkPlan}
 use Rattle.tplan.specs.declared.event.Note.{Note}
-use Rattle.tnet.specs.Wires.{end_at, same_end}
+use Rattle.tnet.specs.Wires.{end_at}
 use Rattle.tnet.specs.Rendezvous.{Node, Configuration, Step, Local, Notice, Copy, Wake, Freeze_at, node_of, put_node}
 use Rattle.tnet.specs.Rendezvous.{copied_at, given, marked, Lawful, IsRun}
 use Rattle.tnet.specs.Building.{machines_of, opened_machine, opening_configuration, opening_node, fresh_scripts}

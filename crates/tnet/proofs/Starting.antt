@@ -1,9 +1,8 @@
 -- A processor while its segments are loaded and its processes are added, and the node that it becomes.
-use Rattle.std.proofs.Common.{◌≡◌, ℕ, ◌<◌, ◌≤◌, ◌^◌, refl, sym, ap, ◌∙◌, subst, List, length, get_or, replicate, false}
+use Rattle.std.proofs.Common.{◌≡◌, ℕ, ◌<◌, ◌≤◌, ◌^◌, refl, sym, ap, ◌∙◌, List, length, get_or, replicate, false}
 use Rattle.std.proofs.Common.{not, ◌&&◌, None, Result, Ok, Err, All, arith, Fits, w8}
 use Rattle.std.specs.Prelude.{fold, OnOk}
 use Rattle.std.proofs.lemmas.Bool.{not-false, and_parts}
-use Rattle.std.proofs.lemmas.List.{get_or_default}
 use Rattle.tword.specs.declared.breaks.Break.{Break}
 use Rattle.tword.specs.Touches.{is_inside, is_open}
 use Rattle.tproc.specs.Machine.{Machine}
@@ -12,12 +11,14 @@ use Rattle.tproc.specs.LinkChannels.{quiet_end}
 use Rattle.tproc.specs.Opening.{Adds, empty_machine, loaded, added}
 use Rattle.tproc.proofs.Opening.{IsReadyMachine, is_ready_loaded, is_ready_added}
 use Rattle.tlink.specs.Whole.{HasNoticedNothing}
+use Rattle.tlink.proofs.Fresh.{are_bytes}
 use Rattle.tplan.specs.declared.plan.Segment.{Segment}
 use Rattle.tplan.specs.declared.plan.Process.{Process}
 use Rattle.tplan.specs.declared.plan.NodePlan.{NodePlan}
 use Rattle.tnet.specs.Building.{IsUnstarted, is_bad_segment, bad_segment, built_machine, added_from, loaded_machine}
 use Rattle.tnet.specs.Building.{or_loaded}
-use Rattle.tnet.proofs.OpenedPlans.{opened-links, no_position}
+use Rattle.tnet.proofs.OpenedPlans.{opened-links}
+use Rattle.tnet.proofs.FirstFaults.{no_position}
 use Rattle.tnet.proofs.OpenedNets.{quiet_link}
 
 ready : (memory : ℕ) (m : Machine) → IsUnstarted memory m → IsReadyMachine memory 0 m
@@ -28,9 +29,6 @@ small memory m u = omega (arith, u.size, u.placed.claimed.size)
 
 unstarted : (memory : ℕ) (m : Machine) → memory ≤ 2 ^ 31 → IsReadyMachine memory 0 m → IsUnstarted memory m
 unstarted memory m room r = record { size = r.size; visible = r.visible; placed = r.placed room }
-
-are_bytes : (bytes : List ℕ) → ((k : ℕ) → Fits w8 (get_or bytes k 0)) → All (λ b. b < 256) bytes
-are_bytes bytes h k d l = subst (λ (b : ℕ). b < 256) (get_or_default bytes k 0 d l) (omega (arith, h k))
 
 -- bytes are loaded where programs may use the memory
 pub still_loaded : (memory start : ℕ) (bytes : List ℕ) (m m' : Machine) → ((k : ℕ) → Fits w8 (get_or bytes k 0))

@@ -1,12 +1,12 @@
 -- The nodes of a plan, one after another: those that are built so far, and the first process that is refused.
-use Rattle.std.proofs.Common.{◌≡◌, ℕ, suc, ◌+◌, ◌<◌, ◌≤◌, refl, sym, ap, ◌∙◌, List, [], ◌∷◌, ◌++◌, length, get_or, take}
-use Rattle.std.proofs.Common.{drop, map, false, Option, Some, None, Result, Ok, Err, All, arith, add-one, add-zero}
+use Rattle.std.proofs.Common.{◌≡◌, ℕ, suc, ◌+◌, ◌<◌, ◌≤◌, refl, sym, ap, ◌∙◌, subst, List, [], ◌∷◌, ◌++◌, length, get_or}
+use Rattle.std.proofs.Common.{take, map, false, Option, Some, None, Result, Ok, Err, All, arith, add-one, add-zero}
 use Rattle.std.proofs.Common.{zero-add}
 use Rattle.std.specs.Prelude.{position, option_map}
 use Rattle.std.proofs.lemmas.Bool.{ltb-false, or_parts}
-use Rattle.std.proofs.Math.Seq.{take-suc, drop-cons}
-use Rattle.std.proofs.lemmas.List.{append_assoc, map-append, length-map, length-take-le, take_all, drop_all}
-use Rattle.std.proofs.lemmas.List.Elements.{All-nil, All-cons, All-append}
+use Rattle.std.proofs.Math.Seq.{take-suc}
+use Rattle.std.proofs.lemmas.List.{append_assoc, map-append, length-map, length-take-le, take_all}
+use Rattle.std.proofs.lemmas.List.Elements.{All-nil, All-cons, All-append, All-more}
 use Rattle.tword.specs.declared.breaks.Break.{Break}
 use Rattle.tproc.specs.Machine.{Machine}
 use Rattle.tlink.specs.Node.{NodeState, fresh_node}
@@ -17,9 +17,9 @@ use Rattle.tplan.specs.declared.plan.BuildFault.TheVariants.{BadProcess}
 use Rattle.tplan.specs.declared.plan.SinkPlan.{SinkPlan}
 use Rattle.tnet.specs.Sound.{IsSoundNode}
 use Rattle.tnet.specs.Building.{AreBuildable, AreOpened, is_bad_size, bad_segment, IsOpened, IsFaultOf}
-use Rattle.tnet.specs.Building.{built_machine, bad_process, node_fault, first_fault_from, loaded_machine, or_loaded}
+use Rattle.tnet.specs.Building.{built_machine, bad_process, node_fault, first_with_fault, loaded_machine, or_loaded}
 use Rattle.tnet.specs.Building.{is_bad_capacity, wired_links, fresh_nodes, opened_machine}
-use Rattle.tnet.proofs.OpenedPlans.{no_position}
+use Rattle.tnet.proofs.FirstFaults.{no_position, none_faulty, first_faulty}
 use Rattle.tnet.proofs.OpenedNets.{length-fresh_nodes}
 
 -- how far the building of nodes has come
@@ -27,8 +27,7 @@ pub record IsBuiltSoFar (timeslice : ℕ) (wires : List Wire) (plans : List Node
     (nodes : List NodeState) : Type 0 where
   pub opened : nodes ≡ fresh_nodes wires 0 (map (opened_machine timeslice) (take number plans))
   pub sound : All IsSoundNode nodes
-  pub added : first_fault_from 0 (bad_process timeslice) plans
-      ≡ first_fault_from number (bad_process timeslice) (drop number plans)
+  pub added : All (λ n. bad_process timeslice n ≡ None) (take number plans)
 
 -- there are as many nodes as plans were gone through
 pub as_many : (timeslice : ℕ) (wires : List Wire) (plans : List NodePlan) (number : ℕ) (nodes : List NodeState)
@@ -56,31 +55,6 @@ none_refused timeslice n m h =
 opened_is : (timeslice : ℕ) (n : NodePlan) (m : Machine) → built_machine timeslice n ≡ Ok m
     → opened_machine timeslice n ≡ m
 opened_is timeslice n m h = ap (or_loaded (loaded_machine timeslice n)) h
-
--- the next node has no fault
-fault_later : {A B : Type 0} (f : A → Option B) (xs : List A) (k : ℕ) (x : A) → k < length xs → x ≡ get_or xs k x
-    → f x ≡ None
-    → first_fault_from k f (drop k xs) ≡ first_fault_from (k + 1) f (drop (k + 1) xs)
-fault_later {A} {B} f xs k x l read none = rw (add-one, drop-cons xs k x l, ← read) (by (f x) none)
-  where
-    by : (o : Option B) → o ≡ None
-        → ◌≡◌ {A = Option (ℕ × B)}
-        (elim o [ Some fault ↦ Some (k, fault) | None ↦ first_fault_from (suc k) f (drop (suc k) xs) ])
-        (first_fault_from (suc k) f (drop (suc k) xs))
-    by None e = refl
-    by (Some y) e = cc
-
--- it has one
-fault_here : {A B : Type 0} (f : A → Option B) (xs : List A) (k : ℕ) (x : A) (y : B) → k < length xs → x ≡ get_or xs k x
-    → f x ≡ Some y
-    → first_fault_from k f (drop k xs) ≡ Some (k, y)
-fault_here {A} {B} f xs k x y l read some = rw (drop-cons xs k x l, ← read) (by (f x) some)
-  where
-    by : (o : Option B) → o ≡ Some y
-        → ◌≡◌ {A = Option (ℕ × B)}
-        (elim o [ Some fault ↦ Some (k, fault) | None ↦ first_fault_from (suc k) f (drop (suc k) xs) ]) (Some (k, y))
-    by None e = cc
-    by (Some z) e = let q : z ≡ y = cc in ap (λ (z : B). Some (k, z)) q
 
 -- the nodes with one more
 next_nodes : (timeslice : ℕ) (wires : List Wire) (plans : List NodePlan) (number : ℕ) (plan : NodePlan)
@@ -118,9 +92,8 @@ one_more_node timeslice wires wires' plans number plan nodes nodes' node within 
           ∙ sym (next_nodes timeslice wires plans number plan node within read new));
       sound = All-append IsSoundNode nodes (node ∷ []) so_far.sound
           (All-cons IsSoundNode node [] new.sound (All-nil IsSoundNode));
-      added = so_far.added
-          ∙ fault_later (bad_process timeslice) plans number plan within read
-          (none_refused timeslice plan node.machine new.built);
+      added = All-more (λ n. bad_process timeslice n ≡ None) plans number plan within so_far.added
+          (rw (← read) (none_refused timeslice plan node.machine new.built));
     })
 
 -- the next node refuses a process
@@ -128,16 +101,16 @@ pub node_fails : (timeslice : ℕ) (wires : List Wire) (all plans : List NodePla
     (nodes : List NodeState) (fault : BuildFault)
     → plans ≡ all → number < length plans → plan ≡ get_or plans number plan
     → IsBuiltSoFar timeslice wires plans number nodes → IsFaultOf (node_fault timeslice number plan) fault
-    → IsFaultOf (option_map (λ f. BadProcess f.0 f.1.0 f.1.1) (first_fault_from 0 (bad_process timeslice) all)) fault
+    → IsFaultOf (option_map (λ f. BadProcess f.0 f.1.0 f.1.1) (first_with_fault (bad_process timeslice) all)) fault
 node_fails timeslice wires all plans number plan nodes fault same within read so_far fails other =
-    rw (← same, so_far.added) (by (bad_process timeslice plan) refl (fails other))
+    rw (← same) (by (bad_process timeslice plan) refl (fails other))
   where
     by : (o : Option (ℕ × Break)) → bad_process timeslice plan ≡ o
         → option_map (λ (f : ℕ × Break). BadProcess number f.0 f.1) o ≡ Some fault
         → option_map (λ (f : ℕ × (ℕ × Break)). BadProcess f.0 f.1.0 f.1.1)
-        (first_fault_from number (bad_process timeslice) (drop number plans)) ≡ Some fault
+        (first_with_fault (bad_process timeslice) plans) ≡ Some fault
     by None e h = cc
-    by (Some y) e h = rw (fault_here (bad_process timeslice) plans number plan y within read e) h
+    by (Some y) e h = rw (first_faulty (bad_process timeslice) plans number plan y within read so_far.added e) h
 
 -- no node has a bad memory, or a bad segment
 pub good_node : (timeslice : ℕ) (plans : List NodePlan) (number : ℕ) (plan : NodePlan) → AreBuildable timeslice plans
@@ -166,7 +139,8 @@ all_built timeslice wires plans number nodes end so_far =
       sound = so_far.sound;
       added =
           ap (option_map (λ f. BadProcess f.0 f.1.0 f.1.1))
-          (so_far.added ∙ ap (first_fault_from number (bad_process timeslice)) (drop_all number plans end));
+          (none_faulty (bad_process timeslice) plans
+          (subst (All (λ n. bad_process timeslice n ≡ None)) (take_all number plans end) so_far.added));
     }
 
 -- one more of what stands behind the first nodes

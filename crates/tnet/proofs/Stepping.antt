@@ -14,7 +14,7 @@ use Rattle.tplan.specs.declared.event.Act.TheVariants.{Run, Send, Data, Take, Ac
 use Rattle.tplan.specs.declared.event.Event.{Event}
 use Rattle.tnet.specs.Net.{NetState, node_at, with_node}
 use Rattle.tnet.specs.Packets.{node_event, received, sent_off, net_answer, answer_of, net_happens, is_done, is_enabled}
-use Rattle.tnet.specs.Answers.{DoesNet, DoesAt}
+use Rattle.tnet.specs.Answers.{DoesEvent, DoesNet, DoesAt}
 
 -- the node that was read at a place and written back
 pub stepped_at : (n place : ℕ) (e : NodeEvent) (net : NetState) (node node' : NodeState) (r : Result Emitted StepFault)
@@ -65,7 +65,7 @@ refused_by e net node f (Err (Frozen b)) there h =
 -- an event that is done
 pub event_done : (e : Event) (asked : NodeEvent) (net net' : NetState) (x : Emitted) (r : Result Emitted StepFault)
     → node_event net e.node e.act ≡ Some asked → DoesAt e.node asked (node_at net e.node) net r net' → r ≡ Ok x
-    → DoesNet e (net_happens e net) net (Ok x) (sent_off e.node x.packet (received e.node e.act net'))
+    → DoesEvent e net (Ok x) (sent_off e.node x.packet (received e.node e.act net'))
 unfolding net_happens
 event_done e asked net net' x r is does ok = by (node_at net e.node) refl does
   where
@@ -78,7 +78,7 @@ event_done e asked net net' x r is does ok = by (node_at net e.node) refl does
 -- an event that is not
 pub event_refused : (e : Event) (asked : NodeEvent) (net net' : NetState) (f : StepFault) (r : Result Emitted StepFault)
     → node_event net e.node e.act ≡ Some asked → DoesAt e.node asked (node_at net e.node) net r net' → r ≡ Err f
-    → DoesNet e (net_happens e net) net (Err f) net'
+    → DoesEvent e net (Err f) net'
 unfolding net_happens
 event_refused e asked net net' f r is does err = by (node_at net e.node) refl does
   where
@@ -92,7 +92,7 @@ event_refused e asked net net' f r is does err = by (node_at net e.node) refl do
 
 -- an event of a node that is not there
 pub nobody : (e : Event) (net : NetState) → length net.nodes ≤ e.node
-    → DoesNet e (net_happens e net) net (Err NotEnabled) net
+    → DoesEvent e net (Err NotEnabled) net
 unfolding net_happens
 nobody e net past = rw (slice_get_past net.nodes e.node past) (by (node_event net e.node e.act))
   where

@@ -1,5 +1,5 @@
 -- A node of the rendezvous machine, of any role: a byte is hidden exactly where a pending input claims it.
-use Rattle.std.proofs.Common.{◌≡◌, ◌≢◌, ℕ, zero, suc, ◌+◌, ◌-◌, ◌<◌, ◌≤◌, refl, sym, ap, ◌∙◌, List, [], ◌∷◌, ◌++◌}
+use Rattle.std.proofs.Common.{◌≡◌, ◌≢◌, ℕ, zero, suc, ◌+◌, ◌<◌, ◌≤◌, refl, sym, ap, ◌∙◌, List, [], ◌∷◌, ◌++◌}
 use Rattle.std.proofs.Common.{length, get_or, Bool, true, false, Result, Ok, Some, None, arith}
 use Rattle.std.specs.Prelude.{sum, drop, slice_index_or}
 use Rattle.std.specs.List.{list_any}
@@ -15,8 +15,8 @@ use Rattle.tword.proofs.Copying.{with_cells-below}
 use Rattle.tword.proofs.Laying.{length-cells}
 use Rattle.tword.proofs.Seen.{IsSeenOutside}
 use Rattle.tproc.specs.declared.offer.Offer.{Offer}
-use Rattle.tproc.specs.declared.offer.Ran.{Ran}
-use Rattle.tproc.specs.declared.offer.Ran.TheVariants as ran
+use Rattle.tproc.specs.declared.ran.Ran.{Ran}
+use Rattle.tproc.specs.declared.ran.Ran.TheVariants as ran
 use Rattle.tproc.specs.Machine.{Control, Machine, claims_of}
 use Rattle.tproc.specs.LinkChannels.{link_end}
 use Rattle.tproc.specs.Hidden.{hidden}
@@ -31,7 +31,7 @@ use Rattle.tproc.proofs.OffersStand.{StillOffers, step_offers, notice_offers, fi
 use Rattle.tproc.proofs.Scripted.{input_moved-outside}
 use Rattle.tproc.proofs.Handing.{input_lies, output_lies}
 use Rattle.tproc.proofs.Veiled.{IsVeiled, step_veiled, notice_veiled, finish_output_veiled}
-use Rattle.tlink.specs.Roles.{Role, Processor, Source, Sink, first_offer, behind, receives}
+use Rattle.tlink.specs.Roles.{Role, Processor, Source, Sink, first_offer, address_behind, receives}
 use Rattle.tlink.specs.Roles.{role_woken, woken, role_filled, filled}
 use Rattle.tlink.specs.Node.{one_link}
 use Rattle.tlink.specs.Whole.{IsSink, IsHeld, HasWires}
@@ -148,7 +148,7 @@ woken_veils (Source done rest) n l o v out =
     hidden_veils (role_woken (Source done rest)) (woken (Source done rest) l n)
     (held_woken (Source done rest) n l o v.held out)
     (rw (set_same input_claim n.control.links l
-    (record (link_end n.control l) { output = first_offer (behind (link_end n.control l).output) (drop 1 rest) }) refl)
+    (record (link_end n.control l) { output = first_offer (address_behind (link_end n.control l).output) (drop 1 rest) }) refl)
     v.seen)
 woken_veils (Sink kept) n l o v out = let f : None ≡ Some o = sym (sink_offers_none kept n l v.held) ∙ out in cc
 

@@ -12,13 +12,17 @@ use Rattle.tplan.specs.declared.event.Act.{Act}
 use Rattle.tplan.specs.declared.event.Act.TheVariants.{Data, Take, Ack}
 use Rattle.tplan.specs.declared.event.Event.{Event}
 use Rattle.tnet.specs.Net.{NetState, with_node}
-use Rattle.tnet.specs.Packets.{NetAnswer, net_left_by, answered}
+use Rattle.tnet.specs.Packets.{NetAnswer, net_happens, net_left_by, answered}
 
 -- a net does what an answer of the machine says: the caller is told it, and the net is left as it says
 pub record DoesNet (e : Event) (answer : NetAnswer) (old : NetState) (result : Result Emitted StepFault)
     (new : NetState) : Type 0 where
   pub told : result ≡ answered answer
   pub left : new ≡ net_left_by e old answer
+
+-- a net does an event
+abbrev pub DoesEvent : Event → NetState → Result Emitted StepFault → NetState → Type 0
+DoesEvent e old result new = DoesNet e (net_happens e old) old result new
 
 -- a node of a net does an event, and the rest of the net stands; or there is no such node
 abbrev pub DoesAt : ℕ → NodeEvent → Option NodeState → NetState → Result Emitted StepFault → NetState → Type 0

@@ -1,16 +1,16 @@
 //! The faults of a plan that show before anything is built.
 
-ghost use Rattle.std.specs.Prelude.{◌≡◌, ◌<◌, ◌≤◌, ◌+◌, ◌||◌, false, nat_lt, take, [], length, position};
+ghost use Rattle.std.specs.Prelude.{◌≡◌, ◌<◌, ◌≤◌, ◌+◌, ◌||◌, false, nat_lt, take, [], length, position, is_some};
 ghost use Rattle.std.specs.Prelude.{slice_index_or, MatchOption};
 ghost use Rattle.std.specs.List.{list_any};
-ghost use Rattle.tword.specs.Limits.{is_bad_message};
-ghost use Rattle.tnet.specs.Wires.{same_end, joins};
-ghost use Rattle.tnet.specs.Building.{is_too_large, has_too_many, too_many, is_bad_size};
-ghost use Rattle.tnet.specs.Building.{is_bad_timeslice, is_bad_end, named_ends, all_wires};
-ghost use Rattle.tnet.specs.Building.{end_twice_from, is_bad_segment, bad_segment, first_fault_from};
-ghost use Rattle.tnet.specs.Building.{is_bad_capacity, fault_of, IsWellFormed};
+ghost use Rattle.tword.specs.Limits.{most_nodes};
+ghost use Rattle.tword.specs.Limits.{is_bad_message as spec_is_bad_message};
+ghost use Rattle.tnet.specs.Wires.{same_end};
+ghost use Rattle.tnet.specs.Building as spec;
+ghost use Rattle.tnet.specs.Building.{too_many, named_ends, all_wires, first_with_fault};
+ghost use Rattle.tnet.specs.Building.{fault_of, IsWellFormed};
 
-use crate::planned::{wire_at, wire_count};
+use crate::plan_wires::{wire_at, wire_count};
 use tplan::{BuildFault, End, Image, NodePlan, Plan, Segment, SinkPlan, SourcePlan, Wire};
 use tword::Items;
 use tword::limits::{
@@ -50,45 +50,45 @@ pub fn first_fault(plan: &Plan) -> Option<BuildFault>
 
 /// Whether an image has too many segments or processes.
 fn is_too_large(image: &Image) -> bool
-    ensures { result ≡ is_too_large image.now }
+    ensures { result ≡ spec.is_too_large image.now }
 {
     image.segments.as_slice().len() > MOST_SEGMENTS
         || image.processes.as_slice().len() > MOST_PROCESSES
 }
 
-/// Whether a message does not have 1 to 4,096 bytes.
+/// Whether a message is empty or too long.
 fn is_bad_message(message: &Items<u8>) -> bool
-    ensures { result ≡ is_bad_message message.now }
+    ensures { result ≡ spec_is_bad_message message.now }
 {
     let size = message.as_slice().len();
     size < 1 || size > LONGEST_MESSAGE
 }
 
-/// Whether some message does not have 1 to 4,096 bytes.
+/// Whether some message is empty or too long.
 fn any_bad_message(messages: &[Items<u8>]) -> bool
-    ensures { result ≡ list_any is_bad_message messages.now }
+    ensures { result ≡ list_any spec_is_bad_message messages.now }
 {
     messages.iter().any(is_bad_message)
 }
 
-/// Whether a source has too many messages, or one that does not have 1 to 4,096 bytes.
+/// Whether a source has too many messages, or one that is empty or too long.
 fn has_too_many(source: &SourcePlan) -> bool
-    ensures { result ≡ has_too_many source.now }
+    ensures { result ≡ spec.has_too_many source.now }
 {
     let messages = source.messages.as_slice();
     messages.len() > MOST_MESSAGES || any_bad_message(messages)
 }
 
-/// Whether some source has too many messages, or one that does not have 1 to 4,096 bytes.
+/// Whether some source has too many messages, or one that is empty or too long.
 fn any_has_too_many(sources: &[SourcePlan]) -> bool
-    ensures { result ≡ list_any has_too_many sources.now }
+    ensures { result ≡ list_any spec.has_too_many sources.now }
 {
     sources.iter().any(has_too_many)
 }
 
 /// Whether there are more nodes, sources and sinks than may be.
 fn are_many(nodes: usize, sources: usize, sinks: usize) -> bool
-    ensures { result ≡ nat_lt 64 (nodes + sources + sinks) }
+    ensures { result ≡ nat_lt most_nodes (nodes + sources + sinks) }
 {
     nodes > MOST_NODES || sources > MOST_NODES - nodes || sinks > MOST_NODES - nodes - sources
 }
@@ -107,14 +107,14 @@ fn is_too_many(plan: &Plan) -> bool
 
 /// Whether some node's image has too many segments or processes.
 fn any_too_large(nodes: &[NodePlan]) -> bool
-    ensures { result ≡ list_any (λ n. is_too_large n.image) nodes.now }
+    ensures { result ≡ list_any (λ n. spec.is_too_large n.image) nodes.now }
 {
     nodes.iter().any(|node| is_too_large(&node.image))
 }
 
 /// Whether a memory has a size that none of its node's kind may have.
 fn is_bad_size(node: &NodePlan) -> bool
-    ensures { result ≡ is_bad_size node.now }
+    ensures { result ≡ spec.is_bad_size node.now }
 {
     node.memory < SMALLEST_MEMORY
         || node.memory > node.kind.largest_memory()
@@ -123,28 +123,28 @@ fn is_bad_size(node: &NodePlan) -> bool
 
 /// The first node whose memory has a size that none of its kind may have.
 fn first_bad_size(nodes: &[NodePlan]) -> Option<usize>
-    ensures { result ≡ position is_bad_size nodes.now }
+    ensures { result ≡ position spec.is_bad_size nodes.now }
 {
     nodes.iter().position(is_bad_size)
 }
 
 /// Whether a timeslice is none that a processor may have.
 fn is_bad_timeslice(timeslice: u32) -> bool
-    ensures { result ≡ is_bad_timeslice timeslice }
+    ensures { result ≡ spec.is_bad_timeslice timeslice }
 {
     timeslice < 1 || timeslice > LONGEST_TIMESLICE
 }
 
 /// Whether an end is no link of a node.
 fn is_bad_end(nodes: usize, end: End) -> bool
-    ensures { result ≡ is_bad_end nodes end }
+    ensures { result ≡ spec.is_bad_end nodes end }
 {
     end.node as usize >= nodes || end.link >= 4
 }
 
 /// Whether one of a wire's two ends is no link of a node.
 fn has_bad_end(nodes: usize, wire: Wire) -> bool
-    ensures { result ≡ (is_bad_end nodes wire.a || is_bad_end nodes wire.b) }
+    ensures { result ≡ (spec.is_bad_end nodes wire.a || spec.is_bad_end nodes wire.b) }
 {
     is_bad_end(nodes, wire.a) || is_bad_end(nodes, wire.b)
 }
@@ -153,7 +153,7 @@ fn has_bad_end(nodes: usize, wire: Wire) -> bool
 fn names_bad_end(plan: &Plan, place: usize) -> bool
     requires few { too_many plan.now ≡ false }
     requires within { place < length (all_wires plan.now) }
-    ensures { result ≡ list_any (is_bad_end (length plan.now.nodes)) (slice_index_or (named_ends plan.now) place []) }
+    ensures { result ≡ list_any (spec.is_bad_end (length plan.now.nodes)) (slice_index_or (named_ends plan.now) place []) }
 {
     let nodes = plan.nodes.as_slice().len();
     let wire = wire_at(plan, place);
@@ -166,7 +166,7 @@ fn names_bad_end(plan: &Plan, place: usize) -> bool
 /// The first wire, source or sink that names an end that is no link of a node.
 fn first_bad_end(plan: &Plan) -> Option<usize>
     requires { too_many plan.now ≡ false }
-    ensures { result ≡ position (list_any (is_bad_end (length plan.now.nodes))) (named_ends plan.now) }
+    ensures { result ≡ position (list_any (spec.is_bad_end (length plan.now.nodes))) (named_ends plan.now) }
 {
     for place in 0..wire_count(plan) {
         if names_bad_end(plan, place) {
@@ -192,7 +192,7 @@ fn first_same_end(wires: &[Wire]) -> Option<usize>
 
 /// Whether two wires have an end in common.
 fn share_an_end(v: Wire, w: Wire) -> bool
-    ensures { result ≡ (joins w.a v || joins w.b v) }
+    ensures { result ≡ spec.share_an_end w v }
 {
     is_same_end(v.a, w.a) || is_same_end(v.b, w.a) || is_same_end(v.a, w.b) || is_same_end(v.b, w.b)
 }
@@ -201,7 +201,7 @@ fn share_an_end(v: Wire, w: Wire) -> bool
 fn is_end_twice(plan: &Plan, place: usize, wire: Wire) -> bool
     requires few { too_many plan.now ≡ false }
     requires within { place ≤ length (all_wires plan.now) }
-    ensures { result ≡ list_any (λ v. joins wire.a v || joins wire.b v) (take place (all_wires plan.now)) }
+    ensures { result ≡ list_any (spec.share_an_end wire) (take place (all_wires plan.now)) }
 {
     for earlier in 0..place {
         if share_an_end(wire_at(plan, earlier), wire) {
@@ -214,7 +214,7 @@ fn is_end_twice(plan: &Plan, place: usize, wire: Wire) -> bool
 /// The first wire with an end of an earlier one.
 fn first_end_twice(plan: &Plan) -> Option<usize>
     requires { too_many plan.now ≡ false }
-    ensures { result ≡ end_twice_from 0 [] (all_wires plan.now) }
+    ensures { result ≡ spec.first_end_twice (all_wires plan.now) }
 {
     for place in 0..wire_count(plan) {
         if is_end_twice(plan, place, wire_at(plan, place)) {
@@ -226,7 +226,7 @@ fn first_end_twice(plan: &Plan) -> Option<usize>
 
 /// Whether a segment does not lie in the memory that programs may use.
 fn is_bad_segment(memory: u32, segment: &Segment) -> bool
-    ensures { result ≡ is_bad_segment memory segment.now }
+    ensures { result ≡ spec.is_bad_segment memory segment.now }
 {
     let size = segment.bytes.as_slice().len() as u64;
     let start = u64::from(segment.address.get());
@@ -238,7 +238,7 @@ fn is_bad_segment(memory: u32, segment: &Segment) -> bool
 
 /// The first segment of a node that does not lie in the memory that programs may use.
 fn bad_segment(node: &NodePlan) -> Option<usize>
-    ensures { result ≡ bad_segment node.now }
+    ensures { result ≡ spec.bad_segment node.now }
 {
     let memory = node.memory;
     node.image
@@ -248,28 +248,40 @@ fn bad_segment(node: &NodePlan) -> Option<usize>
         .position(|segment| is_bad_segment(memory, segment))
 }
 
-/// The first segment of all nodes, with its node, that does not lie in the memory that programs may use.
-fn first_bad_segment(nodes: &[NodePlan]) -> Option<(usize, usize)>
-    ensures { result ≡ first_fault_from 0 bad_segment nodes.now }
+/// Whether a node has a segment that does not lie in the memory that programs may use.
+fn has_bad_segment(node: &NodePlan) -> bool
+    ensures { result ≡ is_some (spec.bad_segment node.now) }
 {
-    for (number, node) in nodes.iter().enumerate() {
-        if let Some(segment) = bad_segment(node) {
-            return Some((number, segment));
-        }
-    }
-    None
+    bad_segment(node).is_some()
+}
+
+/// The first node with a segment that does not lie in the memory that programs may use.
+fn first_with_bad_segment(nodes: &[NodePlan]) -> Option<usize>
+    ensures { result ≡ position (λ n. is_some (spec.bad_segment n)) nodes.now }
+{
+    nodes.iter().position(has_bad_segment)
+}
+
+/// The first segment of all nodes, with its node, that does not lie in the memory that programs may use.
+#[tactic(auto, using(crate::proofs::FirstFaults::fault_told))]
+fn first_bad_segment(nodes: &[NodePlan]) -> Option<(usize, usize)>
+    ensures { result ≡ first_with_fault spec.bad_segment nodes.now }
+{
+    let number = first_with_bad_segment(nodes)?;
+    let segment = bad_segment(&nodes[number])?;
+    Some((number, segment))
 }
 
 /// Whether a capacity is none that a sink may have.
 fn is_bad_capacity(sink: &SinkPlan) -> bool
-    ensures { result ≡ is_bad_capacity sink.now }
+    ensures { result ≡ spec.is_bad_capacity sink.now }
 {
     sink.capacity < 1 || sink.capacity > LARGEST_CAPACITY
 }
 
 /// The first sink with a capacity that none may have.
 pub fn first_bad_capacity(sinks: &[SinkPlan]) -> Option<usize>
-    ensures { result ≡ position is_bad_capacity sinks.now }
+    ensures { result ≡ position spec.is_bad_capacity sinks.now }
 {
     sinks.iter().position(is_bad_capacity)
 }

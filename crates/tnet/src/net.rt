@@ -1,9 +1,10 @@
 //! A net of nodes and wires, with the packets that lie at the ends of its wires.
 
-ghost use Rattle.std.specs.Prelude.{◌≡◌, ◌≢◌, ◌≤◌, ℕ, length, IsTrue, IfErr, IfOk, ◌↔◌};
+ghost use Rattle.std.specs.Prelude.{◌≡◌, ◌≢◌, ◌≤◌, ℕ, Some, length, IsTrue, IfErr, IfOk, ◌↔◌};
+ghost use Rattle.tword.specs.Limits.{most_nodes};
 ghost use Rattle.tlink.specs.Node.{NodeState};
 ghost use Rattle.tnet.specs.Net.{NetState, inbox_at, sources_in, sinks_in};
-ghost use Rattle.tnet.specs.Packets.{net_happens, answered, net_left_by, after_event, applied_from, is_enabled};
+ghost use Rattle.tnet.specs.Packets.{net_happens, answered, net_left_by, after_event, after_events, applied, is_enabled};
 ghost use Rattle.tnet.specs.Packets.{IsQuiet};
 ghost use Rattle.tnet.specs.Sound.{IsSound};
 ghost use Rattle.tnet.specs.Answers.{Did};
@@ -13,15 +14,15 @@ ghost use Rattle.tnet.specs.Building.{built, opening_configuration, IsWellFormed
 ghost use Rattle.tnet.specs.Wires.{far_end};
 ghost use Rattle.tnet.specs.FarEnds.{IsRow};
 ghost use Rattle.tnet.specs.NetParts.{net_of_parts};
-ghost use Rattle.tnet.specs.Runs.{IsSeenRun, refused, done, done_one};
+ghost use Rattle.tnet.specs.Runs.{IsSeenRun, done, done_one};
 ghost use Rattle.tnet.specs.WireLaw.{WiresCarryInOrder};
 
 use crate::faults::first_fault;
 use crate::inbox::Inbox;
 use crate::opening::open;
-use crate::parts::Parts;
+use crate::parts::NetParts;
 use crate::scripts::{Sinks, Sources};
-use crate::wires::{NetParts, Wires};
+use crate::wires::Row;
 use std::alloc::Global;
 use std::marker::Model;
 use tlink::{Emitted, Node, StepFault};
@@ -33,18 +34,19 @@ use tword::MemoryFault;
 /// What is counted, what waits and what lies there fit one another at all times (`IsSound`).
 #[derive(Drop)]
 pub struct Net {
-    parts: Parts,
+    parts: NetParts,
 }
 
 impl Model for Net {
     ghost use Rattle.tnet.specs.Net.{NetState};
+    ghost use Rattle.tnet.specs.NetParts.{net_of_parts};
     ghost use Rattle.tnet.specs.Sound.{IsSound};
 
     ghost Value = { NetState };
 
-    ghost view = { λ n. n.parts };
+    ghost view = { λ n. net_of_parts n.parts };
 
-    ghost invariant = { λ n. IsSound n.parts };
+    ghost invariant = { λ n. IsSound (net_of_parts n.parts) };
 }
 
 impl Net {
@@ -106,7 +108,8 @@ impl Net {
     /// # Errors
     /// The place of the first event that is not enabled: those before it are done, it and the rest are not.
     pub fn apply(&mut self, events: &[Event]) -> Result<(), usize>
-        ensures exact { applied_from 0 events.now self.old ≡ (self.new, refused result) }
+        ensures told { result ≡ applied events.now self.old }
+        ensures left { after_events (done events.now result) self.old ≡ Some self.new }
 
         // the headline: whatever was done, what the net shows of it is one run of the rendezvous machine, in which each
         // message that is complete is one step that copies it whole
@@ -145,7 +148,7 @@ impl Net {
         ensures held { result.now ≡ self.now.nodes }
         ensures sound { IsSound self.now }
     {
-        self.parts.nodes()
+        self.parts.nodes.as_slice()
     }
 
     /// The sources, by their numbers, each with the end that it sends to. It takes no memory.
@@ -173,46 +176,32 @@ impl Net {
     pub fn far_end(&self, end: End) -> Option<End>
         ensures { result ≡ far_end self.now.wires end }
     {
-        self.parts.far_end(end)
+        self.parts.wires.far_end(end)
     }
 
     /// The far ends of a node's links.
-    pub fn far_ends(&self, node: u8) -> [Option<End>; 4]
+    pub fn far_ends(&self, node: u8) -> Row<Option<End>>
         ensures { IsRow self.now.wires node result }
     {
-        self.parts.far_ends(node)
+        self.parts.wires.far_ends(node)
     }
 
     /// The nodes, the wires and the packets of the net. It takes no memory.
     pub fn into_parts(self) -> NetParts
         ensures same { net_of_parts result ≡ self }
         ensures sound { IsSound self }
-        ensures few { length self.nodes ≤ 64 }
+        ensures few { length self.nodes ≤ most_nodes }
     {
         let Net { parts } = self;
-        let (nodes, wires, far, inboxes) = parts.into_fields();
-        NetParts {
-            nodes,
-            wires: Wires::new(wires, far),
-            inboxes,
-        }
+        parts
     }
 
     /// The net of these parts. It takes no memory.
     pub fn from_parts(parts: NetParts) -> Net
-        requires sound { IsSound (net_of_parts parts) }
-        requires few { length parts.nodes.items ≤ 64 }
+        requires { IsSound (net_of_parts parts) }
         ensures { result ≡ net_of_parts parts }
     {
-        let NetParts {
-            nodes,
-            wires,
-            inboxes,
-        } = parts;
-        let (wires, far) = wires.into_fields();
-        Net {
-            parts: Parts::new(nodes, wires, far, inboxes),
-        }
+        Net { parts }
     }
 
     /// Does an event, if it is enabled.

@@ -1,46 +1,26 @@
-//! The parts of a net, and an event of one of its nodes.
+//! The pieces of a net, and an event of one of its nodes.
 
-ghost use Rattle.std.specs.Prelude.{◌≡◌, ◌<◌, ◌≤◌, ℕ, not, [], length, slice_index_or, slice_set, Option, None};
-ghost use Rattle.std.specs.Prelude.{IfErr, IfOk};
-ghost use Rattle.std.specs.List.{list_all};
-ghost use Rattle.tlink.specs.Node.{NodeState};
-ghost use Rattle.tnet.specs.Quiet.{node_events, is_quiet, is_quiet_from};
-ghost use Rattle.tnet.specs.Wires.{end_at, far_end};
-ghost use Rattle.tnet.specs.Net.{NetState, inbox_at, node_at};
-ghost use Rattle.tnet.specs.Packets.{node_event, received, delivered, sent_off, net_happens, is_enabled};
-ghost use Rattle.tnet.specs.Stations.{put_in};
-ghost use Rattle.tnet.specs.Answers.{DoesAt, DoesNet};
-ghost use Rattle.tnet.specs.FarEnds.{IsLaidOut, IsRow};
-ghost use Rattle.tnet.specs.Stations.{asked};
+ghost use Rattle.std.specs.Prelude.{◌≡◌, ◌≤◌, length, IfErr, IfOk};
+ghost use Rattle.tword.specs.Limits.{most_nodes};
 
 use crate::inbox::Inbox;
 use crate::station::{self, empty, put};
+use crate::wires::{Row, Wires, end_of};
 use std::alloc::Global;
-use std::marker::Model;
-use tlink::{Emitted, Node, NodeEvent, Packet, StepFault};
-use tplan::{Act, End, Event, Wire};
-use tword::{Items, MemoryFault};
+use tlink::{Emitted, Node, NodeEvent, Packet, Role, StepFault};
+use tplan::{Act, End, Event};
+use tword::MemoryFault;
 
-/// The parts of a net, with no claim that they fit.
+/// The pieces of a net: its nodes, its wires, and what lies at the links of each node. `Net` holds them, and knows that
+/// they fit one another.
 #[derive(Drop)]
-pub struct Parts {
-    nodes: Vec<Node>,
-    wires: Items<Wire>,
-    /// The far end of each end.
-    far: Vec<[Option<End>; 4]>,
-    /// What lies at each end.
-    inboxes: Vec<[Inbox; 4]>,
-}
-
-impl Model for Parts {
-    ghost use Rattle.tnet.specs.Net.{NetState};
-    ghost use Rattle.tnet.specs.FarEnds.{IsLaidOut, IsRow};
-
-    ghost Value = { NetState };
-
-    ghost view = { λ n. record { nodes = n.nodes.items; wires = n.wires; inboxes = n.inboxes.items } };
-
-    ghost invariant = { λ n. IsLaidOut n.nodes.items n.wires n.far.items };
+pub struct NetParts {
+    pub nodes: Vec<Node>,
+    pub wires: Wires,
+    /// For each node, what lies at its links.
+    pub inboxes: Vec<Row<Inbox>>,
+    /// The number of a node fits its events.
+    pub ghost few: { length nodes.items ≤ most_nodes },
 }
 
 /// All acts of a node.
@@ -64,16 +44,6 @@ const ALL_ACTS: [Act; 17] = [
     Act::Ack(3),
 ];
 
-/// The end of a wire at a link.
-fn end_of(node: u8, link: u8) -> End
-    ensures { result ≡ end_at node link }
-{
-    End {
-        node: u32::from(node),
-        link: u32::from(link),
-    }
-}
-
 /// Nodes in the same states.
 fn copies(alloc: Global, nodes: &[Node]) -> Result<Vec<Node>, MemoryFault>
     ensures same { IfOk result (λ copies. copies.items ≡ nodes.now) }
@@ -89,62 +59,30 @@ fn copies(alloc: Global, nodes: &[Node]) -> Result<Vec<Node>, MemoryFault>
     Ok(copies)
 }
 
-impl Parts {
-    /// A net of these parts, with the table of its far ends.
-    pub fn new(
-        nodes: Vec<Node>,
-        wires: Items<Wire>,
-        far: Vec<[Option<End>; 4]>,
-        inboxes: Vec<[Inbox; 4]>,
-    ) -> Self
-        requires { IsLaidOut nodes.items wires far.items }
-        ensures { result ≡ record { nodes = nodes.items; wires = wires; inboxes = inboxes.items } }
-    {
-        Parts {
-            nodes,
-            wires,
-            far,
-            inboxes,
-        }
-    }
+impl NetParts {
+    ghost use Rattle.std.specs.Prelude.{◌≡◌, not};
+    ghost use Rattle.std.specs.List.{list_all};
+    ghost use Rattle.tnet.specs.Quiet.{node_events, is_quiet};
+    ghost use Rattle.tnet.specs.Net.{inbox_at, node_at};
+    ghost use Rattle.tnet.specs.Packets.{received, sent_off, is_enabled};
+    ghost use Rattle.tnet.specs.Packets as spec;
+    ghost use Rattle.tnet.specs.Answers.{DoesAt, DoesEvent};
+    ghost use Rattle.tnet.specs.NetParts.{net_of_parts};
 
-    /// The nodes, the wires, the table of far ends and what lies at each end.
-    pub fn into_fields(
-        self,
-    ) -> (
-        Vec<Node>,
-        Items<Wire>,
-        Vec<[Option<End>; 4]>,
-        Vec<[Inbox; 4]>,
-    )
-        ensures same { record { nodes = result.0.items; wires = result.1; inboxes = result.3.items } ≡ self }
-        ensures laid { IsLaidOut result.0.items result.1 result.2.items }
-    {
-        let Parts {
-            nodes,
-            wires,
-            far,
-            inboxes,
-        } = self;
-        (nodes, wires, far, inboxes)
-    }
-
-    /// Parts in the same state.
+    /// Pieces in the same states.
     ///
     /// # Errors
     /// `OutOfMemory` where the allocator refuses.
-    pub fn try_copy(&self, alloc: Global) -> Result<Parts, MemoryFault>
-        ensures same { IfOk result (λ n. n ≡ self.now) }
+    pub fn try_copy(&self, alloc: Global) -> Result<NetParts, MemoryFault>
+        ensures same { IfOk result (λ parts. net_of_parts parts ≡ net_of_parts self.now) }
         ensures fault { IfErr result (λ fault. fault ≡ MemoryFault.OutOfMemory) }
     {
         let nodes = copies(alloc, self.nodes.as_slice())?;
-        let wires = Vec::from_slice(alloc, self.wires.as_slice())?;
-        let far = Vec::from_slice(alloc, self.far.as_slice())?;
+        let wires = self.wires.try_copy(alloc)?;
         let inboxes = Vec::from_slice(alloc, self.inboxes.as_slice())?;
-        Ok(Parts {
+        Ok(NetParts {
             nodes,
-            wires: Items::new(wires),
-            far,
+            wires,
             inboxes,
         })
     }
@@ -152,7 +90,7 @@ impl Parts {
     /// The event that a node is asked for, if its packet lies there.
     #[inline(always)]
     fn node_event(&self, event: Event) -> Option<NodeEvent>
-        ensures { result ≡ node_event self.now event.node event.act }
+        ensures { result ≡ spec.node_event (net_of_parts self.now) event.node event.act }
     {
         match self.inboxes.get(usize::from(event.node)) {
             Some(inboxes) => station::asked(inboxes, event.act),
@@ -163,7 +101,7 @@ impl Parts {
     /// The packet that an event takes is gone.
     #[inline(always)]
     fn receive(&mut self, event: Event)
-        ensures { self.new ≡ received event.node event.act self.old }
+        ensures { net_of_parts self.new ≡ received event.node event.act (net_of_parts self.old) }
     {
         let (Act::Data(_) | Act::Ack(_)) = event.act else {
             return;
@@ -176,7 +114,7 @@ impl Parts {
 
     /// What lies at an end.
     pub fn inbox(&self, end: End) -> Inbox
-        ensures { result ≡ inbox_at self.now end }
+        ensures { result ≡ inbox_at (net_of_parts self.now) end }
     {
         match self.inboxes.get(end.node as usize) {
             Some(links) => links
@@ -187,35 +125,15 @@ impl Parts {
         }
     }
 
-    /// The far end of an end.
-    pub fn far_end(&self, end: End) -> Option<End>
-        ensures { result ≡ far_end self.now.wires end }
-    {
-        match self.far.get(end.node as usize) {
-            Some(links) => links.get(end.link as usize).copied().unwrap_or(None),
-            None => None,
-        }
-    }
-
-    /// The far ends of a node's links.
-    pub fn far_ends(&self, node: u8) -> [Option<End>; 4]
-        ensures { IsRow self.now.wires node result }
-    {
-        self.far
-            .get(usize::from(node))
-            .copied()
-            .unwrap_or([None; 4])
-    }
-
     /// What was emitted lies at the far end.
     #[inline(always)]
     fn send_off(&mut self, node: u8, packet: Option<(u8, Packet)>)
-        ensures { self.new ≡ sent_off node packet self.old }
+        ensures { net_of_parts self.new ≡ sent_off node packet (net_of_parts self.old) }
     {
         let Some((link, packet)) = packet else {
             return;
         };
-        let Some(far) = self.far_end(end_of(node, link)) else {
+        let Some(far) = self.wires.far_end(end_of(node, link)) else {
             return;
         };
         let place = far.node as usize;
@@ -224,28 +142,10 @@ impl Parts {
         }
     }
 
-    /// The far end of link 0 of a node, at which a script stands.
-    pub fn script_end(&self, number: u32) -> Option<End>
-        ensures { result ≡ far_end self.now.wires (end_at number 0) }
-    {
-        self.far_end(End {
-            node: number,
-            link: 0,
-        })
-    }
-
-    /// The nodes.
-    pub fn nodes(&self) -> &[Node]
-        ensures nodes { result.now ≡ self.now.nodes }
-        ensures few { length result.now ≤ 64 }
-    {
-        self.nodes.as_slice()
-    }
-
     /// Whether an event would be done.
     #[tactic(auto, using(crate::proofs::Stepping::asked_at), unfolding(crate::specs::Packets::net_happens))]
     pub fn enabled(&self, event: Event) -> bool
-        ensures { result ≡ is_enabled self.now event }
+        ensures { result ≡ is_enabled (net_of_parts self.now) event }
     {
         match self.node_event(event) {
             None => false,
@@ -256,9 +156,9 @@ impl Parts {
         }
     }
 
-    /// Whether none of these acts of a node is enabled.
+    /// Whether a node does none of these acts.
     fn refuses(&self, node: u8, acts: &[Act]) -> bool
-        ensures { result ≡ list_all (λ act. not (is_enabled self.now (record { node = node; act = act })))
+        ensures { result ≡ list_all (λ act. not (is_enabled (net_of_parts self.now) (record { node = node; act = act })))
             acts.now }
     {
         acts.iter()
@@ -267,7 +167,7 @@ impl Parts {
 
     /// Whether no event of a node is enabled.
     fn node_is_quiet(&self, node: u8) -> bool
-        ensures { result ≡ list_all (λ e. not (is_enabled self.now e)) (node_events node) }
+        ensures { result ≡ list_all (λ e. not (is_enabled (net_of_parts self.now) e)) (node_events node) }
     {
         self.refuses(node, &ALL_ACTS)
     }
@@ -275,7 +175,7 @@ impl Parts {
     /// Whether no event is enabled.
     #[tactic(auto, using(crate::proofs::Quietness::quiet_next, crate::proofs::Quietness::quiet_stops))]
     pub fn is_quiet(&self) -> bool
-        ensures { result ≡ is_quiet self.now }
+        ensures { result ≡ is_quiet (net_of_parts self.now) }
     {
         for node in 0..self.nodes.len() as u8 {
             if !self.node_is_quiet(node) {
@@ -288,7 +188,8 @@ impl Parts {
     /// Does one event of the node with this number.
     #[inline(always)]
     fn step_node(&mut self, node: u8, event: NodeEvent) -> Result<Emitted, StepFault>
-        ensures { DoesAt node event (node_at self.old node) self.old result self.new }
+        ensures { DoesAt node event (node_at (net_of_parts self.old) node) (net_of_parts self.old) result
+            (net_of_parts self.new) }
     {
         let place = usize::from(node);
         if place >= self.nodes.len() {
@@ -300,23 +201,22 @@ impl Parts {
     /// Does one event. That of a script stands out of line, so that those of processors stay small.
     #[inline(always)]
     pub fn step(&mut self, event: Event) -> Result<Emitted, StepFault>
-        ensures { DoesNet event (net_happens event self.old) self.old result self.new }
+        ensures { DoesEvent event (net_of_parts self.old) result (net_of_parts self.new) }
     {
         let place = usize::from(event.node);
         if place >= self.nodes.len() {
             return Err(StepFault::NotEnabled);
         }
-        if self.nodes[place].processor().is_some() {
-            self.step_any(event)
-        } else {
-            self.step_script(event)
+        match self.nodes[place].role() {
+            Role::Processor(_) => self.step_any(event),
+            Role::Source(_) | Role::Sink(_) => self.step_script(event),
         }
     }
 
     /// Does one event of a script.
     #[inline(never)]
     fn step_script(&mut self, event: Event) -> Result<Emitted, StepFault>
-        ensures { DoesNet event (net_happens event self.old) self.old result self.new }
+        ensures { DoesEvent event (net_of_parts self.old) result (net_of_parts self.new) }
     {
         self.step_any(event)
     }
@@ -325,7 +225,7 @@ impl Parts {
     #[inline(always)]
     #[tactic(auto, using(crate::proofs::Stepping::event_done), unfolding(crate::specs::Packets::net_happens))]
     fn step_any(&mut self, event: Event) -> Result<Emitted, StepFault>
-        ensures { DoesNet event (net_happens event self.old) self.old result self.new }
+        ensures { DoesEvent event (net_of_parts self.old) result (net_of_parts self.new) }
     {
         let Some(asked) = self.node_event(event) else {
             return Err(StepFault::NotEnabled);

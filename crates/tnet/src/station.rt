@@ -3,15 +3,15 @@
 
 ghost use Rattle.std.specs.Prelude.{◌≡◌, ◌+◌, ◌<◌, ◌^◌, ℕ, None, Option, slice_set, vec_capacity};
 ghost use Rattle.tlink.specs.Events.{happens, node_left_by};
-ghost use Rattle.tnet.specs.Stations as plain;
-ghost use Rattle.tnet.specs.Stations.{box_at, emptied, put_in, answer_note, done_of, last_told, runs_done};
+ghost use Rattle.tnet.specs.Stations as spec;
+ghost use Rattle.tnet.specs.Stations.{box_at, emptied, put_in, answer_note, done_of, runs_done};
 ghost use Rattle.tplan.specs.declared.plan.End.{End};
-ghost use Rattle.tnet.specs.Wires.{end_at};
 ghost use Rattle.tnet.specs.FarEnds.{far_in_row};
 ghost use Rattle.tnet.specs.Answers.{HasRoom};
 
 use crate::inbox::Inbox;
 use crate::messages::message;
+use crate::wires::{Row, end_of};
 use std::alloc::Global;
 use std::mem;
 use tlink::{Arrival, Emitted, Mark, Node, NodeEvent, Packet, Runs, StepFault};
@@ -39,8 +39,8 @@ pub struct RunsDone {
 
 /// The event that an act asks a node for, if its packet lies there.
 #[inline(always)]
-pub fn asked(inboxes: &[Inbox; 4], act: Act) -> Option<NodeEvent>
-    ensures { result ≡ plain.asked act inboxes.now }
+pub fn asked(inboxes: &Row<Inbox>, act: Act) -> Option<NodeEvent>
+    ensures { result ≡ spec.asked act inboxes.now }
 {
     match act {
         Act::Run => Some(NodeEvent::Run),
@@ -62,7 +62,7 @@ pub fn asked(inboxes: &[Inbox; 4], act: Act) -> Option<NodeEvent>
 
 /// The packet that an act takes is gone.
 #[inline(always)]
-pub fn empty(inboxes: &mut [Inbox; 4], act: Act)
+pub fn empty(inboxes: &mut Row<Inbox>, act: Act)
     ensures { inboxes.new ≡ emptied act inboxes.old }
 {
     match act {
@@ -84,7 +84,7 @@ pub fn empty(inboxes: &mut [Inbox; 4], act: Act)
 
 /// A packet lies at a link.
 #[inline(always)]
-pub fn put(inboxes: &mut [Inbox; 4], link: u32, packet: Packet)
+pub fn put(inboxes: &mut Row<Inbox>, link: u32, packet: Packet)
     ensures { inboxes.new ≡ slice_set inboxes.old link (put_in packet (box_at inboxes.old link)) }
 {
     let link = link as usize;
@@ -96,7 +96,7 @@ pub fn put(inboxes: &mut [Inbox; 4], link: u32, packet: Packet)
 /// The message that an event may complete.
 #[inline(always)]
 pub fn input_of(node: &Node, event: NodeEvent) -> Option<Offer>
-    ensures { result ≡ plain.input_of event node.now }
+    ensures { result ≡ spec.input_of event node.now }
 {
     match event {
         NodeEvent::Take(link) => node.due(link),
@@ -110,7 +110,7 @@ pub fn input_of(node: &Node, event: NodeEvent) -> Option<Offer>
 pub fn note_of(
     alloc: Global,
     number: u8,
-    far: &[Option<End>; 4],
+    far: &Row<Option<End>>,
     input: Option<Offer>,
     answer: &Result<Emitted, StepFault>,
     node: &Node,
@@ -124,33 +124,30 @@ pub fn note_of(
         Ok(emitted) => match emitted.mark {
             Mark::Nothing => None,
             Mark::Halted => Some(Note::Halt(number)),
-            Mark::Completed(link) => message_note(alloc, number, link, far, input, node, room),
+            Mark::Completed(link) => {
+                let from = far.get(usize::from(link)).copied().unwrap_or(None);
+                message_note(alloc, from, end_of(number, link), input, node, room)
+            }
         },
         Err(StepFault::Frozen(broken)) => Some(Note::Freeze(number, *broken)),
         Err(StepFault::NotEnabled) => None,
     }
 }
 
-/// A message that has come to its end at a link, if that has a wire.
+/// A message that has come to its end, if it came over a wire.
 fn message_note(
     alloc: Global,
-    number: u8,
-    link: u8,
-    far: &[Option<End>; 4],
+    from: Option<End>,
+    to: End,
     input: Option<Offer>,
     node: &Node,
     room: &mut Vec<u8>,
 ) -> Option<Note>
     requires room { HasRoom input (vec_capacity room.old) }
-    ensures note { result ≡ plain.message_note (far_in_row far.now link) (end_at number link)
-        (plain.input_bytes input node.now) }
+    ensures note { result ≡ spec.message_note from to (spec.input_bytes input node.now) }
     ensures kept { input ≡ None → room.new ≡ room.old }
 {
-    let from = far.get(usize::from(link)).copied().unwrap_or(None)?;
-    let to = End {
-        node: u32::from(number),
-        link: u32::from(link),
-    };
+    let from = from?;
     let bytes = match input {
         Some(offer) => message(node, offer, mem::replace(room, Vec::new(alloc))),
         None => Items::new(Vec::new(alloc)),
@@ -164,16 +161,16 @@ fn message_note(
 pub fn act(
     alloc: Global,
     number: u8,
-    far: &[Option<End>; 4],
+    far: &Row<Option<End>>,
     node: &mut Node,
     event: NodeEvent,
     room: &mut Vec<u8>,
 ) -> Option<Done>
-    requires room { HasRoom (plain.input_of event node.old) (vec_capacity room.old) }
+    requires room { HasRoom (spec.input_of event node.old) (vec_capacity room.old) }
     ensures done { result ≡ done_of number (far_in_row far.now) event node.old }
     ensures left { node.new ≡ node_left_by node.old (happens event node.old) }
     ensures rests { result ≡ None → node.new ≡ node.old }
-    ensures kept { plain.input_of event node.old ≡ None → room.new ≡ room.old }
+    ensures kept { spec.input_of event node.old ≡ None → room.new ≡ room.old }
 {
     let input = input_of(node, event);
     let answer = node.step(event);
@@ -203,7 +200,7 @@ pub fn run(number: u8, node: &mut Node, most: u32) -> RunsDone
 /// What others see of so many runs that told nothing, and of the answer of the one behind them.
 fn last_told(number: u8, count: u32, answer: Result<Emitted, StepFault>) -> RunsDone
     requires { count + 1 < 2 ^ 32 }
-    ensures { result ≡ last_told number count answer }
+    ensures { result ≡ spec.last_told number count answer }
 {
     match answer {
         Ok(_halted) => RunsDone {

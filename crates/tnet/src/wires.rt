@@ -1,21 +1,24 @@
-//! The wires of a net with the table of their far ends, and the parts of a net.
+//! The wires of a net, with the far ends of the links of each node.
 
-ghost use Rattle.std.specs.Prelude.{◌≡◌};
-ghost use Rattle.tnet.specs.Wires.{far_end};
-ghost use Rattle.tnet.specs.FarEnds.{AgreesWith, IsRow};
+ghost use Rattle.std.specs.Prelude.{◌≡◌, All, IfOk};
+ghost use Rattle.tnet.specs.Sound.{IsEnd};
+ghost use Rattle.tnet.specs.Wires as spec;
+ghost use Rattle.tnet.specs.FarEnds.{row_of, IsRow};
 
-use crate::inbox::Inbox;
+use std::alloc::{AllocError, Global};
 use std::marker::Model;
-use tlink::Node;
 use tplan::{End, Wire};
 use tword::Items;
+
+/// What belongs to the four links of a node, in their order.
+pub type Row<T> = [T; 4];
 
 /// The wires of a net, with the far end of each end at hand.
 #[derive(Drop)]
 pub struct Wires {
-    pub wires: Items<Wire>,
-    /// For each node, the far ends of its four links, where they have a wire.
-    pub far: Vec<[Option<End>; 4]>,
+    wires: Items<Wire>,
+    /// For each node, the far ends of its links, where they have a wire.
+    far: Vec<Row<Option<End>>>,
 }
 
 impl Model for Wires {
@@ -30,36 +33,87 @@ impl Model for Wires {
     ghost invariant = { λ w. AgreesWith w.wires w.far.items };
 }
 
-/// The parts of a net: its nodes, its wires, and what lies at the links of each node.
-#[derive(Drop)]
-pub struct NetParts {
-    pub nodes: Vec<Node>,
-    pub wires: Wires,
-    /// For each node, what lies at its four links.
-    pub inboxes: Vec<[Inbox; 4]>,
+/// The end at a link of a node.
+pub(crate) fn end_of(node: u8, link: u8) -> End
+    ensures { result ≡ spec.end_at node link }
+{
+    End {
+        node: u32::from(node),
+        link: u32::from(link),
+    }
+}
+
+/// The far end of an end, sought among the wires.
+fn sought(wires: &[Wire], end: End) -> Option<End>
+    ensures { result ≡ spec.far_end wires.now end }
+{
+    for wire in wires {
+        if wire.a.node == end.node && wire.a.link == end.link {
+            return Some(wire.b);
+        }
+        if wire.b.node == end.node && wire.b.link == end.link {
+            return Some(wire.a);
+        }
+    }
+    None
+}
+
+/// The far ends of a node's links, sought among the wires.
+fn sought_row(wires: &[Wire], node: u32) -> Row<Option<End>>
+    ensures { result ≡ row_of wires.now node }
+{
+    [
+        sought(wires, End { node, link: 0 }),
+        sought(wires, End { node, link: 1 }),
+        sought(wires, End { node, link: 2 }),
+        sought(wires, End { node, link: 3 }),
+    ]
 }
 
 impl Wires {
-    /// Some wires, with the table of their far ends.
-    pub fn new(wires: Items<Wire>, far: Vec<[Option<End>; 4]>) -> Self
-        requires { AgreesWith wires far.items }
-        ensures { result ≡ wires }
+    /// These wires between so many nodes. The far end of each end is sought here, and never again.
+    ///
+    /// # Errors
+    /// Where the allocator refuses.
+    pub(crate) fn new(alloc: Global, wires: Vec<Wire>, nodes: u32) -> Result<Wires, AllocError>
+        requires { All (λ w. IsEnd nodes w.a × IsEnd nodes w.b) wires.items }
+        ensures { IfOk result (λ made. made ≡ wires.items) }
     {
-        Wires { wires, far }
+        let mut far = Vec::new(alloc);
+        for node in 0..nodes {
+            far.push(sought_row(wires.as_slice(), node))?;
+        }
+        Ok(Wires {
+            wires: Items::new(wires),
+            far,
+        })
     }
 
-    /// The wires, and the table of their far ends.
-    pub fn into_fields(self) -> (Items<Wire>, Vec<[Option<End>; 4]>)
-        ensures wires { result.0 ≡ self }
-        ensures table { AgreesWith self result.1.items }
+    /// The same wires once more.
+    ///
+    /// # Errors
+    /// Where the allocator refuses.
+    pub fn try_copy(&self, alloc: Global) -> Result<Wires, AllocError>
+        ensures { IfOk result (λ wires. wires ≡ self.now) }
     {
-        let Wires { wires, far } = self;
-        (wires, far)
+        let wires = Vec::from_slice(alloc, self.wires.as_slice())?;
+        let far = Vec::from_slice(alloc, self.far.as_slice())?;
+        Ok(Wires {
+            wires: Items::new(wires),
+            far,
+        })
+    }
+
+    /// All wires, in their order.
+    pub fn as_slice(&self) -> &[Wire]
+        ensures { result.now ≡ self.now }
+    {
+        self.wires.as_slice()
     }
 
     /// The far end of an end, if it is a wired link.
     pub fn far_end(&self, end: End) -> Option<End>
-        ensures { result ≡ far_end self.now end }
+        ensures { result ≡ spec.far_end self.now end }
     {
         match self.far.get(end.node as usize) {
             Some(links) => links.get(end.link as usize).copied().unwrap_or(None),
@@ -68,9 +122,12 @@ impl Wires {
     }
 
     /// The far ends of a node's links.
-    pub fn far_ends(&self, node: u32) -> [Option<End>; 4]
+    pub fn far_ends(&self, node: u8) -> Row<Option<End>>
         ensures { IsRow self.now node result }
     {
-        self.far.get(node as usize).copied().unwrap_or([None; 4])
+        self.far
+            .get(usize::from(node))
+            .copied()
+            .unwrap_or([None; 4])
     }
 }

@@ -2,11 +2,13 @@
 #![tactic(auto)]
 
 pub mod event;
+pub mod file_name;
 pub mod options;
 pub mod plan;
 pub mod wiring;
 
 pub use event::{Act, Event, Hold, Note, PacketKind};
+pub use file_name::FileName;
 pub use options::Options;
 pub use plan::{
     BuildFault, End, Image, NodePlan, Plan, Process, Segment, SinkPlan, SourcePlan, Wire,

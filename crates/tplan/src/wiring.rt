@@ -1,6 +1,7 @@
 //! What a wiring file says, and why a text is none.
 
 use crate::event::Hold;
+use crate::file_name::FileName;
 use crate::plan::{SinkPlan, SourcePlan, Wire};
 use std::alloc::{AllocError, AllocFailed};
 use thiserror::Error;
@@ -45,7 +46,7 @@ pub struct WiringNode {
     pub memory: u32,
     pub kind: Kind,
     /// The name of the image's file, as the text has it.
-    pub image: Items<u8>,
+    pub image: FileName,
 }
 
 /// What a wiring file says.

@@ -11,8 +11,8 @@ use Rattle.tword.specs.Actions.{◌>>◌}
 use Rattle.tword.proofs.Passing.{deschedule-words}
 use Rattle.tcpu.specs.declared.registers.Registers.{Registers}
 use Rattle.tcpu.specs.Outcomes.{all_to, flag}
-use Rattle.tproc.specs.declared.offer.Ran.{Ran}
-use Rattle.tproc.specs.declared.offer.Ran.TheVariants.{Instruction}
+use Rattle.tproc.specs.declared.ran.Ran.{Ran}
+use Rattle.tproc.specs.declared.ran.Ran.TheVariants.{Instruction}
 use Rattle.tproc.specs.declared.waiter.Reason.TheVariants.{Sends, Receives, Chooses, LinkInput, LinkOutput}
 use Rattle.tproc.specs.Machine.{Control}
 use Rattle.tproc.specs.declared.process_status.ProcessStatus.{ProcessStatus}

@@ -11,7 +11,7 @@ use Rattle.tword.specs.Claims.{Claims}
 use Rattle.tword.specs.Actions.{Action, run}
 use Rattle.tword.proofs.Leads.{Leads, leads_run}
 use Rattle.tproc.specs.declared.offer.Offer.{Offer}
-use Rattle.tproc.specs.declared.offer.Ran.{Ran}
+use Rattle.tproc.specs.declared.ran.Ran.{Ran}
 use Rattle.tproc.specs.Kinds.{IsSized, IsAlike, KindsStay}
 use Rattle.tproc.specs.Links.{finished, finish_output, finish_input, notice, wakes}
 use Rattle.tproc.specs.LinkChannels.{link_end, with_link}

@@ -10,7 +10,7 @@ use Rattle.tword.specs.Actions.{answer}
 use Rattle.tword.proofs.Leads.{Leads, leads_bind, leads_after, leads_if}
 use Rattle.tcpu.specs.declared.registers.Registers.{Registers}
 use Rattle.tproc.specs.declared.offer.Offer.{Offer}
-use Rattle.tproc.specs.declared.offer.Ran.TheVariants.{Instruction}
+use Rattle.tproc.specs.declared.ran.Ran.TheVariants.{Instruction}
 use Rattle.tproc.specs.Machine.{Control, workspace_of, priority_of}
 use Rattle.tproc.specs.declared.waiter.Waiter.{Waiter}
 use Rattle.tproc.specs.declared.waiter.LinkEnd.{LinkEnd}

@@ -8,8 +8,8 @@ use Rattle.tword.specs.Words.{word_below, most_neg}
 use Rattle.tword.specs.Actions.{Action, Deed, answer, ◌>>=◌, set_saved_word}
 use Rattle.tword.proofs.Giving.{Gives, gives_bind, gives_after, gives_if}
 use Rattle.tcpu.specs.declared.registers.Registers.{Registers}
-use Rattle.tproc.specs.declared.offer.Ran.{Ran}
-use Rattle.tproc.specs.declared.offer.Ran.TheVariants.{Instruction}
+use Rattle.tproc.specs.declared.ran.Ran.{Ran}
+use Rattle.tproc.specs.declared.ran.Ran.TheVariants.{Instruction}
 use Rattle.tproc.specs.Machine.{Control, workspace_of}
 use Rattle.tproc.specs.declared.waiter.LinkEnd.{LinkEnd}
 use Rattle.tproc.specs.declared.waiter.Waiter.{Waiter}

@@ -15,7 +15,8 @@ use Rattle.tproc.specs.Machine.{Control, workspace_of, priority_of}
 use Rattle.tproc.specs.declared.waiter.LinkEnd.{LinkEnd}
 use Rattle.tproc.specs.declared.waiter.Suspended.{Suspended}
 use Rattle.tproc.specs.declared.waiter.Waiter.{Waiter}
-use Rattle.tproc.specs.ProcessStatus.{most_processes, queue}
+use Rattle.tword.specs.Limits.{most_processes}
+use Rattle.tproc.specs.ProcessStatus.{queue}
 use Rattle.tproc.specs.Queues.{appended, enqueue, release, without_waiter, link_from, last_of, resumed}
 use Rattle.tproc.specs.LinkChannels.{link_end, with_link}
 use Rattle.tproc.specs.Placement.{IsWord, AreWords, IsOfferOf}

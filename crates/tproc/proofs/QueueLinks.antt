@@ -5,8 +5,8 @@ use Rattle.std.specs.Prelude.{◌==◌, if◌then◌else◌, option_map}
 use Rattle.tword.specs.Words.{word_below}
 use Rattle.tword.specs.Actions.{answer, ◌>>=◌, write_word, set_saved_word}
 use Rattle.tcpu.specs.declared.registers.Registers.{Registers}
-use Rattle.tproc.specs.declared.offer.Ran.{Ran}
-use Rattle.tproc.specs.declared.offer.Ran.TheVariants.{Instruction}
+use Rattle.tproc.specs.declared.ran.Ran.{Ran}
+use Rattle.tproc.specs.declared.ran.Ran.TheVariants.{Instruction}
 use Rattle.tproc.specs.Machine.{Control, workspace_of, priority_of}
 use Rattle.tproc.specs.declared.waiter.Reason.TheVariants.{Receives, Sends, Chooses}
 use Rattle.tproc.specs.declared.process_status.ProcessStatus.{ProcessStatus}

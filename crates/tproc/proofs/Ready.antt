@@ -21,8 +21,8 @@ use Rattle.tcode.specs.declared.instruction.Instruction.{Instruction}
 use Rattle.tcode.specs.Decoding.{decode}
 use Rattle.tcpu.specs.declared.registers.Registers.{Registers}
 use Rattle.tproc.specs.declared.offer.Offer.{Offer}
-use Rattle.tproc.specs.declared.offer.Ran.{Ran}
-use Rattle.tproc.specs.declared.offer.Ran.TheVariants as ran
+use Rattle.tproc.specs.declared.ran.Ran.{Ran}
+use Rattle.tproc.specs.declared.ran.Ran.TheVariants as ran
 use Rattle.tproc.specs.declared.waiter.LinkEnd.{LinkEnd}
 use Rattle.tproc.specs.declared.waiter.Reason.{Reason}
 use Rattle.tproc.specs.declared.waiter.Reason.TheVariants.{LinkInput, LinkOutput}
@@ -39,7 +39,8 @@ use Rattle.tproc.specs.Links.{act_or_unchanged, or_unchanged}
 use Rattle.tproc.specs.Messages.{output_of, input_of}
 use Rattle.tproc.specs.Opening.{Adds, added, only_machine, no_processes}
 use Rattle.tproc.specs.Agreement.{Agrees, IsPlain}
-use Rattle.tproc.specs.Doing.{Does, Stepped, as_step, adding}
+use Rattle.tproc.specs.declared.engine.Engine.{Engine}
+use Rattle.tproc.specs.Doing.{CameOf, Does, Stepped, as_step, adding, machine_of}
 use Rattle.tproc.proofs.ClaimState.{HasWaiter}
 use Rattle.tproc.proofs.Pending.{at_some}
 use Rattle.tproc.proofs.Opening.{added_keeps_placed, loaded_keeps_placed}
@@ -58,7 +59,6 @@ kept_aligned (Some s) h = aligned_words s.registers h
 pub plain_from : (n : Machine) → IsPlaced n → IsPlain n.control
 plain_from n p =
     record {
-      current = p.priority;
       words = aligned_words n.control.registers p.words;
       kept = kept_aligned n.control.interrupted p.kept_words;
       few = p.few;
@@ -106,22 +106,22 @@ same_from c m h =
       has = h.on.saved;
     }
 
--- a step of the control, under claims that agree, is the step of the machine
-pub stepped : (c : Claims) (n n' : Machine) (r : Result Ran Break) → Agrees c n.control
-    → Does (run (control_step n.control.halted n.control) n.store c) n.control n.store r n'.control n'.store
-    → Stepped n r n'
+-- a step of an engine is the step of its machine
+pub stepped : (e e' : Engine) (r : Result Ran Break) → Does (control_step e.state.halted e.state) e r e'
+    → Stepped (machine_of e) r (machine_of e')
 unfolding step
-stepped c n n' r a h =
-    by (run (control_step m.halted m) n.store (claims_of m)) refl
-    (rw (run_from-same (control_step m.halted m) n.store n.store c (claims_of m) (same_from c m a)) at h)
+stepped e e' r h =
+    by (run (control_step e.state.halted e.state) e.claimed.memory.bytes (claims_of e.state)) refl
+    (rw (run_from-same (control_step e.state.halted e.state) e.claimed.memory.bytes e.claimed.memory.bytes
+    e.claimed.marks
+    (claims_of e.state) (same_from e.claimed.marks e.state e.agrees)) at h)
   where
-    m : Control
-    m = n.control
-
-    by : (y : Result ((Control × Ran) × Store) Break) → run (control_step m.halted m) n.store (claims_of m) ≡ y
-        → Does y m n.store r n'.control n'.store → Stepped n r n'
-    by (Ok ((m1, x), s1)) e d = record { left = rw (e, ← d.1, ← d.2) refl; answered = rw e d.0 }
-    by (Err b) e d = record { left = rw (e, d.1, d.2) refl; answered = rw e d.0 }
+    by : (y : Result ((Control × Ran) × Store) Break)
+        → run (control_step e.state.halted e.state) e.claimed.memory.bytes (claims_of e.state) ≡ y
+        → CameOf y e.state e.claimed.memory.bytes r e'.state e'.claimed.memory.bytes → Stepped (machine_of e) r
+        (machine_of e')
+    by (Ok ((m1, x), s1)) q d = record { left = rw (q, ← d.1, ← d.2) refl; answered = rw q d.0 }
+    by (Err b) q d = record { left = rw (q, d.1, d.2) refl; answered = rw q d.0 }
 
 -- and keeps the placement
 pub placed_after : (n n' : Machine) → IsPlaced n → n' ≡ step_left_by n (step n) → IsPlaced n'
@@ -131,26 +131,27 @@ placed_after n n' p h = by (step n) refl h
     by (Ok (m, x)) e k = step_keeps_placed n n' x p (rw k e)
     by (Err b) e k = subst IsPlaced (sym k) p
 
--- an action of the control alone, under claims that agree, is made on the machine, or nothing is
-pub acted_or_unchanged : (action : Control → Action Control) (c : Claims) (n n' : Machine) (r : Result Ran Break)
-    → Agrees c n.control
-    → Does (run (as_step (action n.control)) n.store c) n.control n.store r n'.control n'.store
-    → n' ≡ act_or_unchanged action n
-acted_or_unchanged action c n n' r a h =
-    rw (run_from-answering {B = Control × Unit {0}} (λ (m : Control). (m, tt)) (action n.control) n.store
-    (claims_of n.control) n.store)
-    (by (run (action n.control) n.store (claims_of n.control))
+-- an action of the control alone is made on the machine of an engine, or nothing is
+pub acted_or_unchanged : (action : Control → Action Control) (e e' : Engine) (r : Result Ran Break)
+    → Does (as_step (action e.state)) e r e' → machine_of e' ≡ act_or_unchanged action (machine_of e)
+acted_or_unchanged action e e' r h =
+    rw (run_from-answering {B = Control × Unit {0}} (λ (m : Control). (m, tt)) (action e.state) e.claimed.memory.bytes
+    (claims_of e.state) e.claimed.memory.bytes)
+    (by (run (action e.state) e.claimed.memory.bytes (claims_of e.state))
     (rw (
-      run_from-answering {B = Control × Ran} (λ (m : Control). (m, ran.Instruction)) (action n.control) n.store c
-          n.store,
-      run_from-same (action n.control) n.store n.store c (claims_of n.control) (same_from c n.control a),
+      run_from-answering {B = Control × Ran} (λ (m : Control). (m, ran.Instruction)) (action e.state)
+          e.claimed.memory.bytes
+          e.claimed.marks e.claimed.memory.bytes,
+      run_from-same (action e.state) e.claimed.memory.bytes e.claimed.memory.bytes e.claimed.marks (claims_of e.state)
+          (same_from e.claimed.marks e.state e.agrees),
     ) at
     h))
   where
     by : (y : Result (Control × Store) Break)
-        → Does (answering {B = Control × Ran} (λ (m : Control). (m, ran.Instruction)) y) n.control n.store r n'.control
-        n'.store
-        → n' ≡ or_unchanged n (acted n.store (answering {B = Control × Unit {0}} (λ (m : Control). (m, tt)) y))
+        → CameOf (answering {B = Control × Ran} (λ (m : Control). (m, ran.Instruction)) y) e.state
+        e.claimed.memory.bytes r e'.state e'.claimed.memory.bytes
+        → machine_of e' ≡ or_unchanged (machine_of e)
+        (acted e.claimed.memory.bytes (answering {B = Control × Unit {0}} (λ (m : Control). (m, tt)) y))
     by (Ok (m1, s1)) d = rw (← d.1, ← d.2) refl
     by (Err b) d = rw (d.1, d.2) refl
 
@@ -280,37 +281,41 @@ told (Ok x) = Ok tt
 told (Err b) = Err b
 
 -- a process is added
-pub adds : (process iptr : ℕ) (c : Claims) (n n' : Machine) (r : Result Ran Break) → Agrees c n.control
-    → Does (run (adding process iptr n.control) n.store c) n.control n.store r n'.control n'.store
-    → Adds (added process iptr n) n (told r) n'
-adds process iptr c n n' r a h =
-    rw (run_from-answering {B = Control × Unit {0}} (λ (m : Control). (m, tt)) (add_process process iptr n.control)
-    n.store (claims_of n.control) n.store)
-    (by (run (add_process process iptr n.control) n.store (claims_of n.control))
-    (same (run (adding process iptr n.control) n.store c) _ one h))
+pub adds : (process iptr : ℕ) (e e' : Engine) (r : Result Ran Break) → Does (adding process iptr e.state) e r e'
+    → Adds (added process iptr (machine_of e)) (machine_of e) (told r) (machine_of e')
+adds process iptr e e' r h =
+    rw (run_from-answering {B = Control × Unit {0}} (λ (m : Control). (m, tt)) (add_process process iptr e.state)
+    e.claimed.memory.bytes (claims_of e.state) e.claimed.memory.bytes)
+    (by (run (add_process process iptr e.state) e.claimed.memory.bytes (claims_of e.state))
+    (same (run (adding process iptr e.state) e.claimed.memory.bytes e.claimed.marks) _ one h))
   where
-    one : run (adding process iptr n.control) n.store c
+    one : run (adding process iptr e.state) e.claimed.memory.bytes e.claimed.marks
         ≡ answering {B = Control × Ran} (λ (m : Control). (m, ran.Instruction))
-        (run (add_process process iptr n.control) n.store (claims_of n.control))
+        (run (add_process process iptr e.state) e.claimed.memory.bytes (claims_of e.state))
     one =
         sym (run_from-assoc {C = Control × Ran}
-        (λ _. set_saved_word (workspace_of process) iptr_word iptr >>= (λ _. enqueue process n.control))
-        (λ m'. answer (m', ran.Instruction)) (admit process n.control) n.store c n.store)
+        (λ _. set_saved_word (workspace_of process) iptr_word iptr >>= (λ _. enqueue process e.state))
+        (λ m'. answer (m', ran.Instruction)) (admit process e.state) e.claimed.memory.bytes e.claimed.marks
+        e.claimed.memory.bytes)
         ∙ run_from-answering {B = Control × Ran} (λ (m : Control). (m, ran.Instruction))
-        (add_process process iptr n.control) n.store c n.store
+        (add_process process iptr e.state) e.claimed.memory.bytes e.claimed.marks e.claimed.memory.bytes
         ∙ ap (answering {B = Control × Ran} (λ (m : Control). (m, ran.Instruction)))
-        (run_from-same (add_process process iptr n.control) n.store n.store c (claims_of n.control)
-        (same_from c n.control a))
+        (run_from-same (add_process process iptr e.state) e.claimed.memory.bytes e.claimed.memory.bytes e.claimed.marks
+        (claims_of e.state) (same_from e.claimed.marks e.state e.agrees))
 
-    same : (x y : Result ((Control × Ran) × Store) Break) → x ≡ y → Does x n.control n.store r n'.control n'.store
-        → Does y n.control n.store r n'.control n'.store
-    same x y e d = rw (← e) d
+    same : (x y : Result ((Control × Ran) × Store) Break) → x ≡ y → CameOf x e.state e.claimed.memory.bytes r e'.state
+        e'.claimed.memory.bytes
+        → CameOf y e.state e.claimed.memory.bytes r e'.state e'.claimed.memory.bytes
+    same x y q d = rw (← q) d
 
     by : (y : Result (Control × Store) Break)
-        → Does (answering {B = Control × Ran} (λ (m : Control). (m, ran.Instruction)) y) n.control n.store r n'.control
-        n'.store
-        → Adds (only_machine (acted n.store (answering {B = Control × Unit {0}} (λ (m : Control). (m, tt)) y))) n
-        (told r) n'
+        → CameOf (answering {B = Control × Ran} (λ (m : Control). (m, ran.Instruction)) y) e.state
+        e.claimed.memory.bytes r e'.state e'.claimed.memory.bytes
+        → Adds (only_machine (acted e.claimed.memory.bytes (answering {B = Control × Unit {0}} (λ (m : Control). (
+          m,
+          tt,
+        )) y)))
+        (machine_of e) (told r) (machine_of e')
     by (Ok (m1, s1)) d = rw (d.0, ← d.1, ← d.2) (refl, refl)
     by (Err b) d = rw (d.0, d.1, d.2) (refl, refl)
 
@@ -332,9 +337,11 @@ placed_loaded start bytes n s p small inside e =
     (loaded_keeps_placed start bytes n p small inside)
 
 -- what is fetched does not depend on the order in which the claims are kept
-pub fetched_at_alike : (address : ℕ) (c : Claims) (n : Machine) → Agrees c n.control
-    → value_of (run (decode n.control.kind address) n.store c)
-    ≡ value_of (run (decode n.control.kind address) n.store (claims_of n.control))
-fetched_at_alike address c n a =
+pub fetched_at_alike : (address : ℕ) (e : Engine)
+    → value_of (run (decode e.state.kind address) e.claimed.memory.bytes e.claimed.marks)
+    ≡ value_of (run (decode e.state.kind address) e.claimed.memory.bytes (claims_of e.state))
+fetched_at_alike address e =
     ap (λ (r : Result (Instruction × Store) Break). value_of r)
-    (run_from-same (decode n.control.kind address) n.store n.store c (claims_of n.control) (same_from c n.control a))
+    (run_from-same (decode e.state.kind address) e.claimed.memory.bytes e.claimed.memory.bytes e.claimed.marks
+    (claims_of e.state)
+    (same_from e.claimed.marks e.state e.agrees))

@@ -16,8 +16,8 @@ use Rattle.tcpu.specs.declared.registers.Next.TheVariants.{Go, Jumped, Schedule,
 use Rattle.tcpu.specs.Outcomes.{pop, all_to, flag}
 use Rattle.tcpu.specs.Effects.{effect}
 use Rattle.tproc.specs.declared.offer.Offer.{Offer}
-use Rattle.tproc.specs.declared.offer.Ran.{Ran}
-use Rattle.tproc.specs.declared.offer.Ran.TheVariants.{Instruction}
+use Rattle.tproc.specs.declared.ran.Ran.{Ran}
+use Rattle.tproc.specs.declared.ran.Ran.TheVariants.{Instruction}
 use Rattle.tproc.specs.Machine.{Control, workspace_of}
 use Rattle.tproc.specs.declared.waiter.LinkEnd.{LinkEnd}
 use Rattle.tproc.specs.declared.waiter.Suspended.{Suspended}

@@ -15,7 +15,7 @@ use Rattle.tword.specs.Touches.{is_inside, byte_span}
 use Rattle.tword.specs.Actions.{Action, run}
 use Rattle.tword.proofs.Hiding.{overlap_back, inner_clear}
 use Rattle.tproc.specs.declared.offer.Offer.{Offer}
-use Rattle.tproc.specs.declared.offer.Ran.{Ran}
+use Rattle.tproc.specs.declared.ran.Ran.{Ran}
 use Rattle.tproc.specs.Machine.{Control, Machine, descheduled, buffer_of, claims_of}
 use Rattle.tproc.specs.declared.waiter.LinkEnd.{LinkEnd}
 use Rattle.tproc.specs.declared.waiter.Reason.TheVariants.{Chooses}

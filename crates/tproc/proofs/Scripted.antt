@@ -14,7 +14,7 @@ use Rattle.tword.specs.Touches.{byte_span}
 use Rattle.tword.proofs.Hiding.{covers, hiding-agrees, agree-hiding, overlap-parts, overlap-from, overlap_back}
 use Rattle.tword.proofs.Hiding.{overlap-inner}
 use Rattle.tproc.specs.declared.offer.Offer.{Offer}
-use Rattle.tproc.specs.declared.offer.Ran.TheVariants as ran
+use Rattle.tproc.specs.declared.ran.Ran.TheVariants as ran
 use Rattle.tproc.specs.declared.waiter.LinkEnd.{LinkEnd}
 use Rattle.tproc.specs.Machine.{Control, Machine, buffer_of, claims_of}
 use Rattle.tproc.specs.LinkChannels.{quiet_end, link_end, with_link}

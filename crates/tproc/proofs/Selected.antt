@@ -20,8 +20,8 @@ use Rattle.tcpu.specs.declared.registers.Next.TheVariants.{Schedule}
 use Rattle.tcpu.specs.Outcomes.{flag}
 use Rattle.tcpu.specs.Operations.{operation_effect}
 use Rattle.tcpu.specs.Effects.{effect, effect_at}
-use Rattle.tproc.specs.declared.offer.Ran.{Ran}
-use Rattle.tproc.specs.declared.offer.Ran.TheVariants.{Instruction}
+use Rattle.tproc.specs.declared.ran.Ran.{Ran}
+use Rattle.tproc.specs.declared.ran.Ran.TheVariants.{Instruction}
 use Rattle.tproc.specs.Machine.{Control, Machine, claims_of}
 use Rattle.tproc.specs.Channels.{StepAction}
 use Rattle.tproc.specs.Alternatives.{none_selected, awaits_choice, selects, disables_channel}

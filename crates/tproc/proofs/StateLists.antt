@@ -8,36 +8,33 @@ use Rattle.tproc.specs.declared.waiter.Waiter.{Waiter}
 use Rattle.tproc.specs.declared.process_status.ProcessStatus.TheVariants.{Queued, Runs, Interrupted, Unknown}
 use Rattle.tproc.specs.ProcessStatus.{is_among, is_queued, not_waiting, queue, reason_of}
 use Rattle.tproc.specs.ProcessStatus.{is_that, current_process, interrupted_process}
-use Rattle.tproc.specs.Requests.{reason_in}
+use Rattle.tproc.specs.Requests.{IfQueued, reason_in}
 use Rattle.tproc.specs.Queues.{appended}
-use Rattle.tproc.specs.Entries.{Lists, queue_of, queued_at, entry_by, entry_in}
+use Rattle.tproc.specs.Entries.{Lists, lists_in, queue_of, queued_at, entry_by, entry_in}
 
--- the lists of a control, and a control with others
-abbrev pub lists : Control → Lists
-lists m = record { high = m.high; low = m.low; waiting = m.waiting }
-
+-- a control with other lists
 abbrev pub with_lists : Control → Lists → Control
 with_lists m l = record m { high = l.high; low = l.low; waiting = l.waiting }
 
-pub same_queue : (m : Control) (p : ℕ) → queue_of (lists m) p ≡ queue m p
+pub same_queue : (m : Control) (p : ℕ) → queue_of (lists_in m) p ≡ queue m p
 same_queue m zero = refl
 same_queue m (suc p) = refl
 
 -- one more is queued
-pub with_queued : (w p : ℕ) (m : Control) → with_lists m (queued_at w p (lists m)) ≡ appended w p m
+pub with_queued : (w p : ℕ) (m : Control) → with_lists m (queued_at w p (lists_in m)) ≡ appended w p m
 with_queued w zero m = refl
 with_queued w (suc p) m = refl
 
 -- a process that is found by its reason, or without one, or that is not found
 module _ (m : Control) (p : ℕ) where
   -- the entry of a process is that of its reason and its queue
-  by_parts : entry_in (lists m) p
+  by_parts : entry_in (lists_in m) p
       ≡ entry_by p (find (λ w. w.process == p) m.waiting) (is_queued m p)
   by_parts =
       ap (λ q. entry_by p (find (λ w. w.process == p) m.waiting) (is_among (workspace_of p) q))
       (same_queue m (priority_of p))
 
-  pub waits_so : (e : Entry) (r : Reason) → Some e ≡ entry_in (lists m) p → e.reason ≡ Some r
+  pub waits_so : (e : Entry) (r : Reason) → Some e ≡ entry_in (lists_in m) p → e.reason ≡ Some r
       → reason_of m p ≡ Some r
   waits_so e r h k = by (find (λ w. w.process == p) m.waiting) (is_queued m p) (h ∙ by_parts)
     where
@@ -46,7 +43,7 @@ module _ (m : Control) (p : ℕ) where
       by None true i = let f : e.reason ≡ None = cc in cc
       by None false i = cc
 
-  pub queued_so : (e : Entry) → Some e ≡ entry_in (lists m) p → e.reason ≡ None
+  pub queued_so : (e : Entry) → Some e ≡ entry_in (lists_in m) p → e.reason ≡ None
       → (reason_of m p ≡ None) × (is_queued m p ≡ true)
   queued_so e h k = by (find (λ w. w.process == p) m.waiting) (is_queued m p) (h ∙ by_parts)
     where
@@ -56,7 +53,7 @@ module _ (m : Control) (p : ℕ) where
       by None true i = (refl, refl)
       by None false i = cc
 
-  pub not_found : None ≡ entry_in (lists m) p → (reason_of m p ≡ None) × (is_queued m p ≡ false)
+  pub not_found : None ≡ entry_in (lists_in m) p → (reason_of m p ≡ None) × (is_queued m p ≡ false)
   not_found h = by (find (λ w. w.process == p) m.waiting) (is_queued m p) (h ∙ by_parts)
     where
       by : (o : Option Waiter) (b : Bool) → None ≡ entry_by p o b
@@ -74,3 +71,14 @@ module _ (m : Control) (p : ℕ) where
       by false true c = refl
       by false false true = refl
       by false false false = refl
+
+  -- nor is it queued
+  pub not_queued : is_queued m p ≡ false → IfQueued (not_waiting m p) (is_queued m p ≡ true)
+  not_queued h = by (is_queued m p) (is_that (current_process m) p) (is_that (interrupted_process m) p) h
+    where
+      by : (a b c : Bool) → a ≡ false
+          → IfQueued (cond a Queued (cond b Runs (cond c Interrupted Unknown))) (a ≡ true)
+      by true b c h = refl
+      by false true c h = tt
+      by false false true h = tt
+      by false false false h = tt

@@ -4,7 +4,7 @@ use Rattle.std.proofs.Common.{◌≡◌, ℕ, ◌<◌, List, ◌∷◌, Bool, tr
 use Rattle.tword.specs.declared.kind.Kind.{Kind}
 use Rattle.tword.specs.Claims.{Claims, saving}
 use Rattle.tword.specs.Touches.{Reads, Writes, is_aligned, deschedule_break, span_break}
-use Rattle.tproc.specs.declared.offer.Ran.{Ran}
+use Rattle.tproc.specs.declared.ran.Ran.{Ran}
 use Rattle.tproc.specs.Machine.{Control, workspace_of}
 use Rattle.tproc.specs.declared.waiter.Waiter.{Waiter}
 use Rattle.tproc.specs.declared.waiter.LinkEnd.{LinkEnd}

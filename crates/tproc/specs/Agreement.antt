@@ -1,10 +1,11 @@
 -- How the claims that a memory keeps agree with a control, and what the code of a step needs to know of a control.
 -- Source: own choice, words for contracts.
 use Rattle.std.specs.Prelude.{◌≡◌, ◌≢◌, ◌<◌, ◌≤◌, ◌%◌, ◌+◌, ℕ, zero, suc, Bool, ◌&&◌, nat_le, nat_lt, true, false, []}
-use Rattle.std.specs.Prelude.{◌∷◌, ◌++◌, AllPairs, List, map, length, IfSome, IsSome, option_map}
+use Rattle.std.specs.Prelude.{◌∷◌, ◌++◌, AllPairs, List, map, length, IfSome, IsSome, Some, option_map}
 use Rattle.tword.specs.Claims.{Claims, has_saved}
 use Rattle.tproc.specs.Machine.{Control, workspace_of, descheduled, buffer_of}
-use Rattle.tproc.specs.ProcessStatus.{is_among, live, most_processes}
+use Rattle.tword.specs.Limits.{most_processes}
+use Rattle.tproc.specs.ProcessStatus.{is_among, live}
 use Rattle.tproc.specs.declared.waiter.LinkEnd.{LinkEnd}
 
 -- the claims that a memory keeps are those of these workspaces, in any order, and of these links
@@ -49,7 +50,6 @@ StillSaved m m' = (c : Claims) → AreSaved c m → AreSaved c m'
 
 -- what the code of a step needs to know of a control
 pub record IsPlain (m : Control) : Type 0 where
-  pub current : IfSome m.current (λ p. p < 2)
   pub words : m.registers.wptr % 4 ≡ 0
   pub kept : IfSome m.interrupted (λ s. s.registers.wptr % 4 ≡ 0)
   pub few : length (live m) ≤ most_processes
@@ -67,12 +67,18 @@ descheduled_count m = length m.high + length m.low + length m.waiting
 
 -- one more process may be queued or wait
 abbrev pub HasPlace : Control → Type 0
-HasPlace m = descheduled_count m < 512
+HasPlace m = descheduled_count m < most_processes
 
 -- the descriptor of the process that runs
 pub record IsOwn (process : ℕ) (m : Control) : Type 0 where
+  pub plain : IsPlain m
   pub running : IsSome m.current
   pub workspace : workspace_of process ≡ m.registers.wptr
+
+-- a process of this priority runs
+pub record RunsAt (priority : ℕ) (m : Control) : Type 0 where
+  pub plain : IsPlain m
+  pub running : m.current ≡ Some priority
 
 -- the timeslice of a process is over, and another low one is queued
 abbrev pub is_over : ℕ → Control → Bool

@@ -7,7 +7,7 @@ use Rattle.std.specs.Prelude.{Option, Some, None, AllPairs, IfSome, slice_get, s
 use Rattle.std.specs.Prelude.{if◌then◌else◌}
 use Rattle.std.specs.List.{filter_map}
 use Rattle.tword.specs.Claims.{Claims, has_saved}
-use Rattle.tproc.specs.Machine.{workspace_of, priority_of}
+use Rattle.tproc.specs.Machine.{Control, workspace_of, priority_of}
 use Rattle.tproc.specs.ProcessStatus.{is_among}
 use Rattle.tproc.specs.Queues.{last_of}
 use Rattle.tproc.specs.declared.waiter.Reason.{Reason}
@@ -72,6 +72,10 @@ pub record Lists : Type 0 where
   pub high : List ℕ
   pub low : List ℕ
   pub waiting : List Waiter
+
+-- the lists of a control
+abbrev pub lists_in : Control → Lists
+lists_in m = record { high = m.high; low = m.low; waiting = m.waiting }
 
 -- the two queues of a table, and its processes that wait
 abbrev pub lists_of : List Entry → Lists

@@ -4,7 +4,7 @@ use Rattle.std.specs.Prelude.{ℕ, ◌≡◌, ◌⊎◌, Ok, Some}
 use Rattle.tword.specs.Stores.{bytes_at}
 use Rattle.tword.specs.Claims.{AreApart}
 use Rattle.tproc.specs.declared.offer.Offer.{Offer}
-use Rattle.tproc.specs.declared.offer.Ran.{Ran}
+use Rattle.tproc.specs.declared.ran.Ran.{Ran}
 use Rattle.tproc.specs.Machine.{Machine, claims_of}
 use Rattle.tproc.specs.Placement.{IsPlaced}
 use Rattle.tproc.specs.Links.{notice, finish_output, finish_input}

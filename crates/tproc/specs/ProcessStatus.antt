@@ -3,6 +3,7 @@
 use Rattle.std.specs.Prelude.{ℕ, zero, suc, ◌+◌, List, ◌++◌, map, length, Bool, false, ◌==◌, nat_lt, Option, Some, None}
 use Rattle.std.specs.Prelude.{find, option_map, option_to_list, if◌then◌else◌}
 use Rattle.std.specs.List.{list_any}
+use Rattle.tword.specs.Limits.{most_processes}
 use Rattle.tproc.specs.Machine.{Control, priority_of, workspace_of, descheduled}
 use Rattle.tproc.specs.declared.waiter.Reason.{Reason}
 use Rattle.tproc.specs.declared.process_status.ProcessStatus.{ProcessStatus}
@@ -66,10 +67,6 @@ live m =
 -- the workspace belongs to a live process
 abbrev pub is_live : Control → ℕ → Bool
 is_live m workspace = is_among workspace (live m)
-
--- how many processes may live
-abbrev pub most_processes : ℕ
-most_processes = 512
 
 -- another process may live
 abbrev pub has_room : Control → Bool

@@ -1,27 +1,34 @@
--- Touches, requests, and where a process stands, as the machine sees them.
+-- Requests, what must hold before a touch, and where a process stands, as the machine sees them.
 -- Source: own choice, words for contracts.
-use Rattle.std.specs.Prelude.{◌≡◌, ℕ, Bool, ◌||◌, ◌==◌, Option, Some, None, Result, IfSome}
-use Rattle.tword.specs.declared.breaks.Break.{Break}
-use Rattle.tword.specs.declared.breaks.Break.TheVariants.{Unaligned, WrongEnd}
+use Rattle.std.specs.Prelude.{◌≡◌, ℕ, length, Bool, ◌||◌, ◌==◌, Option, Some, None, IfSome}
 use Rattle.tword.specs.Words.{word_below}
-use Rattle.tword.specs.Claims.{Claims, saving}
-use Rattle.tword.specs.Touches.{Mode, Writes, is_aligned, first_break, span_break, word_break, deschedule_break}
-use Rattle.tword.specs.Actions.{or_break, unmet}
+use Rattle.tword.specs.Claims.{saving}
+use Rattle.tword.specs.Touches.{Mode, Writes, span_break, word_break, deschedule_break}
 use Rattle.tproc.specs.Channels as channels
-use Rattle.tproc.specs.LinkChannels.{is_right_end, message}
+use Rattle.tproc.specs.LinkChannels.{message}
 use Rattle.tcpu.specs.Outcomes.{pop}
 use Rattle.tproc.specs.Machine.{Control}
+use Rattle.tproc.specs.Agreement.{IsOwn}
+use Rattle.tproc.specs.declared.claimed_memory.ClaimedMemory.{ClaimedMemory}
+use Rattle.tproc.specs.declared.engine.Engine.{Engine}
 use Rattle.tproc.specs.declared.waiter.Reason.{Reason}
-use Rattle.tproc.specs.declared.channels.Side.{Side}
 use Rattle.tproc.specs.declared.channels.Side.TheVariants.{Output}
 use Rattle.tproc.specs.declared.channels.Request.{Request}
 use Rattle.tproc.specs.declared.process_status.ProcessStatus.{ProcessStatus}
 use Rattle.tproc.specs.declared.process_status.ProcessStatus.TheVariants.{Waits, Queued}
 
--- the check of a touch of some bytes: its break, if it has one
-abbrev pub may_touch : (memory_size : ℕ) (claims : Claims) (mode : Mode) (start size : ℕ) → Result (Unit {0}) Break
-may_touch memory_size claims mode start size =
-    or_break (span_break memory_size claims mode (record { start = start; size = size })) tt
+-- the word at an address may be written
+abbrev pub MayWriteWord : ClaimedMemory → (address : ℕ) → Type 0
+MayWriteWord claimed address = word_break (length claimed.memory.bytes) claimed.marks Writes address ≡ None
+
+-- some bytes may be touched
+abbrev pub MayTouch : ClaimedMemory → Mode → (start size : ℕ) → Type 0
+MayTouch claimed mode start size =
+    span_break (length claimed.memory.bytes) claimed.marks mode (record { start = start; size = size }) ≡ None
+
+-- the words below a workspace may be saved
+abbrev pub MayDeschedule : ClaimedMemory → (workspace : ℕ) → Type 0
+MayDeschedule claimed workspace = deschedule_break (length claimed.memory.bytes) claimed.marks workspace ≡ None
 
 -- a request, without the registers that go on and the word that is laid down
 abbrev pub request : Request → channels.Request
@@ -34,14 +41,19 @@ request q = record {
 }
 
 -- the first word, if there is one, may be laid into the workspace of the process that asks
-abbrev pub MayLay : (size : ℕ) (claims : Claims) (workspace : ℕ) (first : Option ℕ) → Type 0
-MayLay size claims workspace first = IfSome first (λ _. word_break size claims Writes workspace ≡ None)
+abbrev pub MayLay : ClaimedMemory → (workspace : ℕ) (first : Option ℕ) → Type 0
+MayLay claimed workspace first = IfSome first (λ _. MayWriteWord claimed workspace)
+
+-- a request of the process that runs, whose first word may be laid down
+pub record IsRequest (q : Request) (engine : Engine) : Type 0 where
+  pub own : IsOwn q.process engine.state
+  pub free : MayLay engine.claimed engine.state.registers.wptr q.first
 
 -- what the checks of a process found that leaves its side of a message at a channel
-pub record MayLeave (size : ℕ) (claims : Claims) (workspace : ℕ) (q : channels.Request) : Type 0 where
-  pub workspace_free : deschedule_break size claims workspace ≡ None
-  pub channel_free : word_break size (saving workspace claims) Writes q.channel ≡ None
-  pub buffer_free : span_break size (saving workspace claims) (channels.mode_of q.side)
+pub record MayLeave (claimed : ClaimedMemory) (workspace : ℕ) (q : channels.Request) : Type 0 where
+  pub workspace_free : MayDeschedule claimed workspace
+  pub channel_free : word_break (length claimed.memory.bytes) (saving workspace claimed.marks) Writes q.channel ≡ None
+  pub buffer_free : span_break (length claimed.memory.bytes) (saving workspace claimed.marks) (channels.mode_of q.side)
       (record { start = q.buffer; size = q.length }) ≡ None
 
 -- the address is that of a saved word of the workspace
@@ -64,7 +76,3 @@ reason_in _ = None
 abbrev pub IfQueued : ProcessStatus → Type 0 → Type 0
 IfQueued Queued fact = fact
 IfQueued _ fact = Unit {0}
-
--- the break of a link channel that is not aligned, or the wrong end
-abbrev pub end_break : Side → ℕ → Option Break
-end_break side channel = first_break (unmet (is_aligned channel) Unaligned) (unmet (is_right_end side channel) WrongEnd)

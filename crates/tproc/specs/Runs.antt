@@ -3,9 +3,9 @@
 use Rattle.std.specs.Prelude.{◌≡◌, ◌⊎◌, ℕ, zero, suc, ◌+◌, ◌-◌, ◌<◌, Bool, true, false, [], Option, Some, None, Result}
 use Rattle.std.specs.Prelude.{Ok, Err, unwrap_or, if◌then◌else◌}
 use Rattle.tword.specs.declared.breaks.Break.{Break}
-use Rattle.tproc.specs.declared.offer.Ran.{Ran}
-use Rattle.tproc.specs.declared.offer.Ran.TheVariants as ran
-use Rattle.tproc.specs.declared.offer.RanMany.{RanMany}
+use Rattle.tproc.specs.declared.ran.Ran.{Ran}
+use Rattle.tproc.specs.declared.ran.Ran.TheVariants as ran
+use Rattle.tproc.specs.declared.ran.RanMany.{RanMany}
 use Rattle.tproc.specs.Machine.{Control, Machine}
 use Rattle.tproc.specs.Steps.{step, step_left_by, step_answered}
 

@@ -10,7 +10,7 @@ use Rattle.tword.specs.Stores.{Store, word_at}
 use Rattle.tword.specs.declared.span.Span.{Span}
 use Rattle.tword.specs.Claims.{is_saved}
 use Rattle.tword.specs.Touches.{is_inside}
-use Rattle.tproc.specs.declared.offer.Ran.{Ran}
+use Rattle.tproc.specs.declared.ran.Ran.{Ran}
 use Rattle.tproc.specs.Machine.{Machine, workspace_of, descheduled, claims_of}
 use Rattle.tproc.specs.ProcessStatus.{queue}
 use Rattle.tproc.specs.Queues.{iptr_word, link_word, last_of}

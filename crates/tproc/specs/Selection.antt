@@ -16,7 +16,7 @@ use Rattle.tcode.specs.declared.instruction.Instruction.{Instruction as Decoded}
 use Rattle.tcode.specs.Table.{operation_at}
 use Rattle.tcode.specs.Decoding.{decode}
 use Rattle.tcpu.specs.Outcomes.{flag}
-use Rattle.tproc.specs.declared.offer.Ran.TheVariants.{Instruction}
+use Rattle.tproc.specs.declared.ran.Ran.TheVariants.{Instruction}
 use Rattle.tproc.specs.declared.waiter.Reason.TheVariants.{Sends}
 use Rattle.tproc.specs.Machine.{Machine, claims_of}
 use Rattle.tproc.specs.declared.process_status.ProcessStatus.{ProcessStatus}

@@ -7,7 +7,7 @@ use Rattle.tword.specs.declared.breaks.Break.{Break}
 use Rattle.tword.specs.declared.breaks.Break.TheVariants.{Unaligned, InTransit, SavedWord, LinkBusy, ChannelMisuse}
 use Rattle.tword.specs.declared.breaks.Break.TheVariants.{AlreadyLive, TooManyProcesses, NoSuchOperation}
 use Rattle.tword.specs.Stores.{word_at, with_word}
-use Rattle.tproc.specs.declared.offer.Ran.TheVariants.{Instruction, LinkIn}
+use Rattle.tproc.specs.declared.ran.Ran.TheVariants.{Instruction, LinkIn}
 use Rattle.tproc.specs.Machine.{Machine}
 use Rattle.tproc.specs.declared.waiter.Reason.{Reason}
 use Rattle.tproc.specs.declared.waiter.Reason.TheVariants.{Sends, LinkOutput, Chooses}

@@ -1,16 +1,18 @@
 //! Messages on internal channels: each is one step, at the arrival of the second process.
 
-ghost use Rattle.std.specs.Prelude.{◌≡◌, ◌<◌, ◌∷◌, ℕ, Ok, Some, true, IfErr, OnOk, length};
+ghost use Rattle.std.specs.Prelude.{◌≡◌, ◌<◌, IfErr, Ok, OnOk, length, true, ℕ};
 ghost use Rattle.tword.specs.Claims.{has_saved, saving};
-ghost use Rattle.tword.specs.Actions.{run_from};
-ghost use Rattle.tproc.specs.Channels.{mode_of, own_side, reason_for, waits_on_channel, is_choosing as choosing};
-ghost use Rattle.tproc.specs.Agreement.{Agrees, IsOwn, IsReady};
-ghost use Rattle.tproc.specs.Doing.{Does, DoesActionFrom, Refuses, laid};
-ghost use Rattle.tproc.specs.Requests.{may_touch, request, MayLeave, MayLay};
+ghost use Rattle.tproc.specs.Channels.{mode_of, own_side, reason_for, waits_on_channel};
+ghost use Rattle.tproc.specs.Doing.{DoesActionFrom, DoesLaid, Refuses, laid};
+ghost use Rattle.tproc.specs.Checks.{KeepsShape, may_touch};
+ghost use Rattle.tproc.specs.Requests.{IsRequest, MayLay, MayLeave, request};
+ghost use Rattle.tproc.specs.Channels as spec;
+ghost use Rattle.tword.specs.Limits.{most_processes};
 
 use crate::claimed_memory::ClaimedMemory;
-use crate::offer::Ran;
+use crate::engine::Engine;
 use crate::queues::{IPTR_WORD, STATE_WORD, wait};
+use crate::ran::Ran;
 use crate::state::State;
 use crate::waiter::Reason;
 use tcpu::Registers;
@@ -73,16 +75,16 @@ impl Request {
 
 /// An alternative is under way and does not wait.
 pub fn is_choosing(state: Word) -> bool
-    ensures { result ≡ choosing state }
+    ensures { result ≡ spec.is_choosing state }
 {
     state.get() == ENABLING || state.get() == READY
 }
 
 /// Lays the first word of a row down at the workspace, if the row has one.
 pub fn lay(claimed: &mut ClaimedMemory, workspace: Word, first: Option<Word>)
-    requires free { MayLay (length claimed.old.memory) claimed.old.marks workspace first }
-    ensures cells { claimed.new.memory ≡ laid first workspace claimed.old.memory }
-    ensures size { length claimed.new.memory ≡ length claimed.old.memory }
+    requires free { MayLay claimed.old workspace first }
+    ensures cells { claimed.new.memory.bytes ≡ laid first workspace claimed.old.memory.bytes }
+    ensures shape { KeepsShape claimed.old.memory claimed.new.memory }
     ensures claims { claimed.new.marks ≡ claimed.old.marks }
 {
     if let Some(word) = first {
@@ -92,9 +94,8 @@ pub fn lay(claimed: &mut ClaimedMemory, workspace: Word, first: Option<Word>)
 
 /// Whether the buffer of a request may be touched, once the words of a workspace are saved.
 pub fn may_touch_beside(claimed: &ClaimedMemory, workspace: Word, q: &Request) -> Result<(), Break>
-    ensures { result
-        ≡ may_touch (length claimed.now.memory) (saving workspace claimed.now.marks) (mode_of (request q.now).side)
-        q.now.buffer q.now.length }
+    ensures { result ≡ may_touch (length claimed.now.memory.bytes) (saving workspace claimed.now.marks) (mode_of
+        (request q.now).side) q.now.buffer q.now.length }
 {
     match q.side {
         Side::Input => claimed.may_write_beside(workspace, q.buffer, q.length),
@@ -102,32 +103,17 @@ pub fn may_touch_beside(claimed: &ClaimedMemory, workspace: Word, q: &Request) -
     }
 }
 
-/// The checks of a process that leaves its side of a message at a channel and waits.
-#[tactic(auto, unfolding(crate::specs::Channels::own_side))]
-pub fn may_leave(state: &State, claimed: &ClaimedMemory, q: &Request) -> Result<(), Break>
-    ensures refused { IfErr result
-        (λ b. Refuses (own_side (request q.now) state.now) claimed.now.marks claimed.now.memory b) }
-    ensures free { OnOk result
-        (MayLeave (length claimed.now.memory) claimed.now.marks state.now.registers.wptr (request q.now)) }
-{
-    let own = state.registers.wptr;
-    claimed.may_deschedule(own)?;
-    claimed.may_write_word_beside(own, q.channel)?;
-    may_touch_beside(claimed, own, q)
-}
-
 /// The first of two processes leaves its descriptor in the channel and its buffer in its workspace.
 #[tactic(auto, using(crate::proofs::Descheduling::saved_words), unfolding(crate::specs::Channels::own_side))]
 pub fn leave(state: &State, claimed: &mut ClaimedMemory, q: &Request)
-    requires first { MayLay (length claimed.old.memory) claimed.old.marks state.now.registers.wptr q.now.first }
-    requires free { MayLeave (length claimed.old.memory) claimed.old.marks state.now.registers.wptr (request q.now) }
-    requires room { length claimed.old.marks.saved < 512 }
-    ensures done { DoesActionFrom (own_side (request q.now) state.now) claimed.old.marks claimed.old.memory
-        (laid q.now.first state.now.registers.wptr claimed.old.memory) (Ok tt) claimed.new.marks
-        claimed.new.memory }
+    requires first { MayLay claimed.old state.now.registers.wptr q.now.first }
+    requires free { MayLeave claimed.old state.now.registers.wptr (request q.now) }
+    requires room { length claimed.old.marks.saved < most_processes }
+    ensures done { DoesActionFrom (own_side (request q.now) state.now) claimed.old (laid q.now.first
+        state.now.registers.wptr claimed.old.memory.bytes) (Ok tt) claimed.new }
     ensures claims { claimed.new.marks ≡ saving state.now.registers.wptr claimed.old.marks }
     ensures keeps { (v : ℕ) → has_saved claimed.old.marks v ≡ true → has_saved claimed.new.marks v ≡ true }
-    ensures size { length claimed.new.memory ≡ length claimed.old.memory }
+    ensures shape { KeepsShape claimed.old.memory claimed.new.memory }
 {
     let own = state.registers.wptr;
     lay(claimed, own, q.first);
@@ -137,23 +123,30 @@ pub fn leave(state: &State, claimed: &mut ClaimedMemory, q: &Request)
     claimed.set_saved_word(own, IPTR_WORD, state.registers.iptr);
 }
 
-/// The first of two processes waits on the channel.
-#[tactic(auto, using(crate::proofs::Descheduling::own_process))]
-pub fn wait_on_channel(
-    state: &mut State,
-    claimed: &mut ClaimedMemory,
-    q: &Request,
-) -> Result<Ran, Break>
-    requires own { IsOwn q.now.process state.old }
-    requires ready { IsReady claimed.old.marks state.old }
-    requires free { MayLay (length claimed.old.memory) claimed.old.marks state.old.registers.wptr q.now.first }
-    ensures done { Does (run_from (waits_on_channel (request q.now) state.old) claimed.old.memory claimed.old.marks
-        (laid q.now.first state.old.registers.wptr claimed.old.memory)) state.old claimed.old.memory result
-        state.new claimed.new.memory }
-    ensures agrees { Agrees claimed.new.marks state.new }
-{
-    may_leave(state, claimed, q)?;
-    leave(state, claimed, q);
-    wait(state, claimed, q.process, q.reason());
-    Ok(Ran::Instruction)
+impl Engine {
+    /// The checks of a process that leaves its side of a message at a channel and waits.
+    #[tactic(auto, unfolding(crate::specs::Channels::own_side))]
+    pub fn may_leave(&self, q: &Request) -> Result<(), Break>
+        ensures refused { IfErr result
+            (λ b. Refuses (own_side (request q.now) self.now.state) self.now.claimed b) }
+        ensures free { OnOk result
+            (MayLeave self.now.claimed self.now.state.registers.wptr (request q.now)) }
+    {
+        let own = self.state.wptr();
+        self.claimed.may_deschedule(own)?;
+        self.claimed.may_write_word_beside(own, q.channel)?;
+        may_touch_beside(&self.claimed, own, q)
+    }
+
+    /// The first of two processes waits on the channel.
+    #[tactic(auto, using(crate::proofs::Descheduling::own_process))]
+    pub fn wait_on_channel(&mut self, q: &Request) -> Result<Ran, Break>
+        requires asks { IsRequest q.now self.old }
+        ensures { DoesLaid q.now.first (waits_on_channel (request q.now) self.old.state) self.old result self.new }
+    {
+        self.may_leave(q)?;
+        leave(&self.state, &mut self.claimed, q);
+        wait(&mut self.state, &self.claimed, q.process, q.reason());
+        Ok(Ran::Instruction)
+    }
 }

@@ -13,31 +13,21 @@ ghost use Rattle.tword.specs.Touches.{is_inside, byte_span};
 ghost use Rattle.tword.specs.Words.{word_below};
 ghost use Rattle.tword.specs.Actions.{or_break, is_slot, unmet};
 ghost use Rattle.tproc.specs.Placement.{IsWorkspace};
-ghost use Rattle.tproc.specs.Requests.{may_touch};
+ghost use Rattle.tproc.specs.Checks.{KeepsShape, may_touch};
+ghost use Rattle.tword.specs.Limits.{largest_memory, most_processes};
+ghost use Rattle.tword.specs.declared.kind.Kind.TheVariants.{Two};
 
-use crate::workspace::below;
 use std::alloc::Global;
-use tword::limits::MOST_NEG;
-use tword::{Break, Bytes, Kind, Marks, MemoryFault, Span, Word};
+use tword::{Break, Kind, Marks, Memory, MemoryFault, Span, Word};
 
 /// A memory with its claims. Of each change there is one call that checks it, or one for a caller that has checked
 /// it.
 #[derive(Drop)]
 pub struct ClaimedMemory {
-    pub memory: Bytes,
+    pub memory: Memory,
     pub marks: Marks,
-    ghost size: { length memory ≤ 16777216 },
-    ghost inside: { (w : ℕ) → has_saved marks w ≡ true → is_inside (length memory) (saved_words w) ≡ true },
-}
-
-/// The three words below a workspace.
-fn words_below(workspace: Word) -> Span
-    ensures { result ≡ saved_words workspace }
-{
-    Span {
-        start: below(workspace, 3),
-        size: 12,
-    }
+    ghost size: { length memory.bytes ≤ largest_memory Two },
+    ghost inside: { (w : ℕ) → has_saved marks w ≡ true → is_inside (length memory.bytes) (saved_words w) ≡ true },
 }
 
 /// Whether a span keeps clear of the three words below a workspace.
@@ -48,7 +38,7 @@ fn keep_clear(workspace: Word, start: Word, size: u32) -> Result<(), Break>
         tt }
 {
     let span = Span { start, size };
-    if span.overlaps(&words_below(workspace)) {
+    if span.overlaps(&Span::saved_words(workspace)) {
         Err(Break::SavedWord)
     } else {
         Ok(())
@@ -61,12 +51,13 @@ impl ClaimedMemory {
     /// # Errors
     /// `BadSize` for a size that no memory of the kind has, else `OutOfMemory` where the allocator refuses.
     pub fn new(alloc: Global, size: u32, kind: Kind) -> Result<ClaimedMemory, MemoryFault>
-        ensures zeros { IfOk result (λ claimed. claimed.memory ≡ replicate size (Some 0)) }
+        ensures zeros { IfOk result
+            (λ claimed. claimed.memory ≡ record { bytes = replicate size (Some 0); kind = kind }) }
         ensures free { IfOk result (λ claimed. claimed.marks ≡ no_claims) }
         ensures sized { OnOk result (IsMemorySize kind size) }
         ensures bad_size { IsErrOf result MemoryFault.BadSize ↔ ¬ IsMemorySize kind size }
     {
-        let memory = Bytes::new(alloc, size, kind)?;
+        let memory = Memory::new(alloc, size, kind)?;
         let marks = Marks::new(alloc, size)?;
         Ok(ClaimedMemory { memory, marks })
     }
@@ -95,115 +86,119 @@ impl ClaimedMemory {
 
     /// The word at an address.
     pub fn read_word(&self, address: Word) -> Result<Word, Break>
-        ensures { result ≡ or_break (word_break (length self.now.memory) self.now.marks Reads address)
-            (word_at self.now.memory address) }
+        ensures { result ≡ or_break (word_break (length self.now.memory.bytes) self.now.marks Reads address)
+            (word_at self.now.memory.bytes address) }
     {
         self.memory.read_word(&self.marks, address)
     }
 
     /// The word at an address that may be written later.
     pub fn take_word(&self, address: Word) -> Result<Word, Break>
-        ensures { result ≡ or_break (word_break (length self.now.memory) self.now.marks Writes address)
-            (word_at self.now.memory address) }
+        ensures { result ≡ or_break (word_break (length self.now.memory.bytes) self.now.marks Writes address)
+            (word_at self.now.memory.bytes address) }
     {
-        self.memory.take_word(&self.marks, address)
+        self.memory.bytes.take_word(&self.marks, address)
     }
 
     /// Sets the word at an address.
     pub fn write_word(&mut self, address: Word, value: Word) -> Result<(), Break>
-        ensures change { Changing (word_break (length self.old.memory) self.old.marks Writes address) self.old.memory
-            (with_word self.old.memory address value) result self.new.memory }
-        ensures size { length self.new.memory ≡ length self.old.memory }
+        ensures change { Changing (word_break (length self.old.memory.bytes) self.old.marks Writes address)
+            self.old.memory.bytes (with_word self.old.memory.bytes address value) result self.new.memory.bytes }
+        ensures shape { KeepsShape self.old.memory self.new.memory }
         ensures claims { self.new.marks ≡ self.old.marks }
     {
-        self.memory.write_word(&self.marks, address, value)
+        self.may_write_word(address)?;
+        self.set_word(address, value);
+        Ok(())
     }
 
     /// Whether the word at an address may be written.
     pub fn may_write_word(&self, address: Word) -> Result<(), Break>
-        ensures { result ≡ or_break (word_break (length self.now.memory) self.now.marks Writes address) tt }
+        ensures { result ≡ or_break (word_break (length self.now.memory.bytes) self.now.marks Writes address) tt }
     {
-        self.memory.may_write_word(&self.marks, address)
+        self.memory.bytes.may_write_word(&self.marks, address)
     }
 
     /// Whether the word at an address may be written once the words of a workspace are saved.
     pub fn may_write_word_beside(&self, workspace: Word, address: Word) -> Result<(), Break>
         ensures { result
-            ≡ or_break (word_break (length self.now.memory) (saving workspace self.now.marks) Writes address) tt }
+            ≡ or_break (word_break (length self.now.memory.bytes) (saving workspace self.now.marks) Writes address) tt }
     {
-        self.memory.may_write_word(&self.marks, address)?;
+        self.may_write_word(address)?;
         keep_clear(workspace, address, 4)
     }
 
     /// Sets a word that may be written.
     #[tactic(auto, using(crate::proofs::Touching::word_inside))]
     pub fn set_word(&mut self, address: Word, value: Word)
-        requires { word_break (length self.old.memory) self.old.marks Writes address ≡ None }
-        ensures cells { self.new.memory ≡ with_word self.old.memory address value }
-        ensures size { length self.new.memory ≡ length self.old.memory }
+        requires { word_break (length self.old.memory.bytes) self.old.marks Writes address ≡ None }
+        ensures cells { self.new.memory.bytes ≡ with_word self.old.memory.bytes address value }
+        ensures shape { KeepsShape self.old.memory self.new.memory }
         ensures claims { self.new.marks ≡ self.old.marks }
     {
-        self.memory.set_word(address, value);
+        self.memory.bytes.set_word(address, value);
     }
 
     /// Whether some bytes may be read.
     pub fn may_read(&self, start: Word, size: u32) -> Result<(), Break>
-        ensures { result ≡ may_touch (length self.now.memory) self.now.marks Reads start size }
+        ensures { result ≡ may_touch (length self.now.memory.bytes) self.now.marks Reads start size }
     {
-        self.memory.may_read(&self.marks, start, size)
+        self.memory.bytes.may_read(&self.marks, start, size)
     }
 
     /// Whether some bytes may be read once the words of a workspace are saved.
     pub fn may_read_beside(&self, workspace: Word, start: Word, size: u32) -> Result<(), Break>
-        ensures { result ≡ may_touch (length self.now.memory) (saving workspace self.now.marks) Reads start size }
+        ensures { result ≡ may_touch (length self.now.memory.bytes) (saving workspace self.now.marks) Reads start size }
     {
-        self.memory.may_read(&self.marks, start, size)?;
+        self.may_read(start, size)?;
         keep_clear(workspace, start, size)
     }
 
     /// Whether some bytes may be written.
     pub fn may_write(&self, start: Word, size: u32) -> Result<(), Break>
-        ensures { result ≡ may_touch (length self.now.memory) self.now.marks Writes start size }
+        ensures { result ≡ may_touch (length self.now.memory.bytes) self.now.marks Writes start size }
     {
-        self.memory.may_write(&self.marks, start, size)
+        self.memory.bytes.may_write(&self.marks, start, size)
     }
 
     /// Whether some bytes may be written once the words of a workspace are saved.
     pub fn may_write_beside(&self, workspace: Word, start: Word, size: u32) -> Result<(), Break>
-        ensures { result ≡ may_touch (length self.now.memory) (saving workspace self.now.marks) Writes start size }
+        ensures { result ≡ may_touch (length self.now.memory.bytes) (saving workspace self.now.marks) Writes start
+            size }
     {
-        self.memory.may_write(&self.marks, start, size)?;
+        self.may_write(start, size)?;
         keep_clear(workspace, start, size)
     }
 
     /// Copies bytes that may be read to where they may be written.
     #[tactic(auto, using(crate::proofs::Touching::source_inside, crate::proofs::Touching::target_inside, crate::proofs::Touching::copy_free))]
     pub fn copy(&mut self, from: Word, to: Word, count: u32)
-        requires reads { span_break (length self.old.memory) self.old.marks Reads
+        requires reads { span_break (length self.old.memory.bytes) self.old.marks Reads
             (record { start = from; size = count }) ≡ None }
-        requires writes { span_break (length self.old.memory) self.old.marks Writes
+        requires writes { span_break (length self.old.memory.bytes) self.old.marks Writes
             (record { start = to; size = count }) ≡ None }
-        ensures free { copy_break (length self.old.memory) self.old.marks from to count ≡ None }
-        ensures cells { self.new.memory ≡ with_cells self.old.memory to (cells self.old.memory from count) }
-        ensures size { length self.new.memory ≡ length self.old.memory }
+        ensures free { copy_break (length self.old.memory.bytes) self.old.marks from to count ≡ None }
+        ensures cells { self.new.memory.bytes ≡ with_cells self.old.memory.bytes to (cells self.old.memory.bytes from
+            count) }
+        ensures shape { KeepsShape self.old.memory self.new.memory }
         ensures claims { self.new.marks ≡ self.old.marks }
     {
-        self.memory.copy(from, to, count);
+        self.memory.bytes.copy(from, to, count);
     }
 
     /// Whether a workspace may be descheduled.
     pub fn may_deschedule(&self, workspace: Word) -> Result<(), Break>
-        ensures { result ≡ or_break (deschedule_break (length self.now.memory) self.now.marks workspace) tt }
+        ensures { result ≡ or_break (deschedule_break (length self.now.memory.bytes) self.now.marks workspace) tt }
     {
-        self.memory.may_deschedule(&self.marks, workspace)
+        self.memory.bytes.may_deschedule(&self.marks, workspace)
     }
 
     /// Saves the words of a workspace that may be descheduled.
     #[tactic(auto, using(crate::proofs::Touching::claimable, crate::proofs::Touching::unclaimed))]
     pub fn deschedule(&mut self, workspace: Word)
-        requires free { deschedule_break (length self.old.memory) self.old.marks workspace ≡ None }
-        requires room { length self.old.marks.saved < 512 }
-        ensures cells { self.new.memory ≡ self.old.memory }
+        requires free { deschedule_break (length self.old.memory.bytes) self.old.marks workspace ≡ None }
+        requires room { length self.old.marks.saved < most_processes }
+        ensures memory { self.new.memory ≡ self.old.memory }
         ensures claims { self.new.marks ≡ saving workspace self.old.marks }
     {
         self.marks.claim_saved_known(workspace);
@@ -212,10 +207,10 @@ impl ClaimedMemory {
     /// Saves the words of a workspace that lie in the memory, where no claim has a byte of them.
     #[tactic(auto, using(crate::proofs::Packing::claimable_there))]
     pub fn save(&mut self, workspace: Word)
-        requires there { IsWorkspace (length self.old.memory) workspace }
+        requires there { IsWorkspace (length self.old.memory.bytes) workspace }
         requires free { claim_break self.old.marks Writes (saved_words workspace) ≡ None }
-        requires room { length self.old.marks.saved < 512 }
-        ensures cells { self.new.memory ≡ self.old.memory }
+        requires room { length self.old.marks.saved < most_processes }
+        ensures memory { self.new.memory ≡ self.old.memory }
         ensures claims { self.new.marks ≡ saving workspace self.old.marks }
     {
         self.marks.claim_saved_known(workspace);
@@ -228,7 +223,7 @@ impl ClaimedMemory {
         ensures counts { length self.new.marks.saved + 1 ≡ length self.old.marks.saved }
         ensures same { (self.new.marks.inputs ≡ self.old.marks.inputs)
             × (self.new.marks.outputs ≡ self.old.marks.outputs) }
-        ensures cells { self.new.memory ≡ self.old.memory }
+        ensures memory { self.new.memory ≡ self.old.memory }
     {
         self.marks.release_saved(workspace);
     }
@@ -238,9 +233,9 @@ impl ClaimedMemory {
     pub fn saved_word(&self, workspace: Word, k: u32) -> Word
         requires slot { is_slot k ≡ true }
         requires saved { has_saved self.now.marks workspace ≡ true }
-        ensures { result ≡ word_at self.now.memory (word_below workspace k) }
+        ensures { result ≡ word_at self.now.memory.bytes (word_below workspace k) }
     {
-        self.memory.word(below(workspace, k))
+        self.memory.bytes.word(workspace.below(k))
     }
 
     /// Sets word `-k` of a workspace whose words are saved.
@@ -248,17 +243,17 @@ impl ClaimedMemory {
     pub fn set_saved_word(&mut self, workspace: Word, k: u32, value: Word)
         requires slot { is_slot k ≡ true }
         requires saved { has_saved self.old.marks workspace ≡ true }
-        ensures cells { self.new.memory ≡ with_word self.old.memory (word_below workspace k) value }
-        ensures size { length self.new.memory ≡ length self.old.memory }
+        ensures cells { self.new.memory.bytes ≡ with_word self.old.memory.bytes (word_below workspace k) value }
+        ensures shape { KeepsShape self.old.memory self.new.memory }
         ensures claims { self.new.marks ≡ self.old.marks }
     {
-        self.memory.set_word(below(workspace, k), value);
+        self.memory.bytes.set_word(workspace.below(k), value);
     }
 
     /// A link claims the buffer of its pending output.
     pub fn claim_output(&mut self, link: u8, buffer: Word, size: u32)
         requires { link < 4 }
-        ensures cells { self.new.memory ≡ self.old.memory }
+        ensures memory { self.new.memory ≡ self.old.memory }
         ensures claims { self.new.marks ≡ with_output link (record { start = buffer; size = size }) self.old.marks }
     {
         self.marks.claim_out_known(link, buffer, size);
@@ -267,7 +262,7 @@ impl ClaimedMemory {
     /// A link claims the buffer of its pending input.
     pub fn claim_input(&mut self, link: u8, buffer: Word, size: u32)
         requires { link < 4 }
-        ensures cells { self.new.memory ≡ self.old.memory }
+        ensures memory { self.new.memory ≡ self.old.memory }
         ensures claims { self.new.marks ≡ with_input link (record { start = buffer; size = size }) self.old.marks }
     {
         self.marks.claim_in_known(link, buffer, size);
@@ -276,7 +271,7 @@ impl ClaimedMemory {
     /// The output of a link claims nothing any more.
     pub fn release_output(&mut self, link: u8)
         requires { link < 4 }
-        ensures cells { self.new.memory ≡ self.old.memory }
+        ensures memory { self.new.memory ≡ self.old.memory }
         ensures claims { self.new.marks ≡ without_output link self.old.marks }
     {
         self.marks.release_out(link);
@@ -285,7 +280,7 @@ impl ClaimedMemory {
     /// The input of a link claims nothing any more.
     pub fn release_input(&mut self, link: u8)
         requires { link < 4 }
-        ensures cells { self.new.memory ≡ self.old.memory }
+        ensures memory { self.new.memory ≡ self.old.memory }
         ensures claims { self.new.marks ≡ without_input link self.old.marks }
     {
         self.marks.release_in(link);
@@ -293,31 +288,29 @@ impl ClaimedMemory {
 
     /// Puts bytes into the memory.
     pub fn load(&mut self, start: Word, bytes: &[u8])
-        requires { is_inside (length self.old.memory) (record { start = start; size = length bytes.now }) ≡ true }
-        ensures cells { self.new.memory ≡ with_cells self.old.memory start (as_cells bytes.now) }
+        requires { is_inside (length self.old.memory.bytes) (record { start = start; size = length bytes.now }) ≡ true }
+        ensures cells { self.new.memory.bytes ≡ with_cells self.old.memory.bytes start (as_cells bytes.now) }
+        ensures shape { KeepsShape self.old.memory self.new.memory }
         ensures claims { self.new.marks ≡ self.old.marks }
     {
-        self.memory.load(start, bytes);
+        self.memory.bytes.load(start, bytes);
     }
 
     /// Sets a byte of the memory.
     pub fn set_byte(&mut self, address: Word, byte: u8)
-        requires { is_inside (length self.old.memory) (byte_span address) ≡ true }
-        ensures cells { self.new.memory ≡ with_cells self.old.memory address (as_cells (byte ∷ [])) }
+        requires { is_inside (length self.old.memory.bytes) (byte_span address) ≡ true }
+        ensures cells { self.new.memory.bytes ≡ with_cells self.old.memory.bytes address (as_cells (byte ∷ [])) }
+        ensures shape { KeepsShape self.old.memory self.new.memory }
         ensures claims { self.new.marks ≡ self.old.marks }
     {
-        self.memory.set_byte(address, byte);
+        self.memory.bytes.set_byte(address, byte);
     }
 
     /// The byte at an address, and `None` outside the memory alone.
     pub fn byte_at(&self, address: Word) -> Option<u8>
-        ensures byte { result ≡ byte_at self.now.memory address }
-        ensures there { is_some result ≡ is_inside (length self.now.memory) (byte_span address) }
+        ensures byte { result ≡ byte_at self.now.memory.bytes address }
+        ensures there { is_some result ≡ is_inside (length self.now.memory.bytes) (byte_span address) }
     {
-        if MOST_NEG <= address.get() && address.get() - MOST_NEG < self.memory.size() {
-            Some(self.memory.byte(address))
-        } else {
-            None
-        }
+        self.memory.bytes.byte_at(address)
     }
 }

@@ -1,14 +1,16 @@
 //! The two queues, and the processes that wait.
 
+ghost use Rattle.tproc.specs.Machine as spec;
 ghost use Rattle.std.specs.Prelude.{ℕ, ◌≡◌, ◌≢◌, ◌+◌, ◌<◌, ◌≤◌, ◌++◌, ◌∷◌, [], ◌==◌, true, None, Some, AllPairs};
 ghost use Rattle.std.specs.Prelude.{List, length, slice_get, filter, find, not, option_map, option_to_list};
 ghost use Rattle.std.specs.Prelude.{IfOk, IfNone, IsSome};
 ghost use Rattle.tword.specs.Claims.{has_saved};
-ghost use Rattle.tproc.specs.Machine.{priority_of, workspace_of as the_workspace};
+ghost use Rattle.tproc.specs.Machine.{priority_of, workspace_of};
 ghost use Rattle.tproc.specs.Queues.{last_of};
 ghost use Rattle.tproc.specs.SavedWords.{IsThreaded};
 ghost use Rattle.tproc.specs.Entries.{lists_of, queue_in, queue_of, queued_at, entry_in, workspaces_in};
 ghost use Rattle.tproc.specs.Entries.{AreAllSaved, IsQueue};
+ghost use Rattle.tword.specs.Limits.{most_processes};
 
 use crate::claimed_memory::ClaimedMemory;
 use crate::process_table::ProcessTable;
@@ -81,7 +83,7 @@ impl Descheduled {
     #[inline]
     pub fn len(&self) -> usize
         ensures is { result ≡ length self.now.high + length self.now.low + length self.now.waiting }
-        ensures few { result ≤ 512 }
+        ensures few { result ≤ most_processes }
     {
         self.table.len()
     }
@@ -137,8 +139,8 @@ impl Descheduled {
     /// A process is put at the back of the queue of its priority, once the last one there is linked to it.
     #[inline]
     pub fn queue(&mut self, process: Word)
-        requires { length self.old.high + length self.old.low + length self.old.waiting < 512 }
-        ensures { self.new ≡ queued_at (the_workspace process) (priority_of process) self.old }
+        requires { length self.old.high + length self.old.low + length self.old.waiting < most_processes }
+        ensures { self.new ≡ queued_at (spec.workspace_of process) (priority_of process) self.old }
     {
         let workspace = workspace_of(process);
         if process.get() % 2 == 0 {
@@ -154,7 +156,7 @@ impl Descheduled {
 
     /// A process waits from now on.
     pub fn wait(&mut self, process: Word, reason: Reason)
-        requires { length self.old.high + length self.old.low + length self.old.waiting < 512 }
+        requires { length self.old.high + length self.old.low + length self.old.waiting < most_processes }
         ensures { self.new ≡ record self.old {
           waiting = self.old.waiting ++ record { process = process; reason = reason } ∷ [];
         } }
@@ -179,7 +181,7 @@ impl Descheduled {
     pub fn take_high(&mut self, claimed: &ClaimedMemory) -> Option<Word>
         requires apart { AllPairs (λ v w. v ≢ w) (workspaces_in self.old) }
         requires saved { AreAllSaved claimed.now.marks (workspaces_in self.old) }
-        requires threaded { IsThreaded claimed.now.memory self.old.high }
+        requires threaded { IsThreaded claimed.now.memory.bytes self.old.high }
         ensures first { self.old.high ≡ option_to_list result ++ self.new.high }
         ensures none { IfNone result ((self.old.high ≡ []) × (self.new ≡ self.old)) }
         ensures rest { self.new ≡ record self.old { high = self.new.high } }
@@ -196,7 +198,7 @@ impl Descheduled {
     pub fn take_low(&mut self, claimed: &ClaimedMemory) -> Option<Word>
         requires apart { AllPairs (λ v w. v ≢ w) (workspaces_in self.old) }
         requires saved { AreAllSaved claimed.now.marks (workspaces_in self.old) }
-        requires threaded { IsThreaded claimed.now.memory self.old.low }
+        requires threaded { IsThreaded claimed.now.memory.bytes self.old.low }
         ensures first { self.old.low ≡ option_to_list result ++ self.new.low }
         ensures none { IfNone result ((self.old.low ≡ []) × (self.new ≡ self.old)) }
         ensures rest { self.new ≡ record self.old { low = self.new.low } }
@@ -213,7 +215,7 @@ impl Descheduled {
 #[inline]
 fn behind(claimed: &ClaimedMemory, queue: &RunQueue) -> Option<Word>
     requires { has_saved claimed.now.marks queue.now.front ≡ true }
-    ensures { (w : ℕ) (q : List ℕ) → IsQueue (w ∷ q) queue.now → IsThreaded claimed.now.memory (w ∷ q)
+    ensures { (w : ℕ) (q : List ℕ) → IsQueue (w ∷ q) queue.now → IsThreaded claimed.now.memory.bytes (w ∷ q)
         → result ≡ slice_get q 0 }
 {
     if queue.count == 1 {

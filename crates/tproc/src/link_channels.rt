@@ -1,18 +1,21 @@
 //! Messages on channels that are links.
 
-ghost use Rattle.std.specs.Prelude.{◌≡◌, ◌<◌, ◌∷◌, [], Some, None, true, false, IfOk, length};
-ghost use Rattle.tword.specs.Actions.{or_break, run_from};
-ghost use Rattle.tproc.specs.Machine.{workspace_of as the_workspace};
-ghost use Rattle.tproc.specs.LinkChannels.{is_link as names_link, link_of, is_free as end_free};
-ghost use Rattle.tproc.specs.LinkChannels.{link_message as messaging, link_end, offered, ran_link, with_link};
-ghost use Rattle.tproc.specs.Agreement.{Agrees, AgreesWith, HasPlace, IsOwn, IsReady};
-ghost use Rattle.tproc.specs.Doing.{Does, laid};
-ghost use Rattle.tproc.specs.Requests.{request, end_break, MayLay};
+ghost use Rattle.std.specs.Prelude.{◌≡◌, ◌<◌, ◌∷◌, [], IfOk, None, Some, false, true};
+ghost use Rattle.tword.specs.Actions.{or_break};
+ghost use Rattle.tproc.specs.Machine.{workspace_of};
+ghost use Rattle.tproc.specs.LinkChannels.{is_free, link_end, link_message, link_of, offered, ran_link, with_link};
+ghost use Rattle.tproc.specs.Agreement.{Agrees, AgreesWith, HasPlace, IsPlain};
+ghost use Rattle.tproc.specs.Doing.{DoesLaid};
+ghost use Rattle.tproc.specs.Checks.{end_break};
+ghost use Rattle.tproc.specs.Requests.{IsRequest, request};
+ghost use Rattle.tproc.specs.LinkChannels as spec;
 
 use crate::channels::{Request, Side, lay, may_touch_beside};
 use crate::claimed_memory::ClaimedMemory;
-use crate::offer::{Offer, Ran};
+use crate::engine::Engine;
+use crate::offer::Offer;
 use crate::queues::{IPTR_WORD, require, wait};
+use crate::ran::Ran;
 use crate::state::State;
 use crate::waiter::{LinkEnd, Reason};
 use tword::limits::MOST_NEG;
@@ -21,7 +24,7 @@ use tword::{Break, Word};
 /// Whether a channel is a link. Those of the links begin at the lowest address: four outputs, then four inputs.
 #[inline]
 pub fn is_link(channel: Word) -> bool
-    ensures { result ≡ names_link channel }
+    ensures { result ≡ spec.is_link channel }
 {
     MOST_NEG <= channel.get() && channel.get() < MOST_NEG + 32
 }
@@ -31,7 +34,7 @@ pub fn is_link(channel: Word) -> bool
 /// # Errors
 /// `Unaligned`, or `WrongEnd` for an input on an output's channel or the other way round.
 pub fn link_at(side: Side, channel: Word) -> Result<u8, Break>
-    requires { names_link channel ≡ true }
+    requires { spec.is_link channel ≡ true }
     ensures checks { result ≡ or_break (end_break side channel) (link_of side channel) }
     ensures within { IfOk result (λ l. l < 4) }
 {
@@ -49,33 +52,12 @@ pub fn link_at(side: Side, channel: Word) -> Result<u8, Break>
     }
 }
 
-impl State {
-    /// Whether a half of a link is free for the process that runs.
-    pub fn is_free(&self, claimed: &ClaimedMemory, side: Side, link: u8) -> bool
-        requires link { link < 4 }
-        requires ready { IsReady claimed.now.marks self.now }
-        ensures { result ≡ end_free side (link_end self.now link) self.now }
-    {
-        let end = self.link(link);
-        match side {
-            Side::Output => end.output.is_none(),
-            Side::Input => {
-                end.input.is_none()
-                    && match end.remembered {
-                        Some(process) => self.runs(claimed, process),
-                        None => true,
-                    }
-            }
-        }
-    }
-}
-
 /// The offer of a pending output stands at its link.
 fn offer_output(state: &mut State, claimed: &mut ClaimedMemory, link: u8, offer: Offer)
     requires link { link < 4 }
     requires agrees { Agrees claimed.old.marks state.old }
     ensures done { state.new ≡ with_link link (record (link_end state.old link) { output = Some offer }) state.old }
-    ensures cells { claimed.new.memory ≡ claimed.old.memory }
+    ensures memory { claimed.new.memory ≡ claimed.old.memory }
     ensures agrees { Agrees claimed.new.marks state.new }
 {
     claimed.claim_output(link, offer.buffer, offer.length);
@@ -95,7 +77,7 @@ fn offer_input(state: &mut State, claimed: &mut ClaimedMemory, link: u8, offer: 
     requires agrees { Agrees claimed.old.marks state.old }
     ensures done { state.new ≡ with_link link
         (record (link_end state.old link) { input = Some offer; noticed = false; remembered = None }) state.old }
-    ensures cells { claimed.new.memory ≡ claimed.old.memory }
+    ensures memory { claimed.new.memory ≡ claimed.old.memory }
     ensures agrees { Agrees claimed.new.marks state.new }
 {
     claimed.claim_input(link, offer.buffer, offer.length);
@@ -115,10 +97,10 @@ fn wait_on_link(state: &mut State, claimed: &mut ClaimedMemory, q: &Request, lin
     requires link { link ≡ link_of (request q.now).side q.now.channel }
     requires within { link < 4 }
     requires place { HasPlace state.old }
-    requires agrees { AgreesWith (the_workspace q.now.process ∷ []) claimed.old.marks state.old }
+    requires agrees { AgreesWith (workspace_of q.now.process ∷ []) claimed.old.marks state.old }
     ensures told { result ≡ ran_link (request q.now).side (link_of (request q.now).side q.now.channel) }
     ensures done { state.new ≡ offered (request q.now) (request q.now).side state.old }
-    ensures cells { claimed.new.memory ≡ claimed.old.memory }
+    ensures memory { claimed.new.memory ≡ claimed.old.memory }
     ensures agrees { Agrees claimed.new.marks state.new }
 {
     let offer = Offer {
@@ -140,30 +122,43 @@ fn wait_on_link(state: &mut State, claimed: &mut ClaimedMemory, q: &Request, lin
     }
 }
 
-/// A message on a link: its process waits until the whole message has gone over.
-#[tactic(auto, using(crate::proofs::Descheduling::own_process, crate::proofs::Agreeing::saved_itself))]
-pub fn link_message(
-    state: &mut State,
-    claimed: &mut ClaimedMemory,
-    q: &Request,
-) -> Result<Ran, Break>
-    requires link { names_link q.now.channel ≡ true }
-    requires own { IsOwn q.now.process state.old }
-    requires ready { IsReady claimed.old.marks state.old }
-    requires free { MayLay (length claimed.old.memory) claimed.old.marks state.old.registers.wptr q.now.first }
-    ensures done { Does (run_from (messaging (request q.now) state.old) claimed.old.memory claimed.old.marks
-        (laid q.now.first state.old.registers.wptr claimed.old.memory)) state.old claimed.old.memory result
-        state.new claimed.new.memory }
-    ensures agrees { Agrees claimed.new.marks state.new }
-{
-    let own = state.registers.wptr;
-    let link = link_at(q.side, q.channel)?;
-    require(q.length != 0, Break::ZeroLength)?;
-    require(state.is_free(claimed, q.side, link), Break::LinkBusy)?;
-    claimed.may_deschedule(own)?;
-    may_touch_beside(claimed, own, q)?;
-    lay(claimed, own, q.first);
-    claimed.deschedule(own);
-    claimed.set_saved_word(own, IPTR_WORD, state.registers.iptr);
-    Ok(wait_on_link(state, claimed, q, link))
+impl Engine {
+    /// Whether a half of a link is free for the process that runs.
+    pub fn is_free(&self, side: Side, link: u8) -> bool
+        requires link { link < 4 }
+        requires plain { IsPlain self.now.state }
+        ensures { result ≡ is_free side (link_end self.now.state link) self.now.state }
+    {
+        let end = self.state.link(link);
+        match side {
+            Side::Output => end.output.is_none(),
+            Side::Input => {
+                end.input.is_none()
+                    && match end.remembered {
+                        Some(process) => self.runs(process),
+                        None => true,
+                    }
+            }
+        }
+    }
+
+    /// A message on a link: its process waits until the whole message has gone over.
+    #[tactic(auto, using(crate::proofs::Descheduling::own_process, crate::proofs::Agreeing::saved_itself))]
+    pub fn link_message(&mut self, q: &Request) -> Result<Ran, Break>
+        requires link { spec.is_link q.now.channel ≡ true }
+        requires asks { IsRequest q.now self.old }
+        ensures { DoesLaid q.now.first (link_message (request q.now) self.old.state) self.old result self.new }
+    {
+        let own = self.state.wptr();
+        let link = link_at(q.side, q.channel)?;
+        require(q.length != 0, Break::ZeroLength)?;
+        require(self.is_free(q.side, link), Break::LinkBusy)?;
+        self.claimed.may_deschedule(own)?;
+        may_touch_beside(&self.claimed, own, q)?;
+        lay(&mut self.claimed, own, q.first);
+        self.claimed.deschedule(own);
+        self.claimed
+            .set_saved_word(own, IPTR_WORD, self.state.registers().iptr);
+        Ok(wait_on_link(&mut self.state, &mut self.claimed, q, link))
+    }
 }

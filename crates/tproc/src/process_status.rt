@@ -1,15 +1,16 @@
 //! Where a process stands.
 
-ghost use Rattle.std.specs.Prelude.{◌≡◌, true, false};
-ghost use Rattle.tproc.specs.ProcessStatus.{is_live, is_queued as the_queued, reason_of as the_reason};
-ghost use Rattle.tproc.specs.ProcessStatus.{not_waiting, status as the_status};
+ghost use Rattle.std.specs.Prelude.{◌≡◌, false, true};
+ghost use Rattle.tproc.specs.ProcessStatus.{is_live, is_queued, not_waiting, reason_of, status};
 ghost use Rattle.tproc.specs.LinkChannels.{is_running};
-ghost use Rattle.tproc.specs.Agreement.{IsPlain, IsReady};
-ghost use Rattle.tproc.specs.Requests.{reason_in, IfQueued};
+ghost use Rattle.tproc.specs.Agreement.{Agrees, IsPlain, IsReady};
+ghost use Rattle.tproc.specs.Requests.{IfQueued, reason_in};
+ghost use Rattle.tproc.specs.Entries.{entry_in, lists_in};
 
 use crate::claimed_memory::ClaimedMemory;
-use crate::state::{State, workspace_of};
-use crate::waiter::Reason;
+use crate::engine::Engine;
+use crate::state::State;
+use crate::waiter::{Entry, Reason};
 use tword::Word;
 
 /// Where a descriptor is found. One that is queued or waits comes first, since the process that runs may have moved
@@ -31,7 +32,8 @@ pub enum ProcessStatus {
 impl State {
     /// Whether the workspace belongs to a live process.
     pub fn is_live(&self, claimed: &ClaimedMemory, workspace: Word) -> bool
-        requires ready { IsReady claimed.now.marks self.now }
+        requires plain { IsPlain self.now }
+        requires agrees { Agrees claimed.now.marks self.now }
         ensures { result ≡ is_live self.now workspace }
     {
         claimed.has_saved(workspace)
@@ -42,23 +44,23 @@ impl State {
             }
     }
 
-    /// What a process waits for.
+    /// The entry of a process, if it is queued or waits.
     #[inline]
-    pub fn reason(&self, claimed: &ClaimedMemory, process: Word) -> Option<Reason>
+    fn find(&self, claimed: &ClaimedMemory, process: Word) -> Option<Entry>
         requires ready { IsReady claimed.now.marks self.now }
-        ensures { result ≡ the_reason self.now process }
+        ensures { result ≡ entry_in (lists_in self.now) process }
     {
-        self.descheduled.find(claimed, process)?.reason
+        self.descheduled.find(claimed, process)
     }
 
     /// Where a descriptor is found that is neither queued nor waits.
     fn status_elsewhere(&self, process: Word) -> ProcessStatus
         requires plain { IsPlain self.now }
-        requires unqueued { the_queued self.now process ≡ false }
+        requires unqueued { is_queued self.now process ≡ false }
         ensures { result ≡ not_waiting self.now process }
     {
         if let Some(priority) = self.current
-            && self.registers.wptr.get() + u32::from(priority) == process.get()
+            && self.registers.wptr.get() + u32::from(priority.number()) == process.get()
         {
             return ProcessStatus::Runs;
         }
@@ -68,29 +70,40 @@ impl State {
             _ => ProcessStatus::Unknown,
         }
     }
+}
+
+impl Engine {
+    /// What a process waits for.
+    #[inline]
+    pub fn reason(&self, process: Word) -> Option<Reason>
+        requires plain { IsPlain self.now.state }
+        ensures { result ≡ reason_of self.now.state process }
+    {
+        self.state.find(&self.claimed, process)?.reason
+    }
 
     /// Where a descriptor is found.
-    pub fn status(&self, claimed: &ClaimedMemory, process: Word) -> ProcessStatus
-        requires ready { IsReady claimed.now.marks self.now }
-        ensures stands { result ≡ the_status self.now process }
-        ensures waits { the_reason self.now process ≡ reason_in result }
-        ensures queued { IfQueued result (the_queued self.now process ≡ true) }
+    pub fn status(&self, process: Word) -> ProcessStatus
+        requires plain { IsPlain self.now.state }
+        ensures stands { result ≡ status self.now.state process }
+        ensures waits { reason_of self.now.state process ≡ reason_in result }
+        ensures queued { IfQueued result (is_queued self.now.state process ≡ true) }
     {
-        match self.descheduled.find(claimed, process) {
+        match self.state.find(&self.claimed, process) {
             Some(entry) => match entry.reason {
                 Some(reason) => ProcessStatus::Waits(reason),
                 None => ProcessStatus::Queued,
             },
-            None => self.status_elsewhere(process),
+            None => self.state.status_elsewhere(process),
         }
     }
 
     /// Whether a descriptor is found as the process that runs.
-    pub fn runs(&self, claimed: &ClaimedMemory, process: Word) -> bool
-        requires ready { IsReady claimed.now.marks self.now }
-        ensures { result ≡ is_running (the_status self.now process) }
+    pub fn runs(&self, process: Word) -> bool
+        requires plain { IsPlain self.now.state }
+        ensures { result ≡ is_running (status self.now.state process) }
     {
-        match &self.status(claimed, process) {
+        match &self.status(process) {
             ProcessStatus::Runs => true,
             _ => false,
         }

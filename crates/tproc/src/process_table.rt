@@ -3,15 +3,15 @@
 ghost use Rattle.std.specs.Prelude.{◌≡◌, ◌<◌, ◌≤◌, ◌==◌, ◌++◌, ◌∷◌, [], not, find, filter, length, true, false};
 ghost use Rattle.std.specs.Prelude.{vec_len, vec_capacity, IfOk, IfSome, None};
 ghost use Rattle.tproc.specs.Entries.{present, is_entry_of, AreSavedOf, IsEntryAt, ShareNoWorkspace};
+ghost use Rattle.tword.specs.Limits.{most_processes};
 
 use crate::claimed_memory::ClaimedMemory;
 use crate::equal::same_entry;
-use crate::hints::Hints;
 use crate::state::workspace_of;
 use crate::waiter::Entry;
 use std::alloc::{AllocError, Global};
 use std::marker::Model;
-use tword::Word;
+use tword::{Hints, Word};
 
 /// How many entries there is room for: twice as many as processes may live.
 const ENTRIES: usize = 1_024;
@@ -29,6 +29,7 @@ pub struct ProcessTable {
 }
 
 impl Model for ProcessTable {
+    ghost use Rattle.tword.specs.Limits.{most_processes};
     ghost use Rattle.std.specs.Prelude.{◌≡◌, ◌≤◌, List, length, vec_capacity};
     ghost use Rattle.tproc.specs.declared.waiter.Entry.{Entry};
     ghost use Rattle.tproc.specs.Entries.{present};
@@ -38,7 +39,7 @@ impl Model for ProcessTable {
     ghost view = { λ t. present t.entries.items };
 
     ghost invariant = { λ t. (1024 ≤ vec_capacity t.entries) × (length t.entries.items ≤ 1024)
-        × (t.count ≡ length (present t.entries.items)) × (t.count ≤ 512) };
+        × (t.count ≡ length (present t.entries.items)) × (t.count ≤ most_processes) };
 }
 
 impl ProcessTable {
@@ -77,7 +78,7 @@ impl ProcessTable {
     #[inline]
     pub fn len(&self) -> usize
         ensures is { result ≡ length self.now }
-        ensures few { result ≤ 512 }
+        ensures few { result ≤ most_processes }
     {
         self.count
     }
@@ -143,7 +144,7 @@ impl ProcessTable {
     /// A process comes into the table, behind the others.
     #[inline]
     pub fn push(&mut self, entry: Entry)
-        requires { length self.old < 512 }
+        requires { length self.old < most_processes }
         ensures { self.new ≡ self.old ++ entry ∷ [] }
     {
         make_room(&mut self.entries, &mut self.hints);

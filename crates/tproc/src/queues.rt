@@ -1,19 +1,23 @@
 //! Queueing and admission.
 
-ghost use Rattle.std.specs.Prelude.{◌≡◌, ◌<◌, ◌+◌, ◌∷◌, ◌++◌, [], true, None, Some, Ok, IfOk, IfNone, IfSome};
-ghost use Rattle.std.specs.Prelude.{IsSome, OnErr, length, option_to_list};
+ghost use Rattle.std.specs.Prelude.{◌≡◌, ◌+◌, ◌∷◌, ◌++◌, [], IfNone, IfOk, IfSome, IsSome, Ok, OnErr, length};
+ghost use Rattle.std.specs.Prelude.{option_to_list, true};
+ghost use Rattle.tproc.specs.Checks.{KeepsShape};
+ghost use Rattle.tproc.specs.Machine.{priority_of, workspace_of as spec_workspace_of};
 ghost use Rattle.tword.specs.Actions.{or_break, unmet};
 ghost use Rattle.tword.specs.Claims.{has_saved};
-ghost use Rattle.tproc.specs.Machine.{workspace_of as the_workspace, priority_of};
-ghost use Rattle.tproc.specs.ProcessStatus.{queue, reason_of, has_room};
-ghost use Rattle.tproc.specs.Queues.{admit as admission, enqueue as queueing, release as releasing, last_of};
-ghost use Rattle.tproc.specs.Queues.{appended, waiting_for, without_waiter};
+ghost use Rattle.tproc.specs.ProcessStatus.{has_room, queue, reason_of};
+ghost use Rattle.tproc.specs.Queues.{appended, last_of, waiting_for, without_waiter};
 ghost use Rattle.tproc.specs.Agreement.{Agrees, AgreesWith, AreSaved, HasPlace, IsPlain, IsReady, Leaves, Settles};
 ghost use Rattle.tproc.specs.Agreement.{StillAgrees, StillSaved, Unsettles, descheduled_count};
-ghost use Rattle.tproc.specs.Doing.{DoesAction};
+ghost use Rattle.tproc.specs.Doing.{Does, DoesAction, adding, machine_of};
 ghost use Rattle.tproc.specs.SavedWords.{IsThreaded};
+ghost use Rattle.tproc.specs.Opening.{Adds, added};
+ghost use Rattle.tproc.specs.Queues as spec;
 
 use crate::claimed_memory::ClaimedMemory;
+use crate::engine::Engine;
+use crate::ran::Ran;
 use crate::state::{State, workspace_of};
 use crate::waiter::Reason;
 use tword::limits::MOST_PROCESSES;
@@ -49,8 +53,8 @@ impl State {
     #[inline]
     fn append(&mut self, process: Word)
         requires place { HasPlace self.old }
-        ensures done { self.new ≡ appended (the_workspace process) (priority_of process) self.old }
-        ensures settles { Settles (the_workspace process) self.old self.new }
+        ensures done { self.new ≡ appended (spec_workspace_of process) (priority_of process) self.old }
+        ensures settles { Settles (spec_workspace_of process) self.old self.new }
         ensures more { descheduled_count self.new ≡ descheduled_count self.old + 1 }
     {
         self.descheduled.queue(process);
@@ -61,7 +65,7 @@ impl State {
     pub fn take_high(&mut self, claimed: &ClaimedMemory) -> Option<Word>
         requires plain { IsPlain self.old }
         requires saved { AreSaved claimed.now.marks self.old }
-        requires threaded { IsThreaded claimed.now.memory self.old.high }
+        requires threaded { IsThreaded claimed.now.memory.bytes self.old.high }
         ensures first { self.old.high ≡ option_to_list result ++ self.new.high }
         ensures none { IfNone result ((self.old.high ≡ []) × (self.new ≡ self.old)) }
         ensures leaves { IfSome result (λ w. Leaves w self.old self.new) }
@@ -75,7 +79,7 @@ impl State {
     pub fn take_low(&mut self, claimed: &ClaimedMemory) -> Option<Word>
         requires plain { IsPlain self.old }
         requires saved { AreSaved claimed.now.marks self.old }
-        requires threaded { IsThreaded claimed.now.memory self.old.low }
+        requires threaded { IsThreaded claimed.now.memory.bytes self.old.low }
         ensures first { self.old.low ≡ option_to_list result ++ self.new.low }
         ensures none { IfNone result ((self.old.low ≡ []) × (self.new ≡ self.old)) }
         ensures leaves { IfSome result (λ w. Leaves w self.old self.new) }
@@ -106,7 +110,7 @@ impl State {
     fn begin_waiting(&mut self, process: Word, reason: Reason)
         requires place { HasPlace self.old }
         ensures done { self.new ≡ waiting_for process reason self.old }
-        ensures settles { Settles (the_workspace process) self.old self.new }
+        ensures settles { Settles (spec_workspace_of process) self.old self.new }
     {
         self.descheduled.wait(process, reason);
         self.rest();
@@ -118,7 +122,7 @@ impl State {
         requires waits { IsSome (reason_of self.old process) }
         ensures done { self.new ≡ without_waiter process self.old }
         ensures place { HasPlace self.new }
-        ensures unsettles { Unsettles (the_workspace process) self.old self.new }
+        ensures unsettles { Unsettles (spec_workspace_of process) self.old self.new }
         ensures fewer { descheduled_count self.new + 1 ≡ descheduled_count self.old }
         ensures saved { StillSaved self.old self.new }
     {
@@ -133,12 +137,11 @@ impl State {
 #[tactic(auto, using(crate::proofs::Descheduling::admitted_process), unfolding(crate::specs::Queues::admit))]
 pub fn admit(state: &State, claimed: &mut ClaimedMemory, process: Word) -> Result<(), Break>
     requires ready { IsReady claimed.old.marks state.now }
-    ensures done { DoesAction (admission process state.now) claimed.old.marks claimed.old.memory result
-        claimed.new.marks claimed.new.memory }
-    ensures agrees { IfOk result (λ _. AgreesWith (the_workspace process ∷ []) claimed.new.marks state.now) }
+    ensures done { DoesAction (spec.admit process state.now) claimed.old result claimed.new }
+    ensures agrees { IfOk result (λ _. AgreesWith (spec_workspace_of process ∷ []) claimed.new.marks state.now) }
     ensures kept { OnErr result (claimed.new.marks ≡ claimed.old.marks) }
     ensures place { IfOk result (λ _. HasPlace state.now) }
-    ensures cells { claimed.new.memory ≡ claimed.old.memory }
+    ensures memory { claimed.new.memory ≡ claimed.old.memory }
 {
     let workspace = workspace_of(process);
     require(workspace.get() % 4 == 0, Break::Unaligned)?;
@@ -154,13 +157,12 @@ pub fn admit(state: &State, claimed: &mut ClaimedMemory, process: Word) -> Resul
 pub fn enqueue(state: &mut State, claimed: &mut ClaimedMemory, process: Word)
     requires place { HasPlace state.old }
     requires saved { AreSaved claimed.old.marks state.old }
-    ensures done { DoesAction (queueing process state.old) claimed.old.marks claimed.old.memory (Ok state.new)
-        claimed.new.marks
-        claimed.new.memory }
-    ensures settles { Settles (the_workspace process) state.old state.new }
+    ensures done { DoesAction (spec.enqueue process state.old) claimed.old (Ok state.new) claimed.new }
+    ensures settles { Settles (spec_workspace_of process) state.old state.new }
+    ensures kind { state.new.kind ≡ state.old.kind }
     ensures more { descheduled_count state.new ≡ descheduled_count state.old + 1 }
     ensures claims { claimed.new.marks ≡ claimed.old.marks }
-    ensures size { length claimed.new.memory ≡ length claimed.old.memory }
+    ensures shape { KeepsShape claimed.old.memory claimed.new.memory }
 {
     if let Some(last) = state.last_saved(claimed, process) {
         claimed.set_saved_word(last, LINK_WORD, workspace_of(process));
@@ -171,7 +173,7 @@ pub fn enqueue(state: &mut State, claimed: &mut ClaimedMemory, process: Word)
 /// A process whose words are saved waits from now on, and none runs.
 pub fn wait(state: &mut State, claimed: &ClaimedMemory, process: Word, reason: Reason)
     requires place { HasPlace state.old }
-    requires agrees { AgreesWith (the_workspace process ∷ []) claimed.now.marks state.old }
+    requires agrees { AgreesWith (spec_workspace_of process ∷ []) claimed.now.marks state.old }
     ensures done { state.new ≡ waiting_for process reason state.old }
     ensures agrees { Agrees claimed.now.marks state.new }
 {
@@ -185,14 +187,39 @@ pub fn release(state: &mut State, claimed: &mut ClaimedMemory, process: Word)
     requires plain { IsPlain state.old }
     requires waits { IsSome (reason_of state.old process) }
     requires saved { AreSaved claimed.old.marks state.old }
-    ensures done { DoesAction (releasing process state.old) claimed.old.marks claimed.old.memory (Ok state.new)
-        claimed.new.marks
-        claimed.new.memory }
+    ensures done { DoesAction (spec.release process state.old) claimed.old (Ok state.new) claimed.new }
     ensures agrees { StillAgrees state.old state.new }
+    ensures kind { state.new.kind ≡ state.old.kind }
     ensures same { descheduled_count state.new ≡ descheduled_count state.old }
     ensures claims { claimed.new.marks ≡ claimed.old.marks }
-    ensures size { length claimed.new.memory ≡ length claimed.old.memory }
+    ensures shape { KeepsShape claimed.old.memory claimed.new.memory }
 {
     state.forget(process);
     enqueue(state, claimed, process);
+}
+
+impl Engine {
+    /// A process from outside is let in, with its first address.
+    #[tactic(auto, using(crate::proofs::Saved::itself_saved, crate::proofs::Saved::are_saved))]
+    fn add(&mut self, process: Word, iptr: Word) -> Result<Ran, Break>
+        requires plain { IsPlain self.old.state }
+        ensures { Does (adding process iptr self.old.state) self.old result self.new }
+    {
+        admit(&self.state, &mut self.claimed, process)?;
+        self.claimed
+            .set_saved_word(workspace_of(process), IPTR_WORD, iptr);
+        enqueue(&mut self.state, &mut self.claimed, process);
+        Ok(Ran::Instruction)
+    }
+
+    /// A process from outside is added, behind the others of its queue.
+    pub fn add_process(&mut self, process: Word, iptr: Word) -> Result<(), Break>
+        requires plain { IsPlain self.old.state }
+        ensures { Adds (added process iptr (machine_of self.old))
+            (machine_of self.old) result
+            (machine_of self.new) }
+    {
+        self.add(process, iptr)?;
+        Ok(())
+    }
 }

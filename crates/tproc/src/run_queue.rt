@@ -3,6 +3,7 @@
 ghost use Rattle.std.specs.Prelude.{ℕ, List, ◌≡◌, ◌<◌, ◌++◌, ◌∷◌, [], ◌==◌, length, slice_get};
 ghost use Rattle.tproc.specs.Queues.{last_of};
 ghost use Rattle.tproc.specs.Entries.{IsQueue};
+ghost use Rattle.tword.specs.Limits.{most_processes};
 
 use tword::Word;
 
@@ -67,7 +68,7 @@ impl RunQueue {
     /// Puts a workspace at the back, once the last one is linked to it.
     #[inline]
     pub fn push(&mut self, workspace: Word)
-        requires { self.old.count < 512 }
+        requires { self.old.count < most_processes }
         ensures { (q : List ℕ) → IsQueue q self.old → IsQueue (q ++ workspace ∷ []) self.new }
     {
         if self.count == 0 {

@@ -1,17 +1,20 @@
 //! All of a processor but its memory.
 
-ghost use Rattle.std.specs.Prelude.{◌≡◌, ◌+◌, ◌<◌, ◌||◌, not, Some, IfOk};
+ghost use Rattle.tproc.specs.Priorities.{number};
+ghost use Rattle.tproc.specs.Machine as spec;
+ghost use Rattle.std.specs.Prelude.{◌≡◌, ◌+◌, ◌<◌, ◌||◌, ◌==◌, not, nat_le, true, option_map, Some, IfOk, length};
 ghost use Rattle.tproc.specs.LinkChannels.{link_end, with_link};
-ghost use Rattle.tproc.specs.Machine.{workspace_of as the_workspace};
+ghost use Rattle.tproc.specs.Machine.{workspace_of};
 ghost use Rattle.tproc.specs.Queues.{at_rest, suspended, resumed};
 ghost use Rattle.tproc.specs.Scheduler.{counted, counted_by};
 ghost use Rattle.tproc.specs.Opening.{no_processes};
 ghost use Rattle.tproc.specs.Resting.{is_idle};
-ghost use Rattle.tproc.specs.Agreement.{IsPlain, IsOwn, StillAgrees, is_over};
+ghost use Rattle.tproc.specs.Agreement.{IsOwn, IsPlain, RunsAt, StillAgrees, is_over};
 ghost use Rattle.tproc.specs.Runs.{RunsAlone};
 
 use crate::descheduled::Descheduled;
 use crate::offer::Offer;
+use crate::priority::Priority;
 use crate::waiter::{LinkEnd, Suspended};
 use std::alloc::{AllocError, Global};
 use std::marker::Model;
@@ -19,13 +22,12 @@ use tcode::Operation;
 use tcpu::Registers;
 use tword::{Kind, Word};
 
-/// A processor without its memory. A priority is 0 where it is high and 1 where it is low, as in a descriptor's
-/// lowest bit.
+/// A processor without its memory.
 #[derive(Drop)]
 pub struct State {
     pub registers: Registers,
-    /// The priority of the process that runs.
-    pub current: Option<u8>,
+    /// The priority of the process that runs, if one does.
+    pub current: Option<Priority>,
     pub count: u32,
     pub interrupted: Option<Suspended>,
     /// The processes that are queued or wait.
@@ -38,13 +40,15 @@ pub struct State {
 }
 
 impl Model for State {
+    ghost use Rattle.std.specs.Prelude.{option_map};
     ghost use Rattle.tproc.specs.Machine.{Control};
+    ghost use Rattle.tproc.specs.Priorities.{number};
 
     ghost Value = { Control };
 
     ghost view = { λ s. record {
       registers = s.registers;
-      current = s.current;
+      current = option_map number s.current;
       count = s.count;
       interrupted = s.interrupted;
       high = s.descheduled.high;
@@ -68,7 +72,7 @@ const QUIET: LinkEnd = LinkEnd {
 /// The workspace of a descriptor.
 #[inline]
 pub fn workspace_of(process: Word) -> Word
-    ensures { result ≡ the_workspace process }
+    ensures { result ≡ spec.workspace_of process }
 {
     Word::new(process.get() - process.get() % 2)
 }
@@ -128,16 +132,97 @@ impl State {
         })
     }
 
+    /// The registers of the process that runs.
+    #[inline(always)]
+    pub fn registers(&self) -> Registers
+        ensures { result ≡ self.now.registers }
+    {
+        self.registers
+    }
+
+    /// The workspace of the process that runs.
+    #[inline(always)]
+    pub fn wptr(&self) -> Word
+        ensures { result ≡ self.now.registers.wptr }
+    {
+        self.registers.wptr
+    }
+
+    /// The priority of the process that runs, if one does.
+    #[inline(always)]
+    pub fn current(&self) -> Option<Priority>
+        ensures { option_map number result ≡ self.now.current }
+    {
+        self.current
+    }
+
+    /// How many instructions the process that runs has done since it was dispatched.
+    #[inline(always)]
+    pub fn count(&self) -> u32
+        ensures { result ≡ self.now.count }
+    {
+        self.count
+    }
+
+    /// The low process that a high one interrupted, if one did.
+    #[inline(always)]
+    pub fn interrupted(&self) -> Option<Suspended>
+        ensures { result ≡ self.now.interrupted }
+    {
+        self.interrupted
+    }
+
+    /// Whether an instruction has halted the processor.
+    #[inline(always)]
+    pub fn is_halted(&self) -> bool
+        ensures { result ≡ self.now.halted }
+    {
+        self.halted
+    }
+
+    /// Whether no low process is queued.
+    #[inline(always)]
+    pub fn is_low_empty(&self) -> bool
+        ensures { result ≡ (length self.now.low == 0) }
+    {
+        self.descheduled.is_low_empty()
+    }
+
+    /// Whether the process that runs has done as many instructions as a timeslice has.
+    #[inline(always)]
+    pub fn is_slice_over(&self) -> bool
+        ensures { result ≡ nat_le self.now.timeslice self.now.count }
+    {
+        self.timeslice <= self.count
+    }
+
+    /// The timeslice of the process that runs begins again.
+    #[inline(always)]
+    pub fn restart_count(&mut self)
+        ensures done { self.new ≡ record self.old { count = 0 } }
+        ensures agrees { StillAgrees self.old self.new }
+    {
+        self.count = 0;
+    }
+
+    /// The processor halts.
+    #[inline(always)]
+    pub fn halt(&mut self)
+        ensures done { self.new ≡ record self.old { halted = true } }
+        ensures agrees { StillAgrees self.old self.new }
+    {
+        self.halted = true;
+    }
+
     /// The descriptor of the process that runs.
     #[tactic(auto, using(crate::proofs::Agreeing::own_workspace))]
     #[inline]
-    pub fn own(&self, priority: u8) -> Word
-        requires running { self.now.current ≡ Some priority }
-        requires plain { IsPlain self.now }
-        ensures is { result ≡ self.now.registers.wptr + priority }
+    pub fn own(&self, priority: Priority) -> Word
+        requires { RunsAt (number priority) self.now }
+        ensures is { result ≡ self.now.registers.wptr + (number priority) }
         ensures own { IsOwn result self.now }
     {
-        Word::new(self.registers.wptr.get() + u32::from(priority))
+        Word::new(self.registers.wptr.get() + u32::from(priority.number()))
     }
 
     /// The process goes on with these registers.
@@ -150,12 +235,12 @@ impl State {
     }
 
     /// A process runs from its beginning on, with the flags as they are.
-    pub fn begin(&mut self, workspace: Word, iptr: Word, priority: u8)
+    pub fn begin(&mut self, workspace: Word, iptr: Word, priority: Priority)
         ensures done { self.new ≡ record self.old {
           registers =
               record self.old.registers { a = 0; b = 0; c = 0; iptr = iptr; wptr = workspace };
           current =
-              Some priority;
+              Some (number priority);
           count = 0;
         } }
         ensures agrees { StillAgrees self.old self.new }
@@ -179,7 +264,7 @@ impl State {
         ensures agrees { StillAgrees self.old self.new }
     {
         self.registers = kept.registers;
-        self.current = Some(1);
+        self.current = Some(Priority::Low);
         self.count = kept.count;
         self.interrupted = None;
     }
@@ -215,7 +300,8 @@ impl State {
 
     /// Registers and count are set back.
     pub fn take_back(&mut self, registers: Registers, count: u32)
-        ensures { self.new ≡ record self.old { registers = registers; count = count } }
+        ensures done { self.new ≡ record self.old { registers = registers; count = count } }
+        ensures agrees { StillAgrees self.old self.new }
     {
         self.registers = registers;
         self.count = count;
@@ -280,53 +366,62 @@ impl State {
 
     /// The count of a low process rises, up to the timeslice.
     #[inline]
-    pub fn count_one(&mut self, priority: u8)
-        ensures { self.new ≡ counted priority self.old }
+    pub fn count_one(&mut self, priority: Priority)
+        ensures done { self.new ≡ counted (number priority) self.old }
+        ensures agrees { StillAgrees self.old self.new }
     {
-        if priority != 0 {
-            self.count = u32::min(self.count.saturating_add(1), self.timeslice);
+        match priority {
+            Priority::High => {}
+            Priority::Low => {
+                self.count = u32::min(self.count.saturating_add(1), self.timeslice);
+            }
         }
     }
 
     /// The count of a process whose timeslice goes on rises, if it is low.
     #[inline(always)]
-    pub fn count_alone(&mut self, priority: u8)
-        requires { RunsAlone priority 1 self.old }
-        ensures { self.new ≡ counted priority self.old }
+    pub fn count_alone(&mut self, priority: Priority)
+        requires { RunsAlone (number priority) 1 self.old }
+        ensures done { self.new ≡ counted (number priority) self.old }
+        ensures agrees { StillAgrees self.old self.new }
     {
-        if priority != 0 {
-            prove!(self.count < self.timeslice);
-            self.count += 1;
+        match priority {
+            Priority::High => {}
+            Priority::Low => {
+                prove!(self.count < self.timeslice);
+                self.count += 1;
+            }
         }
     }
 
     /// The priority of the process that runs, and how many instructions it does before another may have a say: none
     /// where no process runs.
     #[inline]
-    pub fn stretch(&self) -> (u8, u32)
+    pub fn stretch(&self) -> (Priority, u32)
         requires plain { IsPlain self.now }
-        ensures { 0 < result.1 → RunsAlone result.0 result.1 self.now }
+        ensures { 0 < result.1 → RunsAlone (number result.0) result.1 self.now }
     {
         if self.halted {
-            return (0, 0);
+            return (Priority::High, 0);
         }
         match self.current {
-            None => (0, 0),
-            Some(0) => (0, u32::MAX),
-            Some(_) => {
+            None => (Priority::High, 0),
+            Some(Priority::High) => (Priority::High, u32::MAX),
+            Some(Priority::Low) => {
                 let left = self.timeslice.saturating_sub(self.count).saturating_sub(1);
                 if self.descheduled.is_high_empty() {
-                    (1, left)
+                    (Priority::Low, left)
                 } else {
-                    (1, 0)
+                    (Priority::Low, 0)
                 }
             }
         }
     }
 
     /// The count after an operation of the scheduler.
-    pub fn count_by(&mut self, operation: Operation, priority: u8)
-        ensures { self.new ≡ counted_by operation priority self.old }
+    pub fn count_by(&mut self, operation: Operation, priority: Priority)
+        ensures done { self.new ≡ counted_by operation (number priority) self.old }
+        ensures agrees { StillAgrees self.old self.new }
     {
         match operation {
             Operation::Endp => {}
@@ -336,11 +431,14 @@ impl State {
 
     /// Whether the timeslice of a process is over, once this jump is counted, and another low one is queued.
     #[inline]
-    pub fn will_be_over(&self, priority: u8) -> bool
-        ensures { result ≡ is_over priority (counted priority self.now) }
+    pub fn will_be_over(&self, priority: Priority) -> bool
+        ensures { result ≡ is_over (number priority) (counted (number priority) self.now) }
     {
-        priority != 0
-            && self.timeslice <= u32::min(self.count.saturating_add(1), self.timeslice)
-            && !self.descheduled.is_low_empty()
+        match priority {
+            Priority::High => false,
+            Priority::Low => self.timeslice
+                <= u32::min(self.count.saturating_add(1), self.timeslice)
+                && !self.descheduled.is_low_empty(),
+        }
     }
 }

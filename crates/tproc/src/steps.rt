@@ -1,281 +1,253 @@
 //! One step of a processor.
 
-ghost use Rattle.std.specs.Prelude.{◌≡◌, ◌<◌, [], true, Some, None, Ok, IfOk, IfErr, IfNone, OnErr, Err, length};
-ghost use Rattle.tword.specs.Actions.{run};
-ghost use Rattle.tword.specs.Touches.{deschedule_break};
-ghost use Rattle.tcode.specs.Decoding.{decode as decoding};
+ghost use Rattle.std.specs.Prelude.{◌≡◌, Err, IfErr, IfNone, IfOk, Ok, OnErr, true};
+ghost use Rattle.tword.specs.Actions.{run, value_of};
 ghost use Rattle.tcpu.specs.Effects.{effect};
-ghost use Rattle.tcpu.specs.Local.{would_jump, StandsWhereLeft, StaysWhereJumped};
-ghost use Rattle.tproc.specs.Scheduler.{operation_step, counted, counted_by};
-ghost use Rattle.tproc.specs.Steps.{instruction_step, control_step};
-ghost use Rattle.tproc.specs.Agreement.{Agrees, IsReady, is_over};
+ghost use Rattle.tcpu.specs.Local.{StandsWhereLeft, StaysWhereJumped, would_jump};
+ghost use Rattle.tproc.specs.Priorities.{number};
+ghost use Rattle.tproc.specs.Checks.{KeepsShape};
+ghost use Rattle.tproc.specs.Scheduler.{counted, counted_by, operation_step};
+ghost use Rattle.tproc.specs.Steps.{control_step, instruction_step};
+ghost use Rattle.tproc.specs.Agreement.{IsPlain, RunsAt, StillAgrees, is_over};
 ghost use Rattle.tproc.specs.Runs.{RunsAlone, answer_of};
 ghost use Rattle.tproc.specs.SavedWords.{AreThreaded};
-ghost use Rattle.tproc.specs.Doing.{Begins, Does, Foresees, jumps_as, moved_on, rest_of, with_registers};
+ghost use Rattle.tproc.specs.Doing.{Begins, Does, Foresees, jumps_as, machine_of, moved_on, rest_of, with_registers};
+ghost use Rattle.tproc.specs.Requests.{MayDeschedule};
+ghost use Rattle.tcode.specs.Decoding as spec;
 
-use crate::alternatives::{await_choice, begin_choice, enable_channel, enable_skip, end_choice};
 use crate::channels::Side;
 use crate::claimed_memory::ClaimedMemory;
-use crate::dispatch::{dispatch, start_queued};
-use crate::guards::{disable_channel, disable_skip};
-use crate::offer::Ran;
-use crate::scheduler::{
-    communicate, end, jumped, load_priority, run_process, send_from_workspace, start, stop,
-    stop_on_error,
-};
+use crate::dispatch::start_queued;
+use crate::engine::Engine;
+use crate::priority::Priority;
+use crate::ran::Ran;
 use crate::state::State;
-use tcode::{Function, Instruction, Operation, decode_for};
-use tcpu::{Next, Registers, jumps_for, local_for};
-use tword::{Break, Kind, Word};
+use tcode::{Function, Instruction, Operation, decode};
+use tcpu::{Next, Registers, local};
+use tword::{Break, Word};
 
 /// The instruction with which a step begins.
 #[inline(always)]
-fn fetch(claimed: &ClaimedMemory, kind: &Kind, iptr: Word) -> Result<Instruction, Break>
-    ensures { Begins (decoding kind.now iptr) claimed.now.marks claimed.now.memory result claimed.now.memory }
+fn fetch(state: &State, claimed: &ClaimedMemory) -> Result<Instruction, Break>
+    ensures { Begins (spec.decode claimed.now.memory.kind state.now.registers.iptr) claimed.now result claimed.now }
 {
-    decode_for(kind, &claimed.memory, &claimed.marks, iptr)
+    decode(&claimed.memory, &claimed.marks, state.registers.iptr)
 }
 
 /// Whether the instruction of a step jumps. That of a `j` is plain to see.
 #[inline(always)]
-fn jumps(
-    claimed: &ClaimedMemory,
-    kind: &Kind,
-    i: Instruction,
-    registers: &Registers,
-) -> Result<bool, Break>
-    ensures told { result ≡ would_jump (run (effect kind.now i registers.now) claimed.now.memory claimed.now.marks) }
-    ensures foreseen { Foresees (effect kind.now i registers.now) claimed.now.marks claimed.now.memory registers.now
+fn jumps(state: &State, claimed: &ClaimedMemory, i: Instruction) -> Result<bool, Break>
+    ensures told { result ≡ would_jump
+        (run (effect claimed.now.memory.kind i state.now.registers) claimed.now.memory.bytes claimed.now.marks) }
+    ensures foreseen { Foresees (effect claimed.now.memory.kind i state.now.registers) claimed.now state.now.registers
         result }
 {
     match i.function {
         Function::J => Ok(true),
-        _ => jumps_otherwise(claimed, kind, i, registers),
+        _ => jumps_otherwise(state, claimed, i),
     }
 }
 
 /// Whether the instruction of a step jumps, whichever it is.
 #[cold]
 #[inline(never)]
-fn jumps_otherwise(
-    claimed: &ClaimedMemory,
-    kind: &Kind,
-    i: Instruction,
-    registers: &Registers,
-) -> Result<bool, Break>
-    ensures { result ≡ would_jump (run (effect kind.now i registers.now) claimed.now.memory claimed.now.marks) }
+fn jumps_otherwise(state: &State, claimed: &ClaimedMemory, i: Instruction) -> Result<bool, Break>
+    ensures { result ≡ would_jump
+        (run (effect claimed.now.memory.kind i state.now.registers) claimed.now.memory.bytes claimed.now.marks) }
 {
-    jumps_for(kind, registers, &claimed.memory, &claimed.marks, i)
+    tcpu::jumps(&state.registers, &claimed.memory, &claimed.marks, i)
 }
 
-/// The effect of the instruction of a step.
+/// The effect of the instruction of a step, on registers that are worked on in place.
 #[inline(always)]
-fn perform(
-    claimed: &mut ClaimedMemory,
-    kind: &Kind,
-    i: &Instruction,
-    registers: &mut Registers,
-) -> Result<Next, Break>
-    ensures begins { Begins (effect kind.now i.now registers.old) claimed.old.marks claimed.old.memory
-        (with_registers result registers.new) claimed.new.memory }
-    ensures kept { OnErr result ((claimed.new.memory ≡ claimed.old.memory) × (registers.new ≡ registers.old)) }
-    ensures left { IfOk result
-        (λ next. StandsWhereLeft next claimed.old.memory registers.old claimed.new.memory registers.new) }
-    ensures told { would_jump (run (effect kind.now i.now registers.old) claimed.old.memory claimed.old.marks)
-        ≡ jumps_as result }
-    ensures stays { IfOk result (λ next. StaysWhereJumped next registers.old registers.new) }
-    ensures size { length claimed.new.memory ≡ length claimed.old.memory }
+fn perform(state: &mut State, claimed: &mut ClaimedMemory, i: &Instruction) -> Result<Next, Break>
+    ensures begins { Begins (effect claimed.old.memory.kind i.now state.old.registers) claimed.old
+        (with_registers result state.new.registers) claimed.new }
+    ensures kept { OnErr result ((claimed.new.memory.bytes ≡ claimed.old.memory.bytes) × (state.new ≡ state.old)) }
+    ensures left { IfOk result (λ next. StandsWhereLeft next claimed.old.memory.bytes state.old.registers
+        claimed.new.memory.bytes state.new.registers) }
+    ensures told { would_jump (run (effect claimed.old.memory.kind i.now state.old.registers) claimed.old.memory.bytes
+        claimed.old.marks) ≡ jumps_as result }
+    ensures stays { IfOk result (λ next. StaysWhereJumped next state.old.registers state.new.registers) }
+    ensures rest { state.new ≡ record state.old { registers = state.new.registers } }
+    ensures agrees { StillAgrees state.old state.new }
+    ensures shape { KeepsShape claimed.old.memory claimed.new.memory }
     ensures claims { claimed.new.marks ≡ claimed.old.marks }
 {
-    local_for(kind, registers, &mut claimed.memory, &claimed.marks, *i)
+    local(
+        &mut state.registers,
+        &mut claimed.memory,
+        &claimed.marks,
+        *i,
+    )
 }
 
-/// An operation of the scheduler.
-#[tactic(auto, unfolding(crate::specs::Scheduler::operation_step))]
-fn operation(
-    state: &mut State,
-    claimed: &mut ClaimedMemory,
-    operation: Operation,
-    priority: u8,
-) -> Result<Ran, Break>
-    requires running { state.old.current ≡ Some priority }
-    requires ready { IsReady claimed.old.marks state.old }
-    ensures done { Does (run (operation_step operation priority state.old) claimed.old.memory claimed.old.marks)
-        state.old
-        claimed.old.memory result state.new claimed.new.memory }
-    ensures agrees { Agrees claimed.new.marks state.new }
-{
-    match operation {
-        Operation::Startp => start(state, claimed, priority),
-        Operation::Endp => end(state, claimed),
-        Operation::Runp => run_process(state, claimed),
-        Operation::Stopp => stop(state, claimed),
-        Operation::Stoperr => stop_on_error(state, claimed),
-        Operation::Ldpri => Ok(load_priority(state, priority)),
-        Operation::In => communicate(state, claimed, Side::Input, priority),
-        Operation::Out => communicate(state, claimed, Side::Output, priority),
-        Operation::Outbyte => send_from_workspace(state, claimed, 1, priority),
-        Operation::Outword => send_from_workspace(state, claimed, 4, priority),
-        Operation::Alt => begin_choice(state, claimed),
-        Operation::Enbc => {
-            let process = state.own(priority);
-            enable_channel(state, claimed, process)
-        }
-        Operation::Enbs => enable_skip(state, claimed),
-        Operation::Altwt => {
-            let process = state.own(priority);
-            await_choice(state, claimed, process)
-        }
-        Operation::Disc => disable_channel(state, claimed),
-        Operation::Diss => disable_skip(state, claimed),
-        Operation::Altend => end_choice(state, claimed),
-        _ => Err(Break::NoSuchOperation),
-    }
-}
-
-/// An operation of the scheduler, whose instruction has this length.
-fn scheduled(
-    state: &mut State,
-    claimed: &mut ClaimedMemory,
-    o: Operation,
-    priority: u8,
-    size: u8,
-) -> Result<Ran, Break>
-    requires running { state.old.current ≡ Some priority }
-    requires ready { IsReady claimed.old.marks state.old }
-    ensures done { Does (run (operation_step o priority (counted_by o priority (moved_on size state.old)))
-        claimed.old.memory
-        claimed.old.marks) state.old claimed.old.memory result state.new claimed.new.memory }
-    ensures agrees { Agrees claimed.new.marks state.new }
-{
-    let before = state.registers;
-    let count = state.count;
-    state.go(Registers {
-        iptr: before.iptr.plus(Word::new(u32::from(size))),
-        ..before
-    });
-    state.count_by(o, priority);
-    match operation(state, claimed, o, priority) {
-        Ok(ran) => Ok(ran),
-        Err(broken) => {
-            state.take_back(before, count);
-            Err(broken)
-        }
-    }
-}
-
-/// The checks of a yield that may follow an instruction.
-#[inline(always)]
-fn foresee(
-    state: &State,
-    claimed: &ClaimedMemory,
-    i: &Instruction,
-    priority: u8,
-) -> Result<(), Break>
-    ensures ends { IfErr result (λ b. run (rest_of i.now priority state.now) claimed.now.memory claimed.now.marks
-        ≡ Err b) }
-    ensures free { IfOk result (λ _. is_over priority (counted priority state.now) ≡ true
-        → would_jump (run (effect state.now.kind i.now state.now.registers) claimed.now.memory claimed.now.marks)
-        ≡ Ok true
-        → deschedule_break (length claimed.now.memory) claimed.now.marks state.now.registers.wptr ≡ None) }
-{
-    if state.will_be_over(priority) && jumps(claimed, &state.kind, *i, &state.registers)? {
-        claimed.may_deschedule(state.registers.wptr)?;
-    }
-    Ok(())
-}
-
-/// One instruction of the current process, whose registers are worked on in place.
-#[tactic(auto, unfolding(crate::specs::Steps::instruction_step))]
-#[inline(always)]
-fn instruction(state: &mut State, claimed: &mut ClaimedMemory, priority: u8) -> Result<Ran, Break>
-    requires running { state.old.current ≡ Some priority }
-    requires ready { IsReady claimed.old.marks state.old }
-    ensures done { Does (run (instruction_step priority state.old) claimed.old.memory claimed.old.marks) state.old
-        claimed.old.memory result state.new claimed.new.memory }
-    ensures agrees { Agrees claimed.new.marks state.new }
-{
-    let i = fetch(claimed, &state.kind, state.registers.iptr)?;
-    foresee(state, claimed, &i, priority)?;
-    match perform(claimed, &state.kind, &i, &mut state.registers)? {
-        Next::Go => {
-            state.count_one(priority);
-            Ok(Ran::Instruction)
-        }
-        Next::Jumped => {
-            state.count_one(priority);
-            jumped(state, claimed, priority);
-            Ok(Ran::Instruction)
-        }
-        Next::Schedule(o) => scheduled(state, claimed, o, priority, i.length),
-        Next::Halt => {
-            state.count_one(priority);
-            state.halted = true;
-            Ok(Ran::Halting)
-        }
-    }
-}
-
-/// One instruction of the current process, while no other has a say. `None` where the process goes on, and nothing is
-/// changed but its registers, its count and the memory; else the answer of the step.
-#[tactic(auto, unfolding(crate::specs::Steps::instruction_step))]
-#[inline(always)]
-pub fn instruction_alone(
-    state: &mut State,
-    claimed: &mut ClaimedMemory,
-    priority: u8,
-) -> Option<Result<Ran, Break>>
-    requires alone { RunsAlone priority 1 state.old }
-    requires ready { IsReady claimed.old.marks state.old }
-    ensures done { Does (run (instruction_step priority state.old) claimed.old.memory claimed.old.marks) state.old
-        claimed.old.memory (answer_of result) state.new claimed.new.memory }
-    ensures agrees { Agrees claimed.new.marks state.new }
-    ensures goes_on { IfNone result
-        (state.new ≡ counted priority (record state.old { registers = state.new.registers })) }
-{
-    let i = match fetch(claimed, &state.kind, state.registers.iptr) {
-        Ok(i) => i,
-        Err(broken) => return Some(Err(broken)),
-    };
-    match perform(claimed, &state.kind, &i, &mut state.registers) {
-        Ok(Next::Go | Next::Jumped) => {
-            state.count_alone(priority);
-            None
-        }
-        Ok(Next::Schedule(o)) => Some(scheduled(state, claimed, o, priority, i.length)),
-        Ok(Next::Halt) => {
-            state.count_alone(priority);
-            state.halted = true;
-            Some(Ok(Ran::Halting))
-        }
-        Err(broken) => Some(Err(broken)),
-    }
-}
-
-/// One step by the process that runs, or a dispatch, unless the processor has halted. A high process that is queued
-/// interrupts a low one.
-#[inline(always)]
-pub fn step(state: &mut State, claimed: &mut ClaimedMemory) -> Result<Ran, Break>
-    requires ready { IsReady claimed.old.marks state.old }
-    requires threaded { AreThreaded (record { control = state.old; store = claimed.old.memory }) }
-    ensures done { Does (run (control_step state.old.halted state.old) claimed.old.memory claimed.old.marks) state.old
-        claimed.old.memory result state.new claimed.new.memory }
-    ensures agrees { Agrees claimed.new.marks state.new }
-{
-    if state.halted {
-        return Ok(Ran::Halted);
-    }
-    let priority = match state.current {
-        None => return Ok(dispatch(state, claimed)),
-        Some(0) => 0,
-        Some(_) => {
-            if let Some(workspace) = state.take_high(claimed) {
-                state.suspend();
-                start_queued(state, claimed, workspace, 0);
-                return Ok(Ran::Dispatch);
+impl Engine {
+    /// An operation of the scheduler.
+    #[tactic(auto, unfolding(crate::specs::Scheduler::operation_step))]
+    fn operation(&mut self, operation: Operation, priority: Priority) -> Result<Ran, Break>
+        requires runs { RunsAt (number priority) self.old.state }
+        ensures { Does (operation_step operation (number priority) self.old.state) self.old result self.new }
+    {
+        match operation {
+            Operation::Startp => self.start(priority),
+            Operation::Endp => self.end(),
+            Operation::Runp => self.run_process(),
+            Operation::Stopp => self.stop(),
+            Operation::Stoperr => self.stop_on_error(),
+            Operation::Ldpri => Ok(self.load_priority(priority)),
+            Operation::In => self.communicate(Side::Input, priority),
+            Operation::Out => self.communicate(Side::Output, priority),
+            Operation::Outbyte => self.send_from_workspace(1, priority),
+            Operation::Outword => self.send_from_workspace(4, priority),
+            Operation::Alt => self.begin_choice(),
+            Operation::Enbc => {
+                let process = self.state.own(priority);
+                self.enable_channel(process)
             }
-            1
+            Operation::Enbs => self.enable_skip(),
+            Operation::Altwt => {
+                let process = self.state.own(priority);
+                self.await_choice(process)
+            }
+            Operation::Disc => self.disable_channel(),
+            Operation::Diss => self.disable_skip(),
+            Operation::Altend => self.end_choice(),
+            _ => Err(Break::NoSuchOperation),
         }
-    };
-    instruction(state, claimed, priority)
+    }
+
+    /// An operation of the scheduler, whose instruction has this length.
+    fn scheduled(&mut self, o: Operation, priority: Priority, size: u8) -> Result<Ran, Break>
+        requires runs { RunsAt (number priority) self.old.state }
+        ensures { Does (operation_step o (number priority) (counted_by o (number priority) (moved_on size
+            self.old.state))) self.old result self.new }
+    {
+        let before = self.state.registers();
+        let count = self.state.count();
+        self.state.go(Registers {
+            iptr: before.iptr.plus(Word::new(u32::from(size))),
+            ..before
+        });
+        self.state.count_by(o, priority);
+        match self.operation(o, priority) {
+            Ok(ran) => Ok(ran),
+            Err(broken) => {
+                self.state.take_back(before, count);
+                Err(broken)
+            }
+        }
+    }
+
+    /// The instruction at an address, as a process that runs there would fetch it.
+    pub fn fetch_at(&self, address: Word) -> Result<Instruction, Break>
+        ensures { result ≡ value_of (run (spec.decode self.now.state.kind address) self.now.claimed.memory.bytes
+            self.now.claimed.marks) }
+    {
+        decode(&self.claimed.memory, &self.claimed.marks, address)
+    }
+
+    /// The checks of a yield that may follow an instruction.
+    #[inline(always)]
+    fn foresee(&self, i: &Instruction, priority: Priority) -> Result<(), Break>
+        ensures ends { IfErr result (λ b. run (rest_of i.now (number priority) self.now.state)
+            self.now.claimed.memory.bytes self.now.claimed.marks ≡ Err b) }
+        ensures free { IfOk result (λ _. is_over (number priority) (counted (number priority) self.now.state) ≡ true →
+            would_jump (run (effect self.now.state.kind i.now self.now.state.registers) self.now.claimed.memory.bytes
+            self.now.claimed.marks) ≡ Ok true → MayDeschedule self.now.claimed self.now.state.registers.wptr) }
+    {
+        if self.state.will_be_over(priority) && jumps(&self.state, &self.claimed, *i)? {
+            self.claimed.may_deschedule(self.state.wptr())?;
+        }
+        Ok(())
+    }
+
+    /// One instruction of the current process, whose registers are worked on in place.
+    #[tactic(auto, unfolding(crate::specs::Steps::instruction_step))]
+    #[inline(always)]
+    fn instruction(&mut self, priority: Priority) -> Result<Ran, Break>
+        requires runs { RunsAt (number priority) self.old.state }
+        ensures { Does (instruction_step (number priority) self.old.state) self.old result self.new }
+    {
+        let i = fetch(&self.state, &self.claimed)?;
+        self.foresee(&i, priority)?;
+        match perform(&mut self.state, &mut self.claimed, &i)? {
+            Next::Go => {
+                self.state.count_one(priority);
+                Ok(Ran::Instruction)
+            }
+            Next::Jumped => {
+                self.state.count_one(priority);
+                self.jumped(priority);
+                Ok(Ran::Instruction)
+            }
+            Next::Schedule(o) => self.scheduled(o, priority, i.length),
+            Next::Halt => {
+                self.state.count_one(priority);
+                self.state.halt();
+                Ok(Ran::Halting)
+            }
+        }
+    }
+
+    /// One instruction of the current process, while no other has a say. `None` where the process goes on, and nothing
+    /// is changed but its registers, its count and the memory; else the answer of the step.
+    #[tactic(auto, unfolding(crate::specs::Steps::instruction_step))]
+    #[inline(always)]
+    pub fn instruction_alone(&mut self, priority: Priority) -> Option<Result<Ran, Break>>
+        requires alone { RunsAlone (number priority) 1 self.old.state }
+        requires plain { IsPlain self.old.state }
+        ensures done { Does (instruction_step (number priority) self.old.state) self.old (answer_of result) self.new }
+        ensures goes_on { IfNone result (self.new.state
+            ≡ counted (number priority) (record self.old.state { registers = self.new.state.registers })) }
+    {
+        let i = match fetch(&self.state, &self.claimed) {
+            Ok(i) => i,
+            Err(broken) => return Some(Err(broken)),
+        };
+        match perform(&mut self.state, &mut self.claimed, &i) {
+            Ok(Next::Go | Next::Jumped) => {
+                self.state.count_alone(priority);
+                None
+            }
+            Ok(Next::Schedule(o)) => Some(self.scheduled(o, priority, i.length)),
+            Ok(Next::Halt) => {
+                self.state.count_alone(priority);
+                self.state.halt();
+                Some(Ok(Ran::Halting))
+            }
+            Err(broken) => Some(Err(broken)),
+        }
+    }
+
+    /// One step by the process that runs, or a dispatch, unless the processor has halted. A high process that is queued
+    /// interrupts a low one.
+    #[inline(always)]
+    pub fn step(&mut self) -> Result<Ran, Break>
+        requires plain { IsPlain self.old.state }
+        requires threaded { AreThreaded (machine_of self.old) }
+        ensures { Does (control_step self.old.state.halted self.old.state) self.old result self.new }
+    {
+        if self.state.is_halted() {
+            return Ok(Ran::Halted);
+        }
+        let priority = match self.state.current() {
+            None => return Ok(self.dispatch()),
+            Some(Priority::High) => Priority::High,
+            Some(Priority::Low) => {
+                if let Some(workspace) = self.state.take_high(&self.claimed) {
+                    self.state.suspend();
+                    start_queued(
+                        &mut self.state,
+                        &mut self.claimed,
+                        workspace,
+                        Priority::High,
+                    );
+                    return Ok(Ran::Dispatch);
+                }
+                Priority::Low
+            }
+        };
+        self.instruction(priority)
+    }
 }

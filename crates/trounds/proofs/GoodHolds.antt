@@ -1,7 +1,7 @@
 -- What is not refused is not refused when rounds go on.
 use Rattle.std.proofs.Common.{◌≡◌, ℕ, ◌-◌, ◌≤◌, ◌<◌, refl, sym, ap, ◌∙◌, List, [], ◌∷◌, Bool, All}
 use Rattle.std.proofs.Common.{true, false, Option, Some, None, get_or, arith}
-use Rattle.std.specs.Prelude.{length, not, ◌||◌, ◌==◌, nat_le, nat_lt, position, is_some, if◌then◌else◌}
+use Rattle.std.specs.Prelude.{length, not, nat_le, nat_lt, position, is_some, if◌then◌else◌}
 use Rattle.std.proofs.lemmas.Bool.{ltb-false, not-false, and_parts}
 use Rattle.std.proofs.lemmas.Bool.Decides.{nat_tests}
 use Rattle.std.proofs.lemmas.List.{length-map}
@@ -16,8 +16,9 @@ use Rattle.tnet.specs.Wires.{far_end}
 use Rattle.tnet.specs.Packets.{after_event, after_events, then_after}
 use Rattle.tnet.proofs.DoneEvents.{done}
 use Rattle.tnet.proofs.OpenedPlans.{no_position, mapped-none}
-use Rattle.trounds.specs.Rounds.{rounds, is_good_hold, most_holds, bad_hold}
-use Rattle.trounds.specs.Reports.{most_workers}
+use Rattle.tword.specs.Limits.{most_holds}
+use Rattle.trounds.specs.Rounds.{rounds, is_good_hold, bad_hold}
+use Rattle.tnet.specs.Sharing.{is_bad_count}
 use Rattle.trounds.specs.GoingOn.{hold_after, holds_after, GoingOnIsNotRefused}
 use Rattle.trounds.proofs.RoundsRun.{rounds_are_run}
 
@@ -118,7 +119,7 @@ kept_wires (e ∷ es) net net' h = by (after_event net e) refl (λ n. kept_wires
 -- holds that are not refused are not refused when the rounds go on
 pub not_refused : GoingOnIsNotRefused
 not_refused holds slice some workers net h =
-    let bad = when_none ((workers == 0) || nat_lt most_workers workers) BadWorkers _ h in
+    let bad = when_none (is_bad_count workers) BadWorkers _ h in
     let g = are_good net holds (mapped-none BadHold (bad_hold net holds) bad.1) in
     let o = rounds holds slice some net in
     let w = kept_wires o.progress.events net o.progress.net (rounds_are_run holds slice some net).0 in

@@ -18,6 +18,6 @@ pub mod PartRows
 pub mod PartLists
 pub mod PartLoops
 pub mod PartTurns
-pub mod PartLending
+pub mod TakenOut
 pub mod PartPackets
 pub mod PartRests

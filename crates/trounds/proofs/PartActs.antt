@@ -22,7 +22,7 @@ use Rattle.tnet.specs.Stations.{box_at, with_carried, asked, input_of, done_of}
 use Rattle.tnet.specs.FarEnds.{far_in_row}
 use Rattle.tnet.specs.Answers.{KeepsInput, HasRoom}
 use Rattle.tnet.proofs.AnswerKinds.{run_emits_none, due_stands}
-use Rattle.trounds.specs.Parts.{link_of, sending_to, sendings}
+use Rattle.trounds.specs.Parts.{act_link, sending_to, sendings}
 use Rattle.trounds.specs.RoundNodes.{sendings_of}
 use Rattle.trounds.proofs.PartRooms.{room_else}
 
@@ -52,7 +52,7 @@ few_sendings (Ack l) boxes e n far row node d is did = some_sendings row d.packe
 
 -- an act at this link that keeps its input takes no byte for one
 no_input : (a : Act) (boxes : List Inbox) (e : NodeEvent) (node : NodeState) (l : ℕ) → asked a boxes ≡ Some e
-    → KeepsInput a l → l ≡ link_of a → input_of e node ≡ None
+    → KeepsInput a l → l ≡ act_link a → input_of e node ≡ None
 no_input Run boxes e node l is k same = absurd k
 no_input (Send m) boxes e node l is k same = absurd k
 no_input (Take m) boxes e node l is k same = absurd (k same)
@@ -70,7 +70,7 @@ no_input (Ack m) boxes e node l is k same = by (box_at boxes m).acknowledged is
 -- the room that an act has for its message
 pub room_for : {A : Type 0} (f : A → ℕ) (a : Act) (boxes : List Inbox) (e : NodeEvent) (node : NodeState) (vs : List A)
     (k : ℕ) (d : A)
-    → asked a boxes ≡ Some e → k ≡ link_of a → k < length vs
+    → asked a boxes ≡ Some e → k ≡ act_link a → k < length vs
     → ((l : ℕ) → a ≡ Take l → IfSome (due_at node l) (λ (o : Offer). o.length ≤ get_or (map f vs) l 0))
     → HasRoom (input_of e node) (f (get_or vs k d))
 room_for f Run boxes e node vs k d is link lt fits = let q : at_node.Run ≡ e = same_Some _ _ is in rw (← q) tt
@@ -89,7 +89,7 @@ room_for f (Take m) boxes e node vs k d is link lt fits =
 -- the room for a message whose input stands
 pub room_stands : {A : Type 0} (f : A → ℕ) (a : Act) (boxes : List Inbox) (e : NodeEvent) (node node' : NodeState)
     (vs : List A) (k l : ℕ) (v d : A)
-    → asked a boxes ≡ Some e → node' ≡ node_left_by node (happens e node) → k ≡ link_of a
+    → asked a boxes ≡ Some e → node' ≡ node_left_by node (happens e node) → k ≡ act_link a
     → (input_of e node ≡ None → v ≡ get_or vs k d) → KeepsInput a l
     → IfSome (due_at node l) (λ (o : Offer). o.length ≤ get_or (map f vs) l 0)
     → IfSome (due_at node' l) (λ (o : Offer). o.length ≤ get_or (map f (set vs k v)) l 0)

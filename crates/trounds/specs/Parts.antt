@@ -34,13 +34,13 @@ pub record Station : Type 0 where
   pub inboxes : List Inbox
   pub far : List (Option End)
 
--- the link of an act; 0 where it has none
-abbrev pub link_of : Act → ℕ
-link_of Run = 0
-link_of (Send l) = l
-link_of (Data l) = l
-link_of (Take l) = l
-link_of (Ack l) = l
+-- the link of an act, or 0 where it has none
+abbrev pub act_link : Act → ℕ
+act_link Run = 0
+act_link (Send l) = l
+act_link (Data l) = l
+act_link (Take l) = l
+act_link (Ack l) = l
 
 -- a station in a round: what it has sent, done and told so far
 pub record Part : Type 0 where
@@ -115,6 +115,7 @@ part_packet lay holds r k l p =
 abbrev pub part_arrived : Inbox → List Hold → ℕ → Part → ℕ → Part
 part_arrived lay holds r p l = part_packet lay holds r kind.Data l (part_packet lay holds r kind.Ack l p)
 
+-- the acknowledge and the byte that lay at a link, among those that lay at the links of the node
 abbrev pub part_arrivals : List Inbox → List Hold → ℕ → Part → ℕ → Part
 part_arrivals before holds r p l = part_arrived (slice_index_or before l empty_inbox) holds r p l
 
@@ -123,16 +124,19 @@ abbrev pub part_runs : ℕ → Part → Part
 part_runs zero p = p
 part_runs (suc k) p = part_runs k (part_does Run p)
 
--- the four phases of a round
+-- the first phase of a round: what lay at the links comes in
 abbrev pub after_arrivals : List Hold → ℕ → Station → Part
 after_arrivals holds r s = fold (part_arrivals s.inboxes holds r) (fresh s) four_links
 
+-- the second phase: the bytes that wait are taken
 abbrev pub after_takes : Part → Part
 after_takes p = fold (λ p l. part_does (Take l) p) p four_links
 
+-- the last phase, behind the runs: the next bytes are sent
 abbrev pub after_sends : Part → Part
 after_sends p = fold (λ p l. part_does (Send l) p) p four_links
 
+-- the four phases of a round
 abbrev pub part_of_round : List Hold → ℕ → ℕ → Station → Part
 part_of_round holds slice r s = after_sends (part_runs slice (after_takes (after_arrivals holds r s)))
 
@@ -141,6 +145,7 @@ abbrev pub delivered_to : Sending → Option Station → List Station → List S
 delivered_to x None stations = stations
 delivered_to x (Some s) stations = slice_set stations x.to.node (with_packet x.to.link x.packet s)
 
+-- a sending is delivered, if there is a node of its number
 abbrev pub deliver : List Station → Sending → List Station
 deliver stations x = delivered_to x (slice_get stations x.to.node) stations
 

@@ -1,21 +1,18 @@
 -- What a run of rounds answers.
 -- Source: own choice.
-use Rattle.std.specs.Prelude.{◌≡◌, ℕ, ◌≤◌, ◌||◌, ◌==◌, nat_lt, List, Option, Some, option_map, if◌then◌else◌}
+use Rattle.std.specs.Prelude.{◌≡◌, ℕ, ◌≤◌, List, Option, Some, option_map, if◌then◌else◌}
 use Rattle.tplan.specs.declared.event.Hold.{Hold}
 use Rattle.trounds.specs.declared.report.Report.{Report}
 use Rattle.trounds.specs.declared.report.NetFault.{NetFault}
 use Rattle.trounds.specs.declared.report.NetFault.TheVariants.{BadWorkers, BadHold}
 use Rattle.tnet.specs.Net.{NetState}
+use Rattle.tnet.specs.Sharing.{is_bad_count}
 use Rattle.trounds.specs.Rounds.{Rounds, rounds, bad_hold}
-
--- how many workers there may be
-abbrev pub most_workers : ℕ
-most_workers = 64
 
 -- what is wrong with the number of workers, or else with the holds
 abbrev pub refusal : ℕ → List Hold → NetState → Option NetFault
 refusal workers holds net =
-    if (workers == 0) || nat_lt most_workers workers then Some BadWorkers else option_map BadHold (bad_hold net holds)
+    if is_bad_count workers then Some BadWorkers else option_map BadHold (bad_hold net holds)
 
 -- an outcome as it is reported
 abbrev pub reported : Rounds → Report

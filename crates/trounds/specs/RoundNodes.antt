@@ -3,6 +3,7 @@
 use Rattle.std.specs.Prelude.{◌≡◌, ℕ, ◌+◌, ◌<◌, ◌≤◌, ◌++◌, length, List, [], map, vec_len, vec_capacity, slice_index_or}
 use Rattle.std.specs.Prelude.{IfSome, false}
 use Rattle.tnet.specs.Answers.{KeepsInput}
+use Rattle.tword.specs.Limits.{most_nodes}
 use Rattle.tproc.specs.declared.offer.Offer.{Offer}
 use Rattle.tlink.specs.Node.{due_at}
 use Rattle.tplan.specs.declared.event.Act.{Act}
@@ -15,18 +16,19 @@ use Rattle.trounds.specs.declared.round_node.RoundNode.{RoundNode}
 use Rattle.trounds.specs.declared.rule.RoundRule.{RoundRule}
 use Rattle.std.specs.List.{flat_map}
 use Rattle.tplan.specs.declared.event.Hold.{Hold}
-use Rattle.trounds.specs.declared.lending.Frame.{Frame}
+use Rattle.tnet.specs.declared.parts.NetParts.{NetParts}
 use Rattle.tnet.specs.Net.{NetState}
-use Rattle.trounds.specs.Parts.{Station, Part, fresh, link_of, part_does, part_of_round, parts, stations_after, net_of}
+use Rattle.trounds.specs.Parts.{Station, Part, fresh, act_link, part_does, part_of_round, parts, stations_after, net_of}
 use Rattle.trounds.specs.Parts.{ArePlaced}
 
 -- the station of a round node
 abbrev pub station_of : RoundNode → Station
 station_of r = record { number = r.number; node = r.node; inboxes = r.inboxes; far = r.far }
 
--- the part that a round node has done so far
-abbrev pub part_of : RoundNode → Part
-part_of r = record { station = station_of r; outbox = r.outbox.items; events = r.events.items; notes = r.notes.items }
+-- the part of a round that a round node has done so far
+abbrev pub part_so_far : RoundNode → Part
+part_so_far r =
+    record { station = station_of r; outbox = r.outbox.items; events = r.events.items; notes = r.notes.items }
 
 -- what a round node has sent, done and told
 abbrev pub told_of : RoundNode → List Sending × List Event × List Note
@@ -36,20 +38,20 @@ told_of r = (r.outbox.items, r.events.items, r.notes.items)
 abbrev pub stations_of : List RoundNode → List Station
 stations_of round_nodes = map station_of round_nodes
 
--- the parts that round nodes have done so far
-abbrev pub parts_of : List RoundNode → List Part
-parts_of round_nodes = map part_of round_nodes
+-- the parts of a round that round nodes have done so far
+abbrev pub parts_so_far : List RoundNode → List Part
+parts_so_far round_nodes = map part_so_far round_nodes
 
 -- the part of a station in a round by this rule
 abbrev pub part_by : RoundRule → Station → Part
 part_by rule s = part_of_round rule.holds.now rule.slice rule.round s
 
--- and those of stations, each by itself
+-- the parts of stations in a round by this rule, each by itself
 abbrev pub parts_by : RoundRule → List Station → List Part
 parts_by rule stations = parts rule.holds.now rule.slice rule.round stations
 
 -- a round node has room for so many events, notes and sendings
-pub record HasRoom (e n m : ℕ) (r : RoundNode) : Type 0 where
+pub record HasListRoom (e n m : ℕ) (r : RoundNode) : Type 0 where
   pub events : vec_len r.events + e ≤ vec_capacity r.events
   pub notes : vec_len r.notes + n ≤ vec_capacity r.notes
   pub outbox : vec_len r.outbox + m ≤ vec_capacity r.outbox
@@ -86,21 +88,21 @@ sendings_of _ = 1
 
 -- an act of one of the four links may be done: there is room for all that it may write down
 pub record CanAct (act : Act) (r : RoundNode) : Type 0 where
-  pub link : link_of act < 4
-  pub room : HasRoom 1 1 (sendings_of act) r
+  pub link : act_link act < 4
+  pub room : HasListRoom 1 1 (sendings_of act) r
   pub bytes : HasMessage act r
 
 -- an act is done if it is enabled, and takes no room but its own
 pub record Acts (act : Act) (r r' : RoundNode) : Type 0 where
-  pub part : part_of r' ≡ part_does act (part_of r)
+  pub part : part_so_far r' ≡ part_does act (part_so_far r)
   pub spends : Spends 1 1 (sendings_of act) r r'
   pub messages : (l : ℕ) → KeepsInput act l → HasMessageRoom r l → HasMessageRoom r' l
 
 -- a round node is ready for a round with so many runs; one that rests needs no room
 pub record IsReady (slice : ℕ) (r : RoundNode) : Type 0 where
-  pub room : r.rests ≡ false → HasRoom (slice + 16) 17 16 r
+  pub room : r.rests ≡ false → HasListRoom (slice + 16) 17 16 r
   pub bytes : r.rests ≡ false → HasBytes 0 r
-  pub is_fresh : part_of r ≡ fresh (station_of r)
+  pub is_fresh : part_so_far r ≡ fresh (station_of r)
 
 -- a round is done: the parts by themselves, then their sendings; what was done and told is behind what was before
 pub record Advances (holds : List Hold) (slice r : ℕ) (stations : List Station) (events : List Event)
@@ -109,22 +111,22 @@ pub record Advances (holds : List Hold) (slice r : ℕ) (stations : List Station
   pub events_are : events' ≡ events ++ flat_map (λ (p : Part). p.events) (parts holds slice r stations)
   pub notes_are : notes' ≡ notes ++ flat_map (λ (p : Part). p.notes) (parts holds slice r stations)
 
--- so is a round by this rule
+-- a round by this rule is done, and what it did and told is behind what an account had
 abbrev pub AdvancesBy : RoundRule → List Station → Account → List Station → Account → Type 0
 AdvancesBy rule stations a stations' a' =
     Advances rule.holds.now rule.slice rule.round stations a.events.items a.notes.items stations' a'.events.items
     a'.notes.items
 
--- room in a frame for its nodes, of which it has none
-pub record HasPlaces (count : ℕ) (f : Frame) : Type 0 where
-  pub few : count ≤ 64
-  pub no_nodes : f.nodes.items ≡ []
-  pub no_boxes : f.inboxes.items ≡ []
-  pub node_room : count ≤ vec_capacity f.nodes
-  pub box_room : count ≤ vec_capacity f.inboxes
+-- the pieces of a net have room for so many nodes and for what lies at their links, and none of these is among them
+pub record HasPlaces (count : ℕ) (p : NetParts) : Type 0 where
+  pub few : count ≤ most_nodes
+  pub no_nodes : p.nodes.items ≡ []
+  pub no_boxes : p.inboxes.items ≡ []
+  pub node_room : count ≤ vec_capacity p.nodes
+  pub box_room : count ≤ vec_capacity p.inboxes
 
--- the nodes of a net, taken out of it
-pub record AreLent (net : NetState) (round_nodes : List RoundNode) (f : Frame) : Type 0 where
-  pub same : net_of f.wires (stations_of round_nodes) ≡ net
-  pub placed : ArePlaced f.wires (stations_of round_nodes)
-  pub places : HasPlaces (length round_nodes) f
+-- the nodes of a net, taken out of its pieces
+pub record AreTakenOut (net : NetState) (round_nodes : List RoundNode) (p : NetParts) : Type 0 where
+  pub same : net_of p.wires (stations_of round_nodes) ≡ net
+  pub placed : ArePlaced p.wires (stations_of round_nodes)
+  pub places : HasPlaces (length round_nodes) p

@@ -3,6 +3,7 @@
 use Rattle.std.specs.Prelude.{ℕ, ◌≡◌, zero, suc, Bool, true, false, not, ◌&&◌, nat_lt, nat_le, List, [], ◌∷◌, ◌++◌}
 use Rattle.std.specs.Prelude.{length, fold, position, Option, Some, None, is_some, if◌then◌else◌}
 use Rattle.std.specs.List.{list_any}
+use Rattle.tword.specs.Limits.{most_holds}
 use Rattle.tplan.specs.declared.event.Act.{Act}
 use Rattle.tplan.specs.declared.event.Act.TheVariants.{Run, Send, Data, Take, Ack}
 use Rattle.tplan.specs.declared.event.Event.{Event}
@@ -119,10 +120,6 @@ rounds holds slice most net = rounds_from holds slice most 0 (record { net = net
 -- a hold names a wired end and does not end before it begins
 abbrev pub is_good_hold : NetState → Hold → Bool
 is_good_hold net h = is_some (far_end net.wires h.end) && nat_le h.from h.until
-
--- how many holds there may be
-abbrev pub most_holds : ℕ
-most_holds = 256
 
 -- the place of the first bad hold, or of the first one too many
 abbrev pub bad_hold : NetState → List Hold → Option ℕ

@@ -6,9 +6,10 @@
 #![tactic(auto)]
 
 mod account;
+pub mod gate;
 mod holds;
 pub mod laws;
-mod lending;
+mod net_nodes;
 pub mod replays;
 pub mod report;
 mod round_node;
@@ -17,6 +18,7 @@ mod rule;
 mod shared_round;
 mod split;
 
+pub use gate::{Gate, Open};
 pub use replays::{ReplayFault, Replayed, replay};
-pub use report::{Ending, Gate, NetFault, Report};
+pub use report::{Ending, NetFault, Report};
 pub use rounds::run_rounds;

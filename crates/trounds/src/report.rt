@@ -1,21 +1,8 @@
 //! What a run of rounds did, and how it ended.
 
-ghost use Rattle.std.specs.Prelude.{ℕ};
-
 use tnet::Net;
 use tplan::{Event, Note};
 use tword::Items;
-
-/// What each worker calls, once before its share of a round.
-pub trait Gate {
-    /// A worker has entered a round. It says nothing by itself: only a call of `enter` gives it, and each share asks
-    /// for it.
-    ghost has_entered: { Self → ℕ → ℕ → Type 0 };
-
-    /// A worker, from 0 on, begins its share of a round, from 0 on.
-    fn enter(&self, worker: usize, round: u32)
-        ensures { has_entered self.now worker round };
-}
 
 /// How a run of rounds ended.
 #[derive(Clone, Copy, Debug, PartialEq, Eq)]

@@ -3,9 +3,9 @@
 ghost use Rattle.std.specs.Prelude.{◌≡◌, ◌+◌, ◌*◌, ◌^◌, ◌<◌, All, length};
 ghost use Rattle.std.specs.Thread.{IsSync};
 ghost use Rattle.trounds.specs.Parts.{AreNumbered};
-ghost use Rattle.trounds.specs.RoundNodes.{stations_of, parts_of, parts_by, IsReady};
+ghost use Rattle.trounds.specs.RoundNodes.{stations_of, parts_so_far, parts_by, IsReady};
 
-use crate::report::Gate;
+use crate::gate::Gate;
 use crate::round_node::RoundNode;
 use crate::shared_round::SharedRound;
 use std::thread::{Threads, join_mut};
@@ -16,7 +16,7 @@ fn do_share<G: Gate>(shared: &SharedRound<'_, G>, _worker: usize, share: &mut [R
     requires entered { G.has_entered shared.now.gate.now _worker shared.now.rule.round }
     requires own { AreNumbered (_worker * shared.now.size) (stations_of share.old) }
     requires ready { All (IsReady shared.now.rule.slice) share.old }
-    ensures { parts_of share.new ≡ parts_by shared.now.rule (stations_of share.old) }
+    ensures { parts_so_far share.new ≡ parts_by shared.now.rule (stations_of share.old) }
 {
     for place in 0..share.len() {
         share[place].part_of_round(&shared.rule);
@@ -27,7 +27,7 @@ fn do_share<G: Gate>(shared: &SharedRound<'_, G>, _worker: usize, share: &mut [R
 fn enter_share<G: Gate>(shared: &SharedRound<'_, G>, worker: usize, share: &mut [RoundNode])
     requires own { AreNumbered (worker * shared.now.size) (stations_of share.old) }
     requires ready { All (IsReady shared.now.rule.slice) share.old }
-    ensures { parts_of share.new ≡ parts_by shared.now.rule (stations_of share.old) }
+    ensures { parts_so_far share.new ≡ parts_by shared.now.rule (stations_of share.old) }
 {
     shared.gate.enter(worker, shared.rule.round);
     do_share(shared, worker, share);
@@ -38,7 +38,7 @@ pub fn do_in_turn<G: Gate>(shared: &SharedRound<'_, G>, worker: usize, share: &m
     requires worker { worker + length share.old < 2 ^ 64 }
     requires own { AreNumbered (worker * shared.now.size) (stations_of share.old) }
     requires ready { All (IsReady shared.now.rule.slice) share.old }
-    ensures { parts_of share.new ≡ parts_by shared.now.rule (stations_of share.old) }
+    ensures { parts_so_far share.new ≡ parts_by shared.now.rule (stations_of share.old) }
 {
     if share.len() <= shared.size {
         enter_share(shared, worker, share);
@@ -71,7 +71,7 @@ pub fn do_shares<R: Threads + Sync, G: Gate + Sync>(
     requires worker { worker + length share.old < 2 ^ 64 }
     requires own { AreNumbered (worker * shared.now.size) (stations_of share.old) }
     requires ready { All (IsReady shared.now.rule.slice) share.old }
-    ensures { parts_of share.new ≡ parts_by shared.now.rule (stations_of share.old) }
+    ensures { parts_so_far share.new ≡ parts_by shared.now.rule (stations_of share.old) }
 {
     if share.len() <= shared.size {
         enter_share(shared, worker, share);
@@ -101,20 +101,20 @@ fn do_both<R: Threads + Sync, G: Gate + Sync>(
     requires more { 0 < length back.old }
     requires front { All (IsReady shared.now.rule.slice) front.old }
     requires back { All (IsReady shared.now.rule.slice) back.old }
-    ensures front { parts_of front.new ≡ parts_by shared.now.rule (stations_of front.old) }
-    ensures back { parts_of back.new ≡ parts_by shared.now.rule (stations_of back.old) }
+    ensures front { parts_so_far front.new ≡ parts_by shared.now.rule (stations_of front.old) }
+    ensures back { parts_so_far back.new ≡ parts_by shared.now.rule (stations_of back.old) }
 {
     let mut first = ||
         requires { IsSync R.row × IsSync G.row × (worker + length front.now < 2 ^ 64)
             × AreNumbered (worker * shared.now.size) (stations_of front.now)
             × All (IsReady shared.now.rule.slice) front.now }
-        ensures { parts_of front.exit.now ≡ parts_by shared.entry.now.rule (stations_of front.entry.now) }
+        ensures { parts_so_far front.exit.now ≡ parts_by shared.entry.now.rule (stations_of front.entry.now) }
     { do_shares(rt, shared, worker, front) };
     let mut second = ||
         requires { IsSync R.row × IsSync G.row × (next + length back.now < 2 ^ 64)
             × AreNumbered (next * shared.now.size) (stations_of back.now)
             × All (IsReady shared.now.rule.slice) back.now }
-        ensures { parts_of back.exit.now ≡ parts_by shared.entry.now.rule (stations_of back.entry.now) }
+        ensures { parts_so_far back.exit.now ≡ parts_by shared.entry.now.rule (stations_of back.entry.now) }
     { do_shares(rt, shared, next, back) };
     join_mut(rt, &mut first, &mut second);
 }

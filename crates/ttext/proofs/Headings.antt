@@ -3,7 +3,7 @@ use Rattle.std.proofs.Common.{◌≡◌, ◌∙◌, ℕ, ap, ◌++◌, List, [],
 use Rattle.tproc.specs.Machine.{Control}
 use Rattle.tlink.specs.Roles.{Source, Sink}
 use Rattle.tnet.specs.Rendezvous.{Node}
-use Rattle.twhere.specs.Wheres.{word_text}
+use Rattle.twhere.specs.Standing.{word_text}
 use Rattle.ttext.specs.Tellings.{instruction_at, instruction_text}
 
 pub some_runs : (m : Control) (iptr p : ℕ) → iptr ≡ m.registers.iptr → m.current ≡ Some p

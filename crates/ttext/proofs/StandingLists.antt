@@ -7,7 +7,7 @@ use Rattle.std.proofs.lemmas.Option.{same_Some}
 use Rattle.std.proofs.Math.ListN.{drop_of_length-le}
 use Rattle.tplan.specs.declared.event.Event.{Event}
 use Rattle.tnet.specs.Net.{NetState}
-use Rattle.twhere.specs.Wheres.{where_text}
+use Rattle.twhere.specs.Standing.{where_text}
 use Rattle.ttext.specs.declared.telling.Telling.{Telling}
 use Rattle.ttext.specs.Logged.{LogsOutcome}
 use Rattle.ttext.specs.Standings.{AreStandings, IsStanding, IsStandingAt, StandsAfter, StandsWhere}

@@ -1,4 +1,4 @@
--- The line and the status by which the program tells why it printed nothing, or not all.
+-- The line by which the program tells why it printed nothing, or not all.
 -- Source: own choice.
 use Rattle.std.specs.Prelude.{ℕ, List, [], ◌∷◌, ◌++◌, codes, decimal, flat_map, if◌then◌else◌}
 use Rattle.std.specs.Char.{encode_utf8, is_control}
@@ -102,16 +102,3 @@ fault_words fault.Memory = memory_words
 -- the line of a fault
 abbrev pub fault_line : Fault → List ℕ
 fault_line f = line (codes "temu: " ++ words (fault_words f))
-
--- 3 where the output failed or no log was found, 4 where there was no memory, else the input was bad
-abbrev pub status_of : Fault → ℕ
-status_of (fault.Output f) = 3
-status_of fault.NoLog = 3
-status_of fault.Memory = 4
-status_of (fault.Wiring wiring.OutOfMemory) = 4
-status_of (fault.Image n image.OutOfMemory) = 4
-status_of (fault.Net build.OutOfMemory) = 4
-status_of (fault.Rounds rounds.OutOfMemory) = 4
-status_of (fault.Log log.OutOfMemory) = 4
-status_of (fault.Replay replays.OutOfMemory) = 4
-status_of f = 2

@@ -1,13 +1,12 @@
 -- What free workers on the net of a wiring with its images answer and write. Which packets a turn finds hangs on the
 -- timing of threads, so this is a relation.
 -- Source: own choice; the workers, their turns and what they come to are those of free workers' definitions.
-use Rattle.std.specs.Prelude.{ℕ, ◌≡◌, ◌⊎◌, [], List, Option, Result, Ok, Err, Bool, true}
+use Rattle.std.specs.Prelude.{ℕ, ◌≡◌, ◌⊎◌, [], List, Option, Result, Ok, Err, true}
 use Rattle.std.specs.Io.KnownBytes.{Appends}
 use Rattle.tplan.specs.declared.options.Options.{Options}
 use Rattle.tplan.specs.declared.wiring.Wiring.{Wiring}
 use Rattle.tnet.specs.Net.{NetState}
 use Rattle.tnet.specs.Quiet.{is_quiet}
-use Rattle.tnet.specs.View.{view}
 use Rattle.trounds.specs.Reports.{refusal}
 use Rattle.tfree.specs.Opened.{Gathers, IsOpened}
 use Rattle.tfree.specs.Turning.{AreTurned}
@@ -15,11 +14,13 @@ use Rattle.tfree.specs.Views.{View}
 use Rattle.tfree.specs.declared.gathering.Gathered.{Gathered}
 use Rattle.tfiles.specs.Logs.{log_text}
 use Rattle.tfiles.specs.Outputs.{IsCut}
-use Rattle.tfiles.specs.Texts.{free_end, run_text}
 use Rattle.ttext.specs.declared.fault.Fault.{Fault}
 use Rattle.ttext.specs.declared.fault.Fault.TheVariants as fault
-use Rattle.ttext.specs.Commands.{has_frozen, IsLogCut, LogGrows}
+use Rattle.ttext.specs.Commands.{net_verdict, IsLogCut, LogGrows}
+use Rattle.ttext.specs.declared.verdict.Verdict.{Verdict}
 use Rattle.ttext.specs.Outcomes.{opened_of, unless_refused, ShowsOneRun}
+use Rattle.ttext.specs.PrintedRuns.{last_line, printed_run}
+use Rattle.ttext.specs.declared.printed_run.RunEnd.TheVariants.{Turns}
 
 -- a net for so many workers, if they are neither too few nor too many; the options' rounds are the turns
 abbrev pub shared_with : Options → Result NetState Fault → Result NetState Fault
@@ -47,11 +48,11 @@ pub record IsFreeRun (w : Wiring) (files : List (List ℕ)) (o : Options) (g : G
 
 -- the last line of what is printed of free workers
 abbrev pub free_last : Gathered → List ℕ
-free_last g = free_end (is_quiet g.net)
+free_last g = last_line (Turns (is_quiet g.net))
 
 -- what is printed of free workers
 abbrev pub free_text : Gathered → List ℕ
-free_text g = run_text g.notes (view g.net) (free_last g)
+free_text g = printed_run g.notes g.net (Turns (is_quiet g.net))
 
 -- what has gone out where the text of free workers was due and a fault is answered: nothing; or, where the output
 -- failed, the beginning of the text of what workers did
@@ -65,11 +66,11 @@ IsFreeLeft contents may old new f = new ≡ old
 -- free workers ran, and all is written: the text of one run of the rendezvous machine, and its log, where there is to
 -- be one
 pub record IsFreeDone {W L : Type 0} (contents : W → Option (List ℕ)) (log_contents : L → Option (List ℕ)) (w : Wiring)
-    (files : List (List ℕ)) (o : Options) (told : Bool) (old new : W) (log_old log_new : Option L) : Type 0 where
+    (files : List (List ℕ)) (o : Options) (told : Verdict) (old new : W) (log_old log_new : Option L) : Type 0 where
   pub gathered : Gathered
   pub ran : IsFreeRun w files o gathered
   -- whether a node is frozen is told
-  pub frozen : told ≡ has_frozen gathered.net
+  pub frozen : told ≡ net_verdict gathered.net
   pub text : Appends (contents old) (contents new) (free_text gathered)
   -- the headline: the text is that of one run of the rendezvous machine, in which each message that is complete is one
   -- step that copies it whole

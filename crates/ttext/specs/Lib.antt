@@ -1,10 +1,12 @@
 -- The text of runs, explorations and replays of wirings and images, and the lines of faults.
 pub mod Plans
+pub mod PrintedRuns
 pub mod Outcomes
 pub mod Replays
+pub mod Faults
 pub mod FaultLines
 pub mod Commands
-pub mod Wheres
+pub mod NetStanding
 pub mod Free
 pub mod Tellings
 pub mod Differences

@@ -27,7 +27,10 @@ use Rattle.ttext.specs.declared.fault.Fault.{Fault}
 use Rattle.ttext.specs.declared.fault.Fault.TheVariants as fault
 use Rattle.tfiles.specs.Images.{image_of}
 use Rattle.ttext.specs.Plans.{node_of, plan_of, net_of}
-use Rattle.tfiles.specs.Texts.{run_text, rounds_end}
+use Rattle.ttext.specs.PrintedRuns.{last_line, printed_run}
+use Rattle.ttext.specs.declared.printed_run.RunEnd.{RunEnd}
+use Rattle.ttext.specs.declared.printed_run.RunEnd.TheVariants as end_by
+use Rattle.tfiles.specs.Texts.{run_text}
 use Rattle.tfiles.specs.Failures.{HasRisen}
 use Rattle.tfiles.specs.Outputs.{IsCut}
 
@@ -88,13 +91,17 @@ abbrev pub is_quiet_end : Ending → Bool
 is_quiet_end ending.Quiet = true
 is_quiet_end ending.Rounds = false
 
+-- how a report's rounds ended
+abbrev pub end_of : Report → RunEnd
+end_of r = end_by.Rounds (is_quiet_end r.«end») r.rounds
+
 -- the last line of what is printed of rounds
 abbrev pub last_of : Report → List ℕ
-last_of r = rounds_end (is_quiet_end r.«end») r.rounds
+last_of r = last_line (end_of r)
 
 -- what is printed of a report
 abbrev pub report_text : Report → List ℕ
-report_text r = run_text r.notes (view r.net) (last_of r)
+report_text r = printed_run r.notes r.net (end_of r)
 
 -- a fault is the one that is due, unless memory was wanted; nothing was to be written yet
 abbrev pub IsFaultOf : {T : Type 0} → Result T Fault → Fault → Type 0

@@ -8,7 +8,7 @@ use Rattle.tplan.specs.declared.wiring.Wiring.{Wiring}
 use Rattle.tnet.specs.Net.{NetState}
 use Rattle.tnet.specs.Packets.{after_events}
 use Rattle.tfiles.specs.Outputs.{IsCut}
-use Rattle.twhere.specs.Wheres.{where_text}
+use Rattle.twhere.specs.Standing.{where_text}
 use Rattle.ttext.specs.declared.exploring.Explored.{Explored}
 use Rattle.ttext.specs.declared.fault.Fault.{Fault}
 use Rattle.ttext.specs.declared.fault.Fault.TheVariants as fault
@@ -31,7 +31,7 @@ pub record StandsWhere (net : NetState) (t : Telling) (text : List ℕ) : Type 0
   pub log : IsLogOf net t events
   pub is : text ≡ where_text log.left
 
--- where it stands, if a log was found
+-- where the net stands at an outcome, if a log of it was found
 abbrev pub IsStanding : NetState → Telling → Option (List ℕ) → Type 0
 IsStanding net t (Some text) = StandsWhere net t text
 IsStanding net t None = Unit {0}
@@ -57,7 +57,7 @@ standings_from k (t ∷ ts) (s ∷ ss) = (heading_text k t ++ unwrap_or s []) ++
 standings_from k (t ∷ ts) [] = (heading_text k t ++ []) ++ standings_from (suc k) ts []
 standings_from k [] _ = []
 
--- all of it
+-- all that is printed of an exploration with where the net stands
 abbrev pub standings_text : List (Option (List ℕ)) → Explored → List ℕ
 standings_text standings x = standings_from 1 x.outcomes standings ++ (endless_text x.endless ++ explored_end x)
 
@@ -67,7 +67,7 @@ pub record IsWhereText (net : NetState) (x : Explored) (text : List ℕ) : Type 
   pub are : AreStandings net x.outcomes standings
   pub is : text ≡ standings_text standings x
 
--- such a text goes out
+-- the text of an exploration with where the net stands goes out
 pub record WritesWhere {W : Type 0} (contents : W → Option (List ℕ)) (net : NetState) (x : Explored) (old new : W)
     : Type 0 where
   pub text : List ℕ

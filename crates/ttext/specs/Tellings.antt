@@ -14,7 +14,7 @@ use Rattle.tnet.specs.Net.{four_links}
 use Rattle.tnet.specs.Rendezvous.{Node, Configuration}
 use Rattle.trendezvous.specs.Calls.{fresh_output}
 use Rattle.tfiles.specs.Texts.{break_name, dump_text, words}
-use Rattle.twhere.specs.Wheres.{word_text}
+use Rattle.twhere.specs.Standing.{word_text}
 use Rattle.texplore.specs.declared.visit.Shown.{Shown}
 use Rattle.ttext.specs.declared.telling.Telling.{Telling}
 
@@ -25,11 +25,12 @@ abbrev pub is_sending : Reason → Bool
 is_sending (Sends channel buffer length) = true
 is_sending _ = false
 
--- the processes of a node that wait; a source or a sink has none
+-- the processes that wait, of what stands behind a node's links; a source or a sink has none
 abbrev pub waiting_by : Role → Control → List Waiter
 waiting_by Processor m = m.waiting
 waiting_by _ m = []
 
+-- the processes of a node that wait
 abbrev pub waiting : Node → List Waiter
 waiting s = waiting_by s.role s.machine.control
 

@@ -1,7 +1,8 @@
 //! Why a command printed nothing, or not all.
 
 ghost use Rattle.std.specs.Prelude.{◌≡◌};
-ghost use Rattle.ttext.specs.declared.fault.Fault.TheVariants.{Memory, Output};
+ghost use Rattle.ttext.specs.declared.fault.Fault.TheVariants.{Log, Memory, Net, Output, Replay, Rounds, Wiring};
+ghost use Rattle.ttext.specs.Faults as spec;
 
 use std::alloc::{AllocError, AllocFailed};
 use tfiles::image::ImageFault;
@@ -46,6 +47,47 @@ pub enum Fault {
     Memory,
 }
 
+impl Fault {
+    /// The exit status of the program: 2 for bad input, 3 where the output failed or no log was found, 4 where there
+    /// was no memory.
+    pub fn status(&self) -> u8
+        ensures { result ≡ spec.status_of self.now }
+    {
+        match self {
+            Fault::Output(_) | Fault::NoLog => 3,
+            _ if self.wants_memory() => 4,
+            _ => 2,
+        }
+    }
+
+    /// The same fault, but `Memory` where memory was wanted, wherever that was met.
+    fn settled(self) -> Fault
+        ensures { result ≡ spec.settled self }
+    {
+        if self.wants_memory() {
+            Fault::Memory
+        } else {
+            self
+        }
+    }
+
+    /// Whether memory was wanted, wherever that was met.
+    fn wants_memory(&self) -> bool
+        ensures { result ≡ spec.wants_memory self.now }
+    {
+        match self {
+            Fault::Memory
+            | Fault::Wiring(WiringFault::OutOfMemory)
+            | Fault::Image(_, ImageFault::OutOfMemory)
+            | Fault::Net(BuildFault::OutOfMemory)
+            | Fault::Rounds(NetFault::OutOfMemory)
+            | Fault::Log(LogFault::OutOfMemory)
+            | Fault::Replay(ReplayFault::OutOfMemory) => true,
+            _ => false,
+        }
+    }
+}
+
 impl From<AllocError> for Fault {
     ghost from_gives = { λ _ fault. fault ≡ Memory };
 
@@ -67,5 +109,45 @@ impl From<WriteFault> for Fault {
 
     fn from(cut: WriteFault) -> Fault {
         Fault::Output(cut)
+    }
+}
+
+impl From<WiringFault> for Fault {
+    ghost from_gives = { λ given fault. fault ≡ spec.settled (Wiring given) };
+
+    fn from(fault: WiringFault) -> Fault {
+        Fault::Wiring(fault).settled()
+    }
+}
+
+impl From<BuildFault> for Fault {
+    ghost from_gives = { λ given fault. fault ≡ spec.settled (Net given) };
+
+    fn from(fault: BuildFault) -> Fault {
+        Fault::Net(fault).settled()
+    }
+}
+
+impl From<NetFault> for Fault {
+    ghost from_gives = { λ given fault. fault ≡ spec.settled (Rounds given) };
+
+    fn from(fault: NetFault) -> Fault {
+        Fault::Rounds(fault).settled()
+    }
+}
+
+impl From<LogFault> for Fault {
+    ghost from_gives = { λ given fault. fault ≡ spec.settled (Log given) };
+
+    fn from(fault: LogFault) -> Fault {
+        Fault::Log(fault).settled()
+    }
+}
+
+impl From<ReplayFault> for Fault {
+    ghost from_gives = { λ given fault. fault ≡ spec.settled (Replay given) };
+
+    fn from(fault: ReplayFault) -> Fault {
+        Fault::Replay(fault).settled()
     }
 }

@@ -5,6 +5,7 @@ ghost use Rattle.tfiles.specs.Texts.{words};
 ghost use Rattle.tfiles.specs.Failures.{HasRisen, HasStayed};
 ghost use Rattle.tfiles.specs.Outputs.{IsOut, Tells};
 ghost use Rattle.ttext.specs.FaultLines as spec;
+ghost use Rattle.ttext.specs.Faults.{status_of};
 
 use crate::fault::Fault;
 use crate::name::put_name;
@@ -24,7 +25,7 @@ use trounds::{NetFault, ReplayFault};
 /// Where the writer fails or takes nothing. Just so many of the first bytes are written as the fault tells.
 pub fn write_fault<W: CountedWrite>(fault: &Fault, out: &mut W) -> Result<u8, WriteFault>
     ensures line { IsOut (W.contents out.old) (W.contents out.new) (spec.fault_line fault.now) result }
-    ensures status { IfOk result (λ status. status ≡ spec.status_of fault.now) }
+    ensures status { IfOk result (λ status. status ≡ status_of fault.now) }
     ensures cause { IfErr result (λ _. HasRisen (W.failures out.old) (W.failures out.new)) }
     ensures stayed { OnOk result (HasStayed (W.failures out.old) (W.failures out.new)) }
 {
@@ -45,26 +46,6 @@ fn write_line<W: CountedWrite>(fault: &Fault, out: &mut W) -> Result<(), WriteFa
     put_fault(&mut output, fault);
     output.put(b"\n");
     output.finish()
-}
-
-impl Fault {
-    /// The exit status of the program: 2 for bad input, 3 where the output failed or no log was found, 4 where there
-    /// was no memory.
-    pub fn status(&self) -> u8
-        ensures { result ≡ spec.status_of self.now }
-    {
-        match self {
-            Fault::Output(_) | Fault::NoLog => 3,
-            Fault::Memory
-            | Fault::Wiring(WiringFault::OutOfMemory)
-            | Fault::Image(_, ImageFault::OutOfMemory)
-            | Fault::Net(BuildFault::OutOfMemory)
-            | Fault::Rounds(NetFault::OutOfMemory)
-            | Fault::Log(LogFault::OutOfMemory)
-            | Fault::Replay(ReplayFault::OutOfMemory) => 4,
-            _ => 2,
-        }
-    }
 }
 
 /// What is told of a fault.

@@ -3,26 +3,24 @@
 ghost use Rattle.std.specs.Prelude.{◌≡◌, Ok, IfOk, IfErr, IsOk, MatchResult, length, map, true, OnOk};
 ghost use Rattle.std.specs.Io.KnownBytes.{Appends};
 ghost use Rattle.tnet.specs.Notes.{notes};
+ghost use Rattle.tnet.specs.Quiet.{is_quiet};
 ghost use Rattle.tnet.specs.Runs.{IsSeenRun};
 ghost use Rattle.tnet.specs.Sound.{IsSound};
 ghost use Rattle.tfree.specs.Opened.{share_of, IsOpened};
 ghost use Rattle.tfree.specs.Turning.{AreTurned};
-ghost use Rattle.tfiles.specs.Failures.{HasRisen, HasStayed};
-ghost use Rattle.tfiles.specs.Outputs.{IsOut};
+ghost use Rattle.tfiles.specs.Failures.{HasStayed};
 ghost use Rattle.ttext.specs.declared.fault.Fault.TheVariants.{Memory};
+ghost use Rattle.ttext.specs.declared.printed_run.RunEnd.TheVariants.{Turns};
 ghost use Rattle.ttext.specs.Free as spec;
 ghost use Rattle.ttext.specs.Free.{shared_of, shared_with, free_last, AreFree, IsFreeLeft, IsFreeRun};
 ghost use Rattle.ttext.specs.Outcomes.{HasOutputCause, IsDue, IsFaultOf, ShowsOneRun};
 
 use crate::fault::Fault;
-use crate::opened::open_net;
+use crate::opening::open_net;
+use crate::printed_run::{RunEnd, write_run};
 use std::alloc::Global;
 use std::thread::Threads;
 use tfiles::counted::CountedWrite;
-use tfiles::writing::dump::put_dump;
-use tfiles::writing::end::put_free_end;
-use tfiles::writing::output::{Output, WriteFault};
-use tfiles::writing::trace::put_trace;
 use tfree::laws::opened_workers_stay;
 use tfree::{GatherFault, Gathered, OpenFault, Worker, gather, open, turn_all};
 use tnet::Net;
@@ -72,7 +70,8 @@ pub fn free_text<R: Threads + Sync, W: CountedWrite>(
 {
     let net = open_net(alloc, wiring, files)?;
     let gathered = run_free(rt, alloc, net, options)?;
-    write_gathered(out, &gathered)?;
+    let end = end_of(&gathered);
+    write_run(out, gathered.notes.as_slice(), &gathered.net, end)?;
     Ok(gathered)
 }
 
@@ -134,17 +133,13 @@ fn turned<R: Threads + Sync>(
     Ok(workers)
 }
 
-/// Writes what is printed of what workers did.
-fn write_gathered<W: CountedWrite>(out: &mut W, gathered: &Gathered) -> Result<(), WriteFault>
+/// How the turns of free workers ended.
+fn end_of(gathered: &Gathered) -> RunEnd
     requires { IsSound gathered.now.net }
-    ensures out { IsOut (W.contents out.old) (W.contents out.new) (spec.free_text gathered.now) result }
-    ensures cause { IfErr result (λ _. HasRisen (W.failures out.old) (W.failures out.new)) }
-    ensures stayed { OnOk result (HasStayed (W.failures out.old) (W.failures out.new)) }
+    ensures { result ≡ Turns (is_quiet gathered.now.net) }
 {
     quiet_is_nothing_enabled();
-    let mut output = Output::new(out);
-    put_trace(&mut output, gathered.notes.as_slice());
-    put_dump(&mut output, &gathered.net);
-    put_free_end(&mut output, gathered.net.is_quiet());
-    output.finish()
+    RunEnd::Turns {
+        is_quiet: gathered.net.is_quiet(),
+    }
 }

@@ -1,8 +1,9 @@
 //! The text of runs, explorations and replays of wirings and images, and the lines of faults.
 //!
-//! - `opened`: the net of a wiring and its images
+//! - `opening`: the net of a wiring and its images
 //! - `run`, `replaying`, `free`: the text of a run by rounds, of a replay of a log, and of a run by free workers
-//! - `wheres`: the text of where a net stands after the events of a log
+//! - `printed_run`: what these three have in common, the text of a run whichever way it was done
+//! - `net_standing`: the text of where a net stands after the events of a log
 //! - `telling`, `exploring`: what is told of outcomes, and the text of an exploration
 //! - `differing`: in which lines two dumps differ
 //! - `logging`: logs of how a net comes to the outcomes that are told of it
@@ -20,13 +21,14 @@ mod fault_line;
 pub mod free;
 pub mod logging;
 mod name;
-mod opened;
+pub mod net_standing;
+mod opening;
+mod printed_run;
 pub mod replaying;
 pub mod run;
 pub mod standings;
 pub mod telling;
 pub mod verdict;
-pub mod wheres;
 
 pub use commands::{dis_file, end_command, free_files, replay_files, run_files, where_files};
 pub use exploring::{Explored, Show, explore_text};
@@ -34,9 +36,9 @@ pub use fault::Fault;
 pub use fault_line::write_fault;
 pub use free::free_text;
 pub use logging::{Logged, explore_logged, write_outcome_log};
+pub use net_standing::where_text;
 pub use replaying::replay_text;
 pub use run::run_text;
 pub use standings::explore_where;
 pub use telling::Telling;
 pub use verdict::Verdict;
-pub use wheres::where_text;

@@ -3,6 +3,8 @@
 ghost use Rattle.std.specs.Prelude.{◌≡◌};
 ghost use Rattle.ttext.specs.Commands as spec;
 
+use tnet::Net;
+
 /// What a command comes to that is done.
 #[derive(Clone, Copy, Debug, PartialEq, Eq)]
 pub enum Verdict {
@@ -15,11 +17,11 @@ pub enum Verdict {
 }
 
 impl Verdict {
-    /// The verdict of a command, by whether a node is frozen at its end.
-    pub fn of(has_frozen: bool) -> Verdict
-        ensures { result ≡ spec.verdict_by has_frozen }
+    /// The verdict of a command that leaves this net.
+    pub(crate) fn of_net(net: &Net) -> Verdict
+        ensures { result ≡ spec.net_verdict net.now }
     {
-        if has_frozen {
+        if has_frozen(net) {
             Verdict::Marked
         } else {
             Verdict::Clear
@@ -36,4 +38,11 @@ impl Verdict {
             Verdict::Cut => 5,
         }
     }
+}
+
+/// Whether a node of a net is frozen.
+fn has_frozen(net: &Net) -> bool
+    ensures { result ≡ spec.has_frozen net.now }
+{
+    net.nodes().iter().any(|node| node.broken().is_some())
 }

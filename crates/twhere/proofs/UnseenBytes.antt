@@ -22,7 +22,7 @@ use Rattle.tproc.specs.Queues.{iptr_word}
 use Rattle.tproc.specs.Placement.{IsClaimed}
 use Rattle.tproc.specs.Hidden.{hidden}
 use Rattle.tproc.proofs.Untouched.{kept}
-use Rattle.twhere.specs.Wheres.{byte_there, fetched_at, saved_iptr, word_there}
+use Rattle.twhere.specs.Standing.{byte_there, fetched_at, saved_iptr, word_there}
 
 -- runs that match answer the same
 value_same : {A : Type 0} (R : Store → Store → Type 0) (x y : Result (A × Store) Break) → Matches R x y
@@ -49,8 +49,8 @@ module _ (n : Machine) (claimed : IsClaimed n) (apart : AreApart (claims_of n.co
   fetched_same iptr =
       value_same (Agree (claims_of n.control).inputs) _ _
       (run_from-matches (IsKept (claims_of n.control).inputs) (Agree (claims_of n.control).inputs)
-      (is_masking (claims_of n.control).inputs) (decode n.control.kind iptr) (hidden n).store n.store (hidden n).store n.store
-      (claims_of n.control) agree agree (kept n claimed apart))
+      (is_masking (claims_of n.control).inputs) (decode n.control.kind iptr)
+      (hidden n).store n.store (hidden n).store n.store (claims_of n.control) agree agree (kept n claimed apart))
     where
       agree : Agree (claims_of n.control).inputs (hidden n).store n.store
       agree = hiding-agrees (claims_of n.control).inputs (λ a. is_input (claims_of n.control) (byte_span a)) n.store

@@ -26,11 +26,11 @@ use Rattle.tnet.specs.Net.{NetState}
 use Rattle.tnet.specs.Sound.{IsSoundNode}
 use Rattle.tfiles.specs.Logs.{line}
 use Rattle.tfiles.specs.Texts.{node_line}
-use Rattle.twhere.specs.Wheres.{by_descriptor, descriptors, fetched_text, flag_facts, inserted, interrupted_facts}
-use Rattle.twhere.specs.Wheres.{links_facts, listed_of, node_where, place_text, priority_text, process_facts}
-use Rattle.twhere.specs.Wheres.{processor_where, queue_facts, reason_text, register_facts, role_where, running_facts}
-use Rattle.twhere.specs.Wheres.{waiting_facts}
-use Rattle.twhere.specs.Wheres.{where_from, where_text, word_text}
+use Rattle.twhere.specs.Standing.{by_descriptor, descriptors, fetched_text, flag_facts, inserted, interrupted_facts}
+use Rattle.twhere.specs.Standing.{links_facts, listed_of, node_where, place_text, priority_text, process_facts}
+use Rattle.twhere.specs.Standing.{processor_where, queue_facts, reason_text, register_facts, role_where, running_facts}
+use Rattle.twhere.specs.Standing.{waiting_facts}
+use Rattle.twhere.specs.Standing.{where_from, where_text, word_text}
 use Rattle.twhere.specs.Unseen.{HiddenIsUnseen, TextIsOfTheView, hidden_net, hidden_node}
 use Rattle.twhere.proofs.UnseenBytes.{fetched_same, iptr_same}
 

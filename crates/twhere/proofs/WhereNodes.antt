@@ -7,7 +7,7 @@ use Rattle.std.proofs.lemmas.List.{get_or-map}
 use Rattle.tlink.specs.Node.{NodeState}
 use Rattle.tnet.specs.Net.{NetState}
 use Rattle.twhere.specs.declared.listing.Listed.{Listed}
-use Rattle.twhere.specs.Wheres.{listed_of, node_where, where_from}
+use Rattle.twhere.specs.Standing.{listed_of, node_where, where_from}
 
 -- the nodes from one of them on
 pub where_next : (net : NetState) (k : ℕ) (nodes : List NodeState) (d : NodeState) → k < length nodes

@@ -5,7 +5,7 @@ use Rattle.tproc.specs.Hidden.{hidden}
 use Rattle.tlink.specs.Node.{NodeState}
 use Rattle.tnet.specs.Net.{NetState}
 use Rattle.tnet.specs.Sound.{IsSound}
-use Rattle.twhere.specs.Wheres.{where_text}
+use Rattle.twhere.specs.Standing.{where_text}
 
 -- a node with the buffers of its pending inputs hidden
 abbrev pub hidden_node : NodeState → NodeState

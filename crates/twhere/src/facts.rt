@@ -1,9 +1,8 @@
 //! Small parts of the text: words, instructions, and where a process that does not run stands.
 
 ghost use Rattle.std.specs.Prelude.{◌≡◌, ◌++◌};
-ghost use Rattle.tproc.specs.Machine.{workspace_of as the_workspace};
 ghost use Rattle.tfiles.specs.Outputs.{Tells};
-ghost use Rattle.twhere.specs.Wheres as spec;
+ghost use Rattle.twhere.specs.Standing as spec;
 
 use tcode::Instruction;
 use tfiles::CountedWrite;
@@ -11,7 +10,7 @@ use tfiles::break_names::break_name;
 use tfiles::dis::put_instruction;
 use tfiles::writing::output::Output;
 use tfiles::writing::text::put_hex;
-use tproc::Processor;
+use tproc::{Processor, workspace_of};
 use tword::{Break, Word};
 
 /// A word, in hexadecimal: `#` and eight digits in lower case.
@@ -61,14 +60,7 @@ pub(crate) fn put_place<W: CountedWrite>(
 fn saved_iptr(processor: &Processor, process: Word) -> Word
     ensures { result ≡ spec.saved_iptr processor.now process }
 {
-    word_there(processor, workspace_of(process).minus(Word::new(4)))
-}
-
-/// The workspace of a descriptor.
-fn workspace_of(process: Word) -> Word
-    ensures { result ≡ the_workspace process }
-{
-    Word::new(process.get() - process.get() % 2)
+    word_there(processor, workspace_of(process).below(1))
 }
 
 /// The word whose four bytes begin at an address.

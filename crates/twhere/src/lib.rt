@@ -8,9 +8,9 @@ mod links;
 pub mod listing;
 mod processes;
 mod processor_node;
+pub mod standing;
 mod waiting;
-pub mod wheres;
 
 pub use facts::put_word;
 pub use listing::{Listed, list_net};
-pub use wheres::put_where;
+pub use standing::put_where;

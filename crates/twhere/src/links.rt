@@ -7,13 +7,13 @@ ghost use Rattle.tlink.specs.Whole.{IsWhole};
 ghost use Rattle.tnet.specs.Net.{inbox_at};
 ghost use Rattle.tnet.specs.Wires.{end_at};
 ghost use Rattle.tfiles.specs.Outputs.{Tells};
-ghost use Rattle.twhere.specs.Wheres as spec;
+ghost use Rattle.twhere.specs.Standing as spec;
 
 use crate::facts::put_word;
 use tfiles::CountedWrite;
 use tfiles::writing::output::Output;
 use tfiles::writing::text::{put_byte, put_decimal};
-use tlink::{Arrival, Counts, Node};
+use tlink::{Arrival, Counts, Node, Role};
 use tnet::{Inbox, Net};
 use tplan::plan::End;
 use tword::Word;
@@ -64,12 +64,10 @@ fn has_output(node: &Node, link: u8) -> bool
     requires { IsWhole node.now }
     ensures { result ≡ is_some (output_at node.now link) }
 {
-    if let Some(processor) = node.processor() {
-        return processor.pending_out(link).is_some();
-    }
-    match node.source() {
-        Some(source) => link == 0 && source.done() < source.count(),
-        None => false,
+    match node.role() {
+        Role::Processor(processor) => processor.pending_out(link).is_some(),
+        Role::Source(source) => link == 0 && source.done() < source.count(),
+        Role::Sink(_) => false,
     }
 }
 
@@ -86,9 +84,10 @@ fn remembered(node: &Node, link: u8) -> Option<Word>
     requires link { link < 4 }
     ensures { result ≡ (link_end node.now.machine.control link).remembered }
 {
-    match node.processor() {
-        Some(processor) => processor.link(link).remembered,
-        None => None,
+    match node.role() {
+        Role::Processor(processor) => processor.link(link).remembered,
+        Role::Source(_) => None,
+        Role::Sink(_) => None,
     }
 }
 

@@ -1,15 +1,15 @@
 //! The processes of a net that are queued or wait, in the order in which they are told. All memory that the text
 //! takes is taken here.
 
-ghost use Rattle.std.specs.Prelude.{◌≡◌, ◌≤◌, ◌==◌, ◌&&◌, IfOk, is_none, length, map, nat_le};
+ghost use Rattle.std.specs.Prelude.{◌≡◌, ◌≤◌, ◌==◌, ◌&&◌, [], IfOk, is_none, length, map, nat_le};
 ghost use Rattle.std.specs.List.{position_or_len};
 ghost use Rattle.tproc.specs.Entries.{queue_in, waiting_in};
 ghost use Rattle.tproc.specs.Machine.{priority_of};
 ghost use Rattle.tlink.specs.Whole.{IsWhole};
-ghost use Rattle.twhere.specs.Wheres.{by_descriptor, descriptors, inserted, listed_of};
+ghost use Rattle.twhere.specs.Standing.{by_descriptor, descriptors, inserted, listed_of};
 
 use std::alloc::{AllocError, Global};
-use tlink::Node;
+use tlink::{Node, Role};
 use tnet::Net;
 use tproc::{Entry, Processor, Waiter};
 use tword::{Items, Word};
@@ -44,13 +44,21 @@ fn list_node(alloc: Global, node: &Node) -> Result<Listed, AllocError>
     requires { IsWhole node.now }
     ensures { IfOk result (λ l. l ≡ listed_of node.now.machine.control) }
 {
-    match node.processor() {
-        Some(processor) => list_processes(alloc, processor),
-        None => Ok(Listed {
-            high: Items::new(Vec::new(alloc)),
-            low: Items::new(Vec::new(alloc)),
-            waiting: Items::new(Vec::new(alloc)),
-        }),
+    match node.role() {
+        Role::Processor(processor) => list_processes(alloc, processor),
+        Role::Source(_) => Ok(none_listed(alloc)),
+        Role::Sink(_) => Ok(none_listed(alloc)),
+    }
+}
+
+/// No processes. It takes no memory.
+fn none_listed(alloc: Global) -> Listed
+    ensures { result ≡ record { high = []; low = []; waiting = [] } }
+{
+    Listed {
+        high: Items::new(Vec::new(alloc)),
+        low: Items::new(Vec::new(alloc)),
+        waiting: Items::new(Vec::new(alloc)),
     }
 }
 

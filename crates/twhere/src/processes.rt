@@ -2,7 +2,7 @@
 
 ghost use Rattle.std.specs.Prelude.{◌≡◌, ◌<◌, ◌%◌, ◌^◌, IfSome};
 ghost use Rattle.tfiles.specs.Outputs.{Tells};
-ghost use Rattle.twhere.specs.Wheres as spec;
+ghost use Rattle.twhere.specs.Standing as spec;
 
 use crate::facts::{put_fetched, put_place, put_word, put_word_fact};
 use tcpu::Registers;

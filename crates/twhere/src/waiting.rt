@@ -2,7 +2,7 @@
 
 ghost use Rattle.tlink.specs.Node.{counts_at, input_at, output_at};
 ghost use Rattle.tfiles.specs.Outputs.{Tells};
-ghost use Rattle.twhere.specs.Wheres as spec;
+ghost use Rattle.twhere.specs.Standing as spec;
 
 use crate::facts::{put_place, put_word};
 use crate::processor_node::ProcessorNode;

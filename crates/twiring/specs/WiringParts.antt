@@ -66,11 +66,12 @@ value_or absent f (Some d) = f d
 abbrev pub required : {A : Type 0} → (Data → Reading A) → List ℕ → Members → Reading A
 required f key t = value_or (Err MissingKey) f (get_member key t)
 
--- a number of 32 bits
+-- the number that an integer is, if it has 32 bits
 abbrev pub number : ℤ → Reading ℕ
 number (pos n) = if nat_lt n (2 ^ 32) then Ok n else Err BadNumber
 number (negsuc n) = Err BadNumber
 
+-- the number of 32 bits that a value is
 abbrev pub number_in : Data → Reading ℕ
 number_in (integer z) = number z
 number_in _ = Err WrongType
@@ -91,32 +92,36 @@ abbrev pub node_kind : Reading ℕ → Reading Kind
 node_kind (Ok n) = if n == 2 then Ok Two else if n == 1 then Ok One else Err BadKind
 node_kind (Err f) = Err f
 
+-- the kind of nodes that a value names
 abbrev pub node_kind_in : Data → Reading Kind
 node_kind_in d = node_kind (number_in d)
 
--- a kind of packet
+-- the kind of packets of a text
 abbrev pub kind_of_text : List ℕ → Reading PacketKind
 kind_of_text s =
     if bytes_eq s (codes "ack") then Ok kind.Ack else if bytes_eq s (codes "data") then Ok kind.Data else Err WrongType
 
+-- the kind of packets that a value names
 abbrev pub kind_in : Data → Reading PacketKind
 kind_in (string s) = kind_of_text s
 kind_in _ = Err WrongType
 
--- a message
+-- the bytes of a message, if they are ones
 abbrev pub message : Option (List ℕ) → Reading (List ℕ)
 message (Some bytes) = Ok bytes
 message None = Err BadMessage
 
+-- the message that a value is
 abbrev pub message_in : Data → Reading (List ℕ)
 message_in (string s) = message (message_of s)
 message_in _ = Err WrongType
 
--- the version, which is 1 or 2
+-- a version, which has to be 1 or 2
 abbrev pub version : ℤ → Reading (Unit {0})
 version (pos n) = if n == 1 || n == 2 then Ok tt else Err BadVersion
 version (negsuc n) = Err BadVersion
 
+-- a value that has to be a version
 abbrev pub version_in : Data → Reading (Unit {0})
 version_in (integer z) = version z
 version_in _ = Err WrongType
@@ -195,10 +200,11 @@ head_in t =
 abbrev pub ends_in : Members → Reading (List SourcePlan × List SinkPlan)
 ends_in t = both (array_at source_in (codes "source") t) (array_at sink_in (codes "sink") t)
 
--- nodes, wires, sources, sinks and holds
+-- what the arrays of a wiring are: nodes, wires, sources, sinks and holds
 abbrev pub Arrays : Type 0
 Arrays = (List WiringNode × List Wire) × ((List SourcePlan × List SinkPlan) × List Hold)
 
+-- the arrays of a wiring
 abbrev pub arrays_in : Members → Reading Arrays
 arrays_in t =
     both (both (array_at (node_in (is_first_in t)) (codes "node") t) (array_at wire_in (codes "wire") t))

@@ -4,14 +4,16 @@ ghost use Rattle.std.specs.Prelude.{◌≡◌, Ok, Some, None, [], codes, map, o
 ghost use Rattle.toml.specs.Data.{get_member};
 ghost use Rattle.toml.specs.View.{view, items_view, table_view};
 ghost use Rattle.twiring.specs.Messages.{of_a_message};
-ghost use Rattle.twiring.specs.Wirings.{is_one_of, is_first_in, root_keys_of, node_keys, default_timeslice};
-ghost use Rattle.twiring.specs.Wirings.{wiring_of_text, IsWiringAnswer};
+ghost use Rattle.twiring.specs.Wirings.{is_one_of as spec_is_one_of, is_first_in, root_keys_of, node_keys};
+ghost use Rattle.twiring.specs.Wirings.{default_timeslice, wiring_of_text, IsWiringAnswer};
 ghost use Rattle.twiring.specs.WiringParts as spec;
 
 use hex::FromHexError;
 use std::alloc::Global;
 use toml::{Table, Value};
-use tplan::{End, Hold, PacketKind, SinkPlan, SourcePlan, Wire, Wiring, WiringFault, WiringNode};
+use tplan::{
+    End, FileName, Hold, PacketKind, SinkPlan, SourcePlan, Wire, Wiring, WiringFault, WiringNode,
+};
 use tword::limits::LONGEST_MESSAGE;
 use tword::{Items, Kind};
 
@@ -123,7 +125,7 @@ impl Section for WiringNode {
 
     fn read(alloc: Global, table: &Table, first: bool) -> Reading<WiringNode> {
         known_node_keys(table, first)?;
-        let rest = both(node_kind_at(table), text_at(alloc, table, "image"));
+        let rest = both(node_kind_at(table), name_at(alloc, table, "image"));
         let (memory, (kind, image)) = both(number_at(table, "memory"), rest)?;
         Ok(WiringNode {
             memory,
@@ -265,7 +267,7 @@ fn known_keys(table: &Table, names: &[&str]) -> Reading<()>
 
 /// A key is one of these.
 fn is_one_of(key: &str, names: &[&str]) -> bool
-    ensures { result ≡ is_one_of key.now (map (λ name. name.now) names.now) }
+    ensures { result ≡ spec_is_one_of key.now (map (λ name. name.now) names.now) }
 {
     names.iter().any(|name| *name == key)
 }
@@ -323,11 +325,11 @@ fn kind_at(table: &Table, key: &str) -> Reading<PacketKind>
     kind(required(table, key)?)
 }
 
-/// The text at a key.
-fn text_at(alloc: Global, table: &Table, key: &str) -> Reading<Items<u8>>
+/// The name of a file at a key.
+fn name_at(alloc: Global, table: &Table, key: &str) -> Reading<FileName>
     ensures { IsWiringAnswer (spec.required spec.text_in key.now (table_view table.now)) result }
 {
-    text(alloc, required(table, key)?)
+    name(alloc, required(table, key)?)
 }
 
 /// The messages at a key.
@@ -390,12 +392,12 @@ fn kind(value: &Value) -> Reading<PacketKind>
     }
 }
 
-/// A text, as its bytes.
-fn text(alloc: Global, value: &Value) -> Reading<Items<u8>>
+/// The name of a file.
+fn name(alloc: Global, value: &Value) -> Reading<FileName>
     ensures { IsWiringAnswer (spec.text_in (view value.now)) result }
 {
     match value.as_str() {
-        Some(text) => Ok(Items::new(Vec::from_slice(alloc, text.as_bytes())?)),
+        Some(text) => Ok(FileName::from_str(alloc, text)?),
         None => Err(WiringFault::WrongType),
     }
 }

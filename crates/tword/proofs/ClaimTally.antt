@@ -12,8 +12,9 @@ use Rattle.std.specs.List.{list_any, sum}
 use Rattle.tword.specs.declared.span.Span.{Span}
 use Rattle.tword.specs.Words.{word_below}
 use Rattle.tword.specs.Claims.{overlap, overlaps_claim, saved_words}
-use Rattle.tword.specs.Slots.{word_at, is_among, behind_words, has_word, claims_word, saves_word, claims_in}
-use Rattle.tword.specs.Slots.{saved_in, AreEmpty, Counts, HasRoom, IsEmpty, IsExchanged, IsTally}
+use Rattle.tword.specs.Limits.{most_processes}
+use Rattle.tword.specs.Slots.{lowest_word, word_at, is_among, behind_words, has_word, claims_word, saves_word}
+use Rattle.tword.specs.Slots.{claims_in, saved_in, AreEmpty, Counts, HasRoom, IsEmpty, IsExchanged, IsTally}
 
 -- a number among some, below them, and above them
 among_in : (first behind number : ℕ) → first ≤ number → number < behind → is_among first behind number ≡ 1
@@ -121,8 +122,8 @@ claims_apart cs start size empty =
 pub total_at : (ins outs : List (Option Span)) (ws counts : List ℕ) (word count : ℕ) → IsTally ins outs ws counts
     → Counts counts word count → count ≡ claims_in word ins + claims_in word outs + saved_in word ws
 total_at ins outs ws counts word count is here =
-    let at : word_at (word - 536870912) ≡ word = omega (arith, here.above) in
-    let total = is.counted (word - 536870912) (omega (arith, here.above, here.below)) in
+    let at : word_at (word - lowest_word) ≡ word = omega (arith, here.above) in
+    let total = is.counted (word - lowest_word) (omega (arith, here.above, here.below)) in
     sym here.is ∙ total ∙ ap (λ k. claims_in k ins + claims_in k outs + saved_in k ws) at
 
 -- what an empty word of the table tells
@@ -234,7 +235,7 @@ enough_output ins outs ws counts i before is lt e slot within =
 
 -- the table with the words of one more workspace
 pub tally_push : (ins outs : List (Option Span)) (ws counts new : List ℕ) (w : ℕ) → IsTally ins outs ws counts
-    → length ws < 512 → IsExchanged None (Some (saved_words w)) counts new → IsTally ins outs (w ∷ ws) new
+    → length ws < most_processes → IsExchanged None (Some (saved_words w)) counts new → IsTally ins outs (w ∷ ws) new
 tally_push ins outs ws counts new w is room changed = record {
   counted = λ slot within.
       let old : slot < length counts = omega (arith, within, changed.size) in
@@ -283,7 +284,7 @@ absent_by_count ws w empty =
 
 -- the words of a span, by their slots
 pub clipped : (s : Span) (slot slots first behind : ℕ) → 0 < s.size → slot < slots
-    → first ≡ min slots (s.start / 4 - 536870912) → behind ≡ min slots ((s.start + s.size + 3) / 4 - 536870912)
+    → first ≡ min slots (s.start / 4 - lowest_word) → behind ≡ min slots ((s.start + s.size + 3) / 4 - lowest_word)
     → has_word (word_at slot) s ≡ is_among first behind slot
 clipped s slot slots first behind some lt p q =
     rw (behind_some s some) (among_moved (s.start / 4) ((s.start + s.size + 3) / 4) first behind (word_at slot) slot

@@ -10,6 +10,7 @@ use Rattle.std.proofs.lemmas.List.Sorted.{IsPermutation-reverse, list_any-IsPerm
 use Rattle.std.specs.List.{list_any, sum_by, count_by, swap_remove}
 use Rattle.tword.specs.Words.{word_below}
 use Rattle.tword.specs.Claims.{overlap, saved_words}
+use Rattle.tword.specs.Limits.{most_processes}
 use Rattle.tword.specs.Slots.{IsPlaceIn, AreOnce}
 
 -- a list and its reverse pass a test alike
@@ -50,7 +51,7 @@ count_absent ws w none =
 
 -- the list with one more workspace
 pub once_push : (ws : List ℕ) (w : ℕ) → AreOnce ws
-    → list_any (λ v. overlap (saved_words w) (saved_words v)) (reverse ws) ≡ false → length ws < 512
+    → list_any (λ v. overlap (saved_words w) (saved_words v)) (reverse ws) ≡ false → length ws < most_processes
     → AreOnce (ws ++ w ∷ [])
 once_push ws w is apart room =
     record {

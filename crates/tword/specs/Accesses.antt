@@ -4,19 +4,14 @@ use Rattle.std.specs.Prelude.{ℕ, ◌≡◌, ◌≤◌, ◌<◌, ◌+◌, ◌%�
 use Rattle.std.specs.Prelude.{replicate, slice_set}
 use Rattle.tword.specs.declared.breaks.Break.{Break}
 use Rattle.tword.specs.declared.kind.Kind.{Kind}
-use Rattle.tword.specs.declared.kind.Kind.TheVariants.{One, Two}
 use Rattle.tword.specs.declared.span.Span.{Span}
+use Rattle.tword.specs.Limits.{largest_memory, smallest_memory}
 use Rattle.tword.specs.Words.{mem_start, word_below}
 use Rattle.tword.specs.Claims.{Claims, has_saved}
 
--- the greatest number of bytes of a memory of a kind
-abbrev pub largest_memory : Kind → ℕ
-largest_memory One = 1048576
-largest_memory Two = 16777216
-
 -- how many bytes a memory of a kind may have: what kind 1 may have kind 2 may have too
 abbrev pub IsMemorySize : Kind → ℕ → Type 0
-IsMemorySize kind size = (2048 ≤ size) × (size ≤ largest_memory kind) × (size % 4 ≡ 0)
+IsMemorySize kind size = (smallest_memory ≤ size) × (size ≤ largest_memory kind) × (size % 4 ≡ 0)
 
 -- a change is made, or its break is named and nothing changes
 abbrev pub Changing : {X : Type 0} → Option Break → X → X → Result (Unit {0}) Break → X → Type 0

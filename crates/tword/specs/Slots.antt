@@ -5,15 +5,21 @@ use Rattle.std.specs.Prelude.{reverse, nat_lt, if◌then◌else◌}
 use Rattle.std.specs.List.{sum_by, count_by}
 use Rattle.tword.specs.declared.span.Span.{Span}
 use Rattle.tword.specs.Claims.{saved_words}
+use Rattle.tword.specs.Limits.{most_processes}
+use Rattle.tword.specs.Words.{minus, most_neg}
 
--- the number of the word at a slot of the table: words are numbered from address 0 on, and slot 0 has the lowest one of
--- a memory, at #80000000
+-- the number of the lowest word of a memory, at #80000000: words are numbered from address 0 on, and as many lie from
+-- there on as before
+abbrev pub lowest_word : ℕ
+lowest_word = 536870912
+
+-- the number of the word at a slot of the table: slot 0 has the lowest one
 abbrev pub word_at : ℕ → ℕ
-word_at slot = 536870912 + slot
+word_at slot = lowest_word + slot
 
 -- the slot of the word at an address: where that lies below #80000000, one that no table has
 abbrev pub slot_of : ℕ → ℕ
-slot_of address = (address + 2147483648) % 4294967296 / 4
+slot_of address = minus address most_neg / 4
 
 -- 1 where a number is among those from the first one up to that before behind, else 0
 abbrev pub is_among : (first behind number : ℕ) → ℕ
@@ -46,9 +52,9 @@ saved_in word workspaces = sum_by (saves_word word) workspaces
 
 -- the table has the word of this number, with this count
 pub record Counts (counts : List ℕ) (word count : ℕ) : Type 0 where
-  pub above : 536870912 ≤ word
+  pub above : lowest_word ≤ word
   pub below : word < word_at (length counts)
-  pub is : slice_index counts (word - 536870912) ≡ count
+  pub is : slice_index counts (word - lowest_word) ≡ count
 
 -- the table has the word of this number, and no claim has that word
 abbrev pub IsEmpty : List ℕ → ℕ → Type 0
@@ -58,13 +64,13 @@ IsEmpty counts word = Counts counts word 0
 abbrev pub AreEmpty : List ℕ → Span → Type 0
 AreEmpty counts span = (k : ℕ) → span.start / 4 ≤ k → k < (span.start + span.size + 3) / 4 → IsEmpty counts k
 
--- the table counts the claims of four inputs, of four outputs and of 512 workspaces at most
+-- the table counts the claims of four inputs, of four outputs and of the workspaces of a node's processes
 pub record IsTally (ins outs : List (Option Span)) (workspaces counts : List ℕ) : Type 0 where
   pub counted : (slot : ℕ) → slot < length counts → slice_index counts slot
       ≡ claims_in (word_at slot) ins + claims_in (word_at slot) outs + saved_in (word_at slot) workspaces
   pub inputs : length ins ≡ 4
   pub outputs : length outs ≡ 4
-  pub saved : length workspaces ≤ 512
+  pub saved : length workspaces ≤ most_processes
 
 -- no count is the largest one
 abbrev pub HasRoom : List ℕ → Type 0
@@ -83,4 +89,4 @@ IsPlaceIn saved i workspace = (i < length saved) × (slice_index (reverse saved)
 -- each workspace stands once
 pub record AreOnce (workspaces : List ℕ) : Type 0 where
   pub once : (w : ℕ) → count_by (λ v. v == w) workspaces ≤ 1
-  pub few : length workspaces ≤ 512
+  pub few : length workspaces ≤ most_processes

@@ -1,12 +1,13 @@
 //! The bytes of a memory.
 
 ghost use Rattle.std.specs.Prelude.{◌≡◌, ◌↔◌, ◌≤◌, ◌+◌, ◌∷◌, [], ◌++◌, take, drop, Some, IfOk, OnOk, IsErrOf};
-ghost use Rattle.std.specs.Prelude.{length, replicate, slice_range, unwrap_or, true};
+ghost use Rattle.std.specs.Prelude.{length, replicate, slice_range, unwrap_or, is_some, true};
 ghost use Rattle.tword.specs.Accesses.{Changing, IsMemorySize};
 ghost use Rattle.tword.specs.declared.kind.Kind.TheVariants.{Two};
 ghost use Rattle.tword.specs.Actions.{or_break};
 ghost use Rattle.std.specs.Int.{w32, from_le_bytes, to_le_bytes};
-ghost use Rattle.tword.specs.Stores.{as_cells, word_at, with_word, cells, with_cells, byte_at, place as the_place};
+ghost use Rattle.tword.specs.Stores.{as_cells, word_at, with_word, cells, with_cells, byte_at};
+ghost use Rattle.tword.specs.Stores as spec;
 ghost use Rattle.tword.specs.Touches.{Reads, Writes, span_break, word_break, is_inside, word_span, byte_span};
 ghost use Rattle.tword.specs.Words.{most_neg};
 
@@ -42,8 +43,8 @@ impl Model for Bytes {
 }
 
 impl Bytes {
-    /// A memory of zeros. The size is a multiple of 4 between 2,048 and the greatest of a memory of this kind (own
-    /// choice).
+    /// A memory of zeros. The size is a multiple of 4 between `SMALLEST_MEMORY` and the greatest of a memory of this
+    /// kind (own choice).
     ///
     /// # Errors
     /// `BadSize` for any other size, and else `OutOfMemory` where the allocator refuses.
@@ -202,6 +203,19 @@ impl Bytes {
         self.bytes[place(address)]
     }
 
+    /// The byte at an address, and `None` outside the memory alone.
+    #[inline]
+    pub fn byte_at(&self, address: Word) -> Option<u8>
+        ensures byte { result ≡ byte_at self.now address }
+        ensures there { is_some result ≡ is_inside (length self.now) (byte_span address) }
+    {
+        if MOST_NEG <= address.get() && address.get() - MOST_NEG < self.size() {
+            Some(self.byte(address))
+        } else {
+            None
+        }
+    }
+
     /// Sets the byte at an address, for a caller that has checked it.
     #[inline(always)]
     pub fn set_byte(&mut self, address: Word, value: u8)
@@ -247,7 +261,7 @@ impl Bytes {
 #[inline(always)]
 fn place(address: Word) -> usize
     requires { most_neg ≤ address }
-    ensures { result ≡ the_place address }
+    ensures { result ≡ spec.place address }
 {
     address.get().wrapping_sub(MOST_NEG) as usize
 }

@@ -172,7 +172,7 @@ impl Bytes {
     {
         // No memory ends at the last address.
         let _ = self.size();
-        let lowest = workspace.minus(Word::new(12));
+        let lowest = workspace.below(3);
         if lowest.get() % 4 == 0
             && self.lies_open(lowest, 12).is_ok()
             && marks.are_three_clear(lowest)
@@ -190,8 +190,8 @@ impl Bytes {
     fn may_deschedule_closely(&self, marks: &Marks, workspace: Word) -> Result<(), Break>
         ensures { result ≡ or_break (deschedule_break (length self.now) marks.now workspace) tt }
     {
-        self.may_write_word(marks, workspace.minus(Word::new(12)))?;
-        self.may_write_word(marks, workspace.minus(Word::new(8)))?;
-        self.may_write_word(marks, workspace.minus(Word::new(4)))
+        self.may_write_word(marks, workspace.below(3))?;
+        self.may_write_word(marks, workspace.below(2))?;
+        self.may_write_word(marks, workspace.below(1))
     }
 }

@@ -2,16 +2,22 @@
 
 ghost use Rattle.std.specs.Prelude.{◌≡◌, ◌+◌, ◌-◌, ◌%◌, ◌/◌, ◌*◌, ◌<◌, ◌≤◌, IfOk, IfSome, ℕ, length, slice_index};
 ghost use Rattle.std.specs.Prelude.{None, Some, replicate, sum, true};
-ghost use Rattle.tword.specs.Slots.{word_at, slot_of, is_among, has_word, claims_word};
+ghost use Rattle.tword.specs.Slots.{word_at, lowest_word, is_among, has_word};
+ghost use Rattle.tword.specs.Slots as spec;
 ghost use Rattle.tword.specs.Slots.{AreEmpty, Counts, HasRoom, IsEmpty, IsExchanged};
 
+use crate::limits::MOST_NEG;
 use crate::span::Span;
 use crate::word::Word;
 use std::alloc::{AllocError, Global};
 use std::marker::Model;
 
-/// The number of the word at #80000000, the lowest of a memory. Words are numbered from address 0 on.
+/// The number of the word at #80000000, the lowest of a memory. Words are numbered from address 0 on, and as many lie
+/// from there on as before.
 const LOWEST: u64 = 1 << 29;
+
+/// How many counts are added up at most: their sum has 32 bits.
+const MOST_ADDED: u64 = 65_536;
 
 /// For each word of a memory, how many claims have a byte of it: a touch of a word that none has needs no further look.
 /// Words that are not in the table are not counted. Contracts see the counts by slot, the lowest word at slot 0.
@@ -22,12 +28,13 @@ pub struct ClaimTable {
 
 impl Model for ClaimTable {
     ghost use Rattle.std.specs.Prelude.{◌≤◌, ℕ, List, length};
+    ghost use Rattle.tword.specs.Slots.{lowest_word};
 
     ghost Value = { List ℕ };
 
     ghost view = { λ t. t.counts.items };
 
-    ghost invariant = { λ t. length t.counts.items ≤ 536870912 };
+    ghost invariant = { λ t. length t.counts.items ≤ lowest_word };
 }
 
 impl ClaimTable {
@@ -35,7 +42,7 @@ impl ClaimTable {
     pub fn new(alloc: Global, size: u32) -> Result<ClaimTable, AllocError>
         ensures { IfOk result (λ t. (slot : ℕ) → slot < length t → slice_index t slot ≡ 0) }
     {
-        let words = (size / 4).min(1 << 29);
+        let words = (size / 4).min(LOWEST as u32);
         Ok(ClaimTable {
             counts: vec![in alloc; 0; words as usize]?,
         })
@@ -73,14 +80,17 @@ impl ClaimTable {
             && self.counts[first + 2] == 0
     }
 
-    /// Whether words in a row, 65,536 at most, are all counted, and no claim has one of them.
+    /// Whether words in a row, `MOST_ADDED` at most, are all counted, and no claim has one of them.
     pub fn are_empty(&self, first: u64, behind: u64) -> bool
         ensures { result ≡ true → (k : ℕ) → first ≤ k → k < behind → IsEmpty self.now k }
     {
         if behind <= first {
             return true;
         }
-        if first < LOWEST || behind - LOWEST > self.counts.len() as u64 || behind - first > 65_536 {
+        if first < LOWEST
+            || behind - LOWEST > self.counts.len() as u64
+            || behind - first > MOST_ADDED
+        {
             return false;
         }
         sum_of(&self.counts[(first - LOWEST) as usize..(behind - LOWEST) as usize]) == 0
@@ -133,7 +143,7 @@ impl ClaimTable {
     /// What a link claims comes in the place of what it claimed before.
     pub fn exchange(&mut self, before: &Option<Span>, claim: &Option<Span>)
         requires some { (slot : ℕ) → slot < length self.old
-            → claims_word (word_at slot) before.now ≤ slice_index self.old slot }
+            → spec.claims_word (word_at slot) before.now ≤ slice_index self.old slot }
         requires room { HasRoom self.old }
         ensures { IsExchanged before.now claim.now self.old self.new }
     {
@@ -149,14 +159,14 @@ impl ClaimTable {
 /// The slot of the word at an address; where that lies below #80000000, one that no table has.
 #[inline]
 fn slot_of(address: u32) -> usize
-    ensures { result ≡ slot_of address }
+    ensures { result ≡ spec.slot_of address }
 {
-    (address.wrapping_sub(0x8000_0000) / 4) as usize
+    (address.wrapping_sub(MOST_NEG) / 4) as usize
 }
 
 /// The sum of some counts, of all of them and without a look at each, so that several are added at a time.
 fn sum_of(counts: &[u16]) -> u32
-    requires { length counts.now ≤ 65536 }
+    requires { length counts.now ≤ MOST_ADDED }
     ensures { result ≡ sum counts.now }
 {
     counts.iter().map(|count| u32::from(*count)).sum()
@@ -181,7 +191,7 @@ fn slots_of(span: &Span, slots: usize) -> (usize, usize)
 /// 1 where a claim has a byte of the word of this number, else 0.
 #[inline]
 pub fn claims_word(claim: &Option<Span>, word: u64) -> u16
-    ensures is { result ≡ claims_word word claim.now }
+    ensures is { result ≡ spec.claims_word word claim.now }
     ensures one { result ≤ 1 }
 {
     match claim {
@@ -196,8 +206,8 @@ pub fn claims_word(claim: &Option<Span>, word: u64) -> u16
 /// Whether a span is three whole words, as those of a workspace are, which have slots from the first on.
 #[inline]
 fn has_three_in_a_row(span: &Span, first: usize, slots: usize) -> bool
-    requires slots { slots ≤ 536870912 }
-    requires first { first ≡ slot_of span.now.start }
+    requires slots { slots ≤ lowest_word }
+    requires first { first ≡ spec.slot_of span.now.start }
     ensures within { result ≡ true → first + 3 ≤ slots }
     ensures are { result ≡ true → (slot : ℕ) → slot < slots
         → has_word (word_at slot) span.now ≡ is_among first (first + 3) slot }
@@ -222,7 +232,8 @@ fn count_three_up(counts: &mut [u16], first: usize)
 #[inline(always)]
 fn count_three_down(counts: &mut [u16], first: usize)
     requires within { first + 3 ≤ length counts.old }
-    requires some { (slot : ℕ) → slot < length counts.old → is_among first (first + 3) slot ≤ slice_index counts.old slot }
+    requires some { (slot : ℕ) → slot < length counts.old
+        → is_among first (first + 3) slot ≤ slice_index counts.old slot }
     ensures { (slot : ℕ) → slot < length counts.old
         → slice_index counts.new slot + is_among first (first + 3) slot ≡ slice_index counts.old slot }
 {

@@ -37,6 +37,12 @@ pub const MOST_WORKERS: usize = 64;
 /// How many steps a timeslice has at most (own choice).
 pub const LONGEST_TIMESLICE: u32 = 65_536;
 
+/// How many Runs a slice of a round or turn has at most (own choice).
+pub const LONGEST_SLICE: u32 = 65_536;
+
+/// How many holds some rounds have at most (own choice).
+pub const MOST_HOLDS: usize = 256;
+
 /// How many messages a source has at most (own choice).
 pub const MOST_MESSAGES: usize = 256;
 
@@ -45,3 +51,6 @@ pub const LONGEST_MESSAGE: usize = 4_096;
 
 /// How many bytes a sink takes at most (own choice).
 pub const LARGEST_CAPACITY: u32 = 65_536;
+
+/// How many bytes of a file are read at most (own choice): 1 GiB.
+pub const LONGEST_FILE: usize = 1_073_741_824;

@@ -4,8 +4,9 @@ ghost use Rattle.std.specs.Prelude.{◌≡◌, ◌+◌, ◌<◌, ◌≤◌, ◌^
 ghost use Rattle.std.specs.Prelude.{length, true, false};
 ghost use Rattle.std.specs.List.{list_any};
 ghost use Rattle.tword.specs.Claims.{overlaps_claim};
-ghost use Rattle.tword.specs.Hulls.{IsWithin, AreWithin, bounds_of, meets};
-ghost use Rattle.tword.specs.Slots.{claims_in};
+ghost use Rattle.tword.specs.Bounds.{IsWithin, AreWithin, meets};
+ghost use Rattle.tword.specs.Bounds as spec;
+ghost use Rattle.tword.specs.Slots.{claims_in as spec_claims_in};
 
 use crate::claim_table::claims_word;
 use crate::span::Span;
@@ -30,7 +31,7 @@ impl Model for LinkBuffers {
     ghost use Rattle.std.specs.Prelude.{List, Option};
     ghost use Rattle.tword.specs.declared.span.Span.{Span};
     ghost use Rattle.std.specs.Prelude.{◌≡◌, map};
-    ghost use Rattle.tword.specs.Hulls.{AreWithin, bounds_of};
+    ghost use Rattle.tword.specs.Bounds.{AreWithin, bounds_of};
 
     ghost Value = { List (Option Span) };
 
@@ -59,7 +60,7 @@ fn widened(bounds: (u64, u64), claim: &Option<Span>) -> (u64, u64)
 
 /// The bounds of what is claimed, or bounds that have room for nothing.
 fn bounds_of(claim: &Option<Span>) -> (u64, u64)
-    ensures { result ≡ bounds_of claim.now }
+    ensures { result ≡ spec.bounds_of claim.now }
 {
     match claim {
         Some(span) if span.size != 0 => span.bounds(),
@@ -68,7 +69,7 @@ fn bounds_of(claim: &Option<Span>) -> (u64, u64)
 }
 
 /// Bounds of all that is claimed: the least address and the one behind the last.
-fn hull(claimed: &[Option<Span>]) -> (u64, u64)
+fn bounds_of_all(claimed: &[Option<Span>]) -> (u64, u64)
     ensures { AreWithin result.0 result.1 claimed.now }
 {
     let mut bounds = NOTHING;
@@ -81,7 +82,7 @@ fn hull(claimed: &[Option<Span>]) -> (u64, u64)
 /// How many of some claims have the word of this number.
 fn claims_in(claimed: &[Option<Span>], word: u64) -> u16
     requires { length claimed.now ≡ 4 }
-    ensures is { result ≡ claims_in word claimed.now }
+    ensures is { result ≡ spec_claims_in word claimed.now }
     ensures few { result ≤ 4 }
 {
     let mut count = 0;
@@ -148,7 +149,7 @@ impl LinkBuffers {
 
     /// How many of the buffers have a byte of the word of this number.
     pub fn count(&self, word: u64) -> u16
-        ensures is { result ≡ claims_in word self.now }
+        ensures is { result ≡ spec_claims_in word self.now }
         ensures few { result ≤ 4 }
     {
         claims_in(&self.claimed, word)
@@ -181,7 +182,7 @@ impl LinkBuffers {
         let before = self.claimed[usize::from(link)];
         self.bounds[usize::from(link)] = bounds_of(&claim);
         self.claimed[usize::from(link)] = claim;
-        (self.low, self.high) = hull(&self.claimed);
+        (self.low, self.high) = bounds_of_all(&self.claimed);
         before
     }
 }

@@ -6,6 +6,7 @@ ghost use Rattle.tword.specs.Accesses.{Changing, Frees, IsClaimableWorkspace, no
 ghost use Rattle.tword.specs.Accesses.{without_input, without_output};
 ghost use Rattle.tword.specs.Actions.{or_break};
 ghost use Rattle.tword.specs.Claims.{saving, saved_words, has_saved, is_saved};
+ghost use Rattle.tword.specs.Limits.{most_processes};
 ghost use Rattle.tword.specs.Slots.{IsPlaceIn, saved_in};
 ghost use Rattle.tword.specs.Touches.{Reads, Writes, claim_break};
 ghost use Rattle.tword.specs.Words.{word_below};
@@ -13,7 +14,7 @@ ghost use Rattle.tword.specs.Words.{word_below};
 use crate::breaks::{Break, MemoryFault};
 use crate::claim_table::ClaimTable;
 use crate::link_buffers::LinkBuffers;
-use crate::saved::{Saved, saved_words_of, words_below};
+use crate::saved::Saved;
 use crate::span::Span;
 use crate::word::Word;
 use std::alloc::Global;
@@ -47,8 +48,9 @@ impl Model for Marks {
 }
 
 impl Marks {
-    /// No claims, and room for those of four inputs, four outputs and 512 workspaces: no other call takes memory. A
-    /// claim in a memory of so many bytes is found in constant time; for another one, all are gone over.
+    /// No claims, and room for those of four inputs, four outputs and the workspaces of all processes: no other call
+    /// takes memory. A claim in a memory of so many bytes is found in constant time; for another one, all are gone
+    /// over.
     ///
     /// # Errors
     /// `OutOfMemory` where the allocator refuses.
@@ -107,7 +109,7 @@ impl Marks {
         ensures found { IfSome result (λ i. IsPlaceIn self.now.saved i workspace) }
         ensures none { result ≡ None → has_saved self.now workspace ≡ false }
     {
-        if self.saves_none_in(u64::from(words_below(workspace).get() / 4) + 2) {
+        if self.saves_none_in(u64::from(workspace.below(3).get() / 4) + 2) {
             return None;
         }
         self.saved.position(workspace)
@@ -247,11 +249,11 @@ impl Marks {
     /// The breaks of `may_write` for these words; nothing is changed then.
     pub fn claim_saved(&mut self, workspace: Word) -> Result<(), Break>
         requires workspace { IsClaimableWorkspace workspace }
-        requires room { length self.old.saved < 512 }
+        requires room { length self.old.saved < most_processes }
         ensures { Changing (claim_break self.old Writes (saved_words workspace)) self.old
             (saving workspace self.old) result self.new }
     {
-        self.may_write(words_below(workspace), 12)?;
+        self.may_write(workspace.below(3), 12)?;
         self.claim_saved_known(workspace);
         Ok(())
     }
@@ -288,11 +290,11 @@ impl Marks {
     /// Claims the three words below a workspace, for a caller that knows that it may.
     pub fn claim_saved_known(&mut self, workspace: Word)
         requires workspace { IsClaimableWorkspace workspace }
-        requires room { length self.old.saved < 512 }
+        requires room { length self.old.saved < most_processes }
         requires free { claim_break self.old Writes (saved_words workspace) ≡ None }
         ensures { self.new ≡ saving workspace self.old }
     {
-        self.table.raise(&saved_words_of(workspace));
+        self.table.raise(&Span::saved_words(workspace));
         self.saved.insert(workspace);
     }
 
@@ -325,7 +327,7 @@ impl Marks {
     {
         if let Some(place) = self.place_of(workspace) {
             let removed = self.saved.remove(place);
-            self.table.lower(&saved_words_of(removed));
+            self.table.lower(&Span::saved_words(removed));
         }
     }
 

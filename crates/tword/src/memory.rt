@@ -35,8 +35,8 @@ impl Model for Memory {
 }
 
 impl Memory {
-    /// A memory of zeros, of a node of this kind. Its size is a multiple of 4 between 2,048 and 1,048,576 bytes, for
-    /// kind 2 up to 16,777,216 (own choice).
+    /// A memory of zeros, of a node of this kind. Its size is a multiple of 4 between `SMALLEST_MEMORY` and the
+    /// greatest of a memory of this kind (own choice).
     ///
     /// # Errors
     /// `BadSize` for any other size, and else `OutOfMemory` where the allocator refuses.

@@ -4,9 +4,10 @@ ghost use Rattle.std.specs.Prelude.{◌≡◌, ◌+◌, ◌<◌, ◌≤◌, ◌=
 ghost use Rattle.std.specs.Prelude.{true, false, None, vec_len, slice_index, reverse, ℕ, []};
 ghost use Rattle.std.specs.List.{list_any};
 ghost use Rattle.tword.specs.Claims.{overlap, saved_words};
+ghost use Rattle.tword.specs.Limits.{most_processes};
 ghost use Rattle.tword.specs.Slots.{IsPlaceIn, saved_in, saves_word};
-ghost use Rattle.tword.specs.Words.{word_below};
 
+use crate::hints::Hints;
 use crate::limits::MOST_PROCESSES;
 use crate::span::Span;
 use crate::word::Word;
@@ -16,16 +17,16 @@ use std::marker::Model;
 /// The workspaces of the processes that are queued or wait. Contracts see them as a list, the one that came last at
 /// its head.
 ///
-/// `places` has for each two words of a memory where a workspace there was last put: a place to look first. Two whose
-/// words are saved lie three words apart or more.
+/// The hints tell where to look first for a workspace.
 #[derive(Drop)]
 pub struct Saved {
     workspaces: Vec<Word>,
-    places: Vec<u16>,
+    hints: Hints,
 }
 
 impl Model for Saved {
     ghost use Rattle.std.specs.Prelude.{ℕ, List, reverse};
+    ghost use Rattle.tword.specs.Limits.{most_processes};
     ghost use Rattle.tword.specs.Slots.{AreOnce};
     ghost use Rattle.std.specs.Prelude.{◌≤◌, vec_capacity};
 
@@ -33,29 +34,29 @@ impl Model for Saved {
 
     ghost view = { λ s. reverse s.workspaces.items };
 
-    ghost invariant = { λ s. AreOnce s.workspaces.items × (512 ≤ vec_capacity s.workspaces) };
+    ghost invariant = { λ s. AreOnce s.workspaces.items × (most_processes ≤ vec_capacity s.workspaces) };
 }
 
 impl Saved {
-    /// A list without workspaces, with room for 512, in a memory of so many bytes. A workspace may begin behind its
-    /// end.
+    /// A list without workspaces, with room for those of all processes, in a memory of so many bytes. A workspace may
+    /// begin behind its end.
     pub fn new(alloc: Global, size: u32) -> Result<Saved, AllocError>
         ensures { IfOk result (λ s. s ≡ []) }
     {
         Ok(Saved {
             workspaces: Vec::with_capacity(alloc, MOST_PROCESSES)?,
-            places: vec![in alloc; 0; size as usize / 8 + 1]?,
+            hints: Hints::new(alloc, size)?,
         })
     }
 
-    /// A copy of the list, with room for 512.
+    /// A copy of the list, with room for those of all processes.
     pub fn try_copy(&self, alloc: Global) -> Result<Saved, AllocError>
         ensures { IfOk result (λ s. s ≡ self.now) }
     {
         let mut workspaces = Vec::with_capacity(alloc, MOST_PROCESSES)?;
         workspaces.extend_from_slice(self.workspaces.as_slice())?;
-        let places = Vec::from_slice(alloc, self.places.as_slice())?;
-        Ok(Saved { workspaces, places })
+        let hints = self.hints.try_copy(alloc)?;
+        Ok(Saved { workspaces, hints })
     }
 
     /// The number of workspaces.
@@ -66,12 +67,12 @@ impl Saved {
         self.workspaces.len()
     }
 
-    /// Where a workspace stands in the list, by its hint; where it has none, or the hint tells of another, nothing.
+    /// Where a workspace stands in the list, by its hint; nothing where the hint tells of another one.
     #[inline]
     pub fn noted(&self, workspace: Word) -> Option<usize>
         ensures { IfSome result (λ i. IsPlaceIn self.now i workspace) }
     {
-        let place = usize::from(*self.places.get(hint_of(workspace))?);
+        let place = usize::from(self.hints.of(workspace));
         if place < self.workspaces.len() && self.workspaces[place] == workspace {
             return Some(place);
         }
@@ -98,11 +99,11 @@ impl Saved {
 
     /// The words of one more workspace are saved.
     pub fn insert(&mut self, workspace: Word)
-        requires room { length self.old < 512 }
+        requires room { length self.old < most_processes }
         requires apart { list_any (λ w. overlap (saved_words workspace) (saved_words w)) self.old ≡ false }
         ensures { self.new ≡ workspace ∷ self.old }
     {
-        put(&mut self.places, workspace, self.workspaces.len());
+        self.hints.note(workspace, self.workspaces.len() as u16);
         self.workspaces.push_reserved(workspace);
     }
 
@@ -117,7 +118,7 @@ impl Saved {
         ensures words { (word : ℕ) → saved_in word self.new + saves_word word result ≡ saved_in word self.old }
     {
         let workspace = self.workspaces.swap_remove(place);
-        put_back(&mut self.places, self.workspaces.as_slice(), place);
+        note_moved(&mut self.hints, self.workspaces.as_slice(), place);
         workspace
     }
 }
@@ -139,58 +140,14 @@ fn position(list: &[Word], workspace: Word) -> Option<usize>
 fn any_overlaps(list: &[Word], span: &Span) -> bool
     ensures { result ≡ list_any (λ w. overlap span.now (saved_words w)) list.now }
 {
-    list.iter().any(|w| span.overlaps(&saved_words_of(*w)))
+    list.iter().any(|w| span.overlaps(&Span::saved_words(*w)))
 }
 
-/// The address of the word so many words below a workspace.
-#[inline]
-pub fn word_below(workspace: Word, count: u32) -> u32
-    requires { count ≤ 3 }
-    ensures { result ≡ word_below workspace count }
-{
-    workspace.get().wrapping_sub(4 * count)
-}
-
-/// The address of the lowest of the three words below a workspace.
-#[inline]
-pub fn words_below(workspace: Word) -> Word
-    ensures { result ≡ word_below workspace 3 }
-{
-    Word::new(word_below(workspace, 3))
-}
-
-/// The three words below a workspace.
-#[inline]
-pub fn saved_words_of(workspace: Word) -> Span
-    ensures { result ≡ saved_words workspace }
-{
-    Span {
-        start: words_below(workspace),
-        size: 12,
-    }
-}
-
-/// The place to look first for the workspace that has come there, if one has.
-fn put_back(places: &mut Vec<u16>, workspaces: &[Word], place: usize)
-    requires { place < 65536 }
+/// Notes where the workspace stands that has come to a place, if one has.
+fn note_moved(hints: &mut Hints, workspaces: &[Word], place: usize)
+    requires { place < most_processes }
 {
     if place < workspaces.len() {
-        put(places, workspaces[place], place);
+        hints.note(workspaces[place], place as u16);
     }
-}
-
-/// The place to look first for a workspace.
-#[inline]
-fn put(places: &mut Vec<u16>, workspace: Word, place: usize)
-    requires { place < 65536 }
-{
-    if let Some(hint) = places.get_mut(hint_of(workspace)) {
-        *hint = place as u16;
-    }
-}
-
-/// Where the hint for a workspace stands, if it has one.
-#[inline]
-fn hint_of(workspace: Word) -> usize {
-    (workspace.get().wrapping_sub(0x8000_0000) / 8) as usize
 }

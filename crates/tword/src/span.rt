@@ -1,7 +1,7 @@
 //! Bytes in a row.
 
 ghost use Rattle.std.specs.Prelude.{◌≡◌, ◌+◌, ◌<◌, ◌^◌};
-ghost use Rattle.tword.specs.Claims.{overlap};
+ghost use Rattle.tword.specs.Claims.{overlap, saved_words};
 
 use crate::word::Word;
 
@@ -15,6 +15,17 @@ pub struct Span {
 }
 
 impl Span {
+    /// The three words below a workspace.
+    #[inline]
+    pub fn saved_words(workspace: Word) -> Span
+        ensures { result ≡ saved_words workspace }
+    {
+        Span {
+            start: workspace.below(3),
+            size: 12,
+        }
+    }
+
     /// The address of the span's first byte and that behind its last, as whole numbers.
     #[inline(always)]
     pub(crate) fn bounds(&self) -> (u64, u64)

@@ -26,8 +26,9 @@ use Rattle.clap.specs.declared.parser.matches.ArgMatches.{ArgMatches}
 use Rattle.clap.specs.declared.parser.matches.ArgMatches.TheViews.{out-ArgMatches, out-SubCommand}
 use Rattle.std.specs.Box.{box_value}
 use Rattle.clap.proofs.ValueTestLemmas.{accepts-Accepts}
-use Rattle.twords.specs.CommandLines.{HasAll, HasNumber, HasParsed, HasText, HasWanted, IsWhole, between, program}
-use Rattle.twords.specs.CommandLines.{commands, name_of, named, rules_of, shape_of}
+use Rattle.twords.specs.Arguments.{HasAll, HasNumber, HasParsed, HasText, HasWanted, between}
+use Rattle.twords.specs.Table.{commands, name_of, rules_of}
+use Rattle.twords.specs.CommandLines.{IsWhole, program, named, shape_of}
 use Rattle.twords.specs.declared.table.Which.{Which}
 use Rattle.twords.proofs.AcceptedRows.{Each, IsFit, Holds, Rows, each_found, neither}
 use Rattle.twords.proofs.LevelRows.{Found, default_found, level_passes, required_found, subcommand_wanted}

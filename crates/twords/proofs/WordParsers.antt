@@ -9,7 +9,8 @@ use Rattle.std.specs.Prelude.{◌||◌}
 use Rattle.clap.specs.Words.{AddsArg, AddsSubcommand, App, Rule, Shape, app_of, rule_of, with_rule, with_subcommand, Text}
 use Rattle.clap.specs.declared.builder.arg.Arg.{Arg}
 use Rattle.clap.specs.declared.builder.command.Command.{Command as Parser}
-use Rattle.twords.specs.CommandLines.{HasShape, IsLocal, name_of, rule_of_row, shape_of, with_rows}
+use Rattle.twords.specs.Table.{name_of}
+use Rattle.twords.specs.CommandLines.{HasShape, IsLocal, rule_of_row, shape_of, with_rows}
 use Rattle.twords.specs.declared.table.Argument.{Argument}
 use Rattle.twords.specs.declared.table.Which.{Which}
 

@@ -15,7 +15,7 @@ use Rattle.clap.specs.declared.parser.matches.ArgMatches.{ArgMatches}
 use Rattle.clap.proofs.CallerReads.{signed_reads}
 use Rattle.clap.proofs.ValueTestLemmas.{accepts-Accepts, Accepts-accepts}
 use Rattle.clap.proofs.WalkLemmas.{first_value-rows, one_text-rows}
-use Rattle.twords.specs.CommandLines.{HasNumber, HasText, number_at, text_at}
+use Rattle.twords.specs.Arguments.{HasNumber, HasText, number_at, text_at}
 
 -- the text of an argument that has one
 pub text_read : (m : ArgMatches) (id : Text) (r : Option (Bor Text))

@@ -1,2 +1,4 @@
--- What the words of the command line mean.
+-- The words of the command line, and the commands that they stand for.
+pub mod Arguments
+pub mod Table
 pub mod CommandLines

@@ -1,7 +1,7 @@
 //! The word `help`.
 
 ghost use Rattle.std.specs.Prelude.{◌≡◌, IfOk, map};
-ghost use Rattle.twords.specs.CommandLines.{asking_help, with_help_option};
+ghost use Rattle.twords.specs.CommandLines as spec;
 
 use std::alloc::{AllocError, Global};
 
@@ -10,7 +10,7 @@ pub(crate) fn with_help_option<'a>(
     alloc: Global,
     words: &[&'a str],
 ) -> Result<Vec<&'a str>, AllocError>
-    ensures { IfOk result (λ plain. map (λ w. w.now) plain.items ≡ with_help_option (map (λ w. w.now) words.now)) }
+    ensures { IfOk result (λ plain. map (λ w. w.now) plain.items ≡ spec.with_help_option (map (λ w. w.now) words.now)) }
 {
     match words {
         [program, first, rest @ ..] if *first == "help" => asking_help(alloc, program, rest),
@@ -25,7 +25,7 @@ fn asking_help<'a>(
     words: &[&'a str],
 ) -> Result<Vec<&'a str>, AllocError>
     ensures { IfOk result (λ plain. map (λ w. w.now) plain.items
-        ≡ asking_help program.now (map (λ w. w.now) words.now)) }
+        ≡ spec.asking_help program.now (map (λ w. w.now) words.now)) }
 {
     let mut plain = Vec::new(alloc);
     plain.push(program)?;

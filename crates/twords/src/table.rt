@@ -1,7 +1,18 @@
-//! The table of the commands: the words that each takes, their ranges and defaults, and what help tells of it.
+//! The table of the commands: the words that each takes, their ranges and defaults, what help tells of it, and what
+//! its arguments ask for.
 
-ghost use Rattle.std.specs.Prelude.{◌≡◌};
-ghost use Rattle.twords.specs.CommandLines as spec;
+ghost use Rattle.std.specs.Prelude.{◌≡◌, IfOk, IfSome, Some, codes};
+ghost use Rattle.clap.specs.Words.{found_of, rows_of};
+ghost use Rattle.twords.specs.Arguments.{HasAll, HasNumber, HasText, text_at};
+ghost use Rattle.twords.specs.CommandLines.{shape_of, shape_of_row};
+ghost use Rattle.twords.specs.Table as spec;
+
+use crate::arguments::{file, long_number, number, optional_file};
+use clap::ArgMatches;
+use std::alloc::{AllocError, Global};
+use tplan::{FileName, Options};
+use tword::Kind;
+use tword::limits::{LONGEST_SLICE, MOST_WORKERS};
 
 /// A command by itself.
 #[derive(Clone, Copy, Debug, PartialEq, Eq)]
@@ -20,6 +31,63 @@ pub enum Which {
     Dis,
 }
 
+/// What `explore` shows of each outcome below its heading.
+#[derive(Clone, Copy, Debug, PartialEq, Eq)]
+pub enum Show {
+    /// The dump of the outcome.
+    Dump,
+    /// Where the net stands, as `where` prints it.
+    Where,
+    /// Nothing below the heading.
+    Nothing,
+}
+
+/// What a command line asks for.
+#[derive(Debug, Drop)]
+pub enum Command {
+    /// Runs the net of a wiring file by rounds, and writes what it did into a log file where one is named.
+    Run {
+        wiring: FileName,
+        options: Options,
+        log: Option<FileName>,
+    },
+    /// Runs the net of a wiring file by free workers, and writes what they did into a log file where one is named:
+    /// `options.rounds` are the turns.
+    Free {
+        wiring: FileName,
+        options: Options,
+        log: Option<FileName>,
+    },
+    /// Finds every way in which the runs of the net of a wiring file may end, whatever their timing.
+    Explore {
+        wiring: FileName,
+        /// How many states are kept at most.
+        states: u32,
+        /// How many steps are done at most.
+        steps: u64,
+        /// What the names of the log files begin with, one of each outcome, where logs are asked for.
+        log: Option<FileName>,
+        /// What is shown of each outcome.
+        show: Show,
+    },
+    /// Does the events of a log file on the net of a wiring file.
+    Replay {
+        wiring: FileName,
+        log: FileName,
+    },
+    /// Does the first events of a log file, at most so many, on the net of a wiring file, and writes where it stands.
+    Where {
+        wiring: FileName,
+        log: FileName,
+        events: u32,
+    },
+    /// Writes the instructions of an image file, as those of a node of this kind.
+    Dis {
+        image: FileName,
+        kind: Kind,
+    },
+}
+
 impl Which {
     /// The name of the command.
     pub(crate) fn name(self) -> &'static str
@@ -30,7 +98,7 @@ impl Which {
 
     /// The row of the command.
     pub(crate) fn row(self) -> CommandRow
-        ensures { spec.shape_of_row result ≡ spec.shape_of self }
+        ensures { shape_of_row result ≡ shape_of self }
     {
         match self {
             Which::Run => RUN,
@@ -40,6 +108,111 @@ impl Which {
             Which::Where => WHERE,
             Which::Dis => DIS,
         }
+    }
+
+    /// What the arguments of the command ask for; nothing where a word of `--show` stands for nothing.
+    pub(crate) fn asked(
+        self,
+        alloc: Global,
+        given: &ArgMatches,
+    ) -> Result<Option<Command>, AllocError>
+        requires { HasAll (spec.rules_of self) (rows_of (found_of given.now)) }
+        ensures command { IfOk result (λ c. spec.asked_in self (rows_of (found_of given.now)) ≡ c) }
+        ensures range { IfOk result (λ c. IfSome c spec.IsInRange) }
+    {
+        match self {
+            Which::Run => Ok(Some(Command::Run {
+                wiring: file(alloc, given, "wiring")?,
+                options: options(given, "rounds"),
+                log: optional_file(alloc, given, "log")?,
+            })),
+            Which::Free => Ok(Some(Command::Free {
+                wiring: file(alloc, given, "wiring")?,
+                options: options(given, "turns"),
+                log: optional_file(alloc, given, "log")?,
+            })),
+            Which::Explore => explored(alloc, given),
+            Which::Replay => Ok(Some(Command::Replay {
+                wiring: file(alloc, given, "wiring")?,
+                log: file(alloc, given, "log")?,
+            })),
+            Which::Where => Ok(Some(Command::Where {
+                wiring: file(alloc, given, "wiring")?,
+                log: file(alloc, given, "log")?,
+                events: number(given, "events"),
+            })),
+            Which::Dis => Ok(Some(Command::Dis {
+                image: file(alloc, given, "image")?,
+                kind: kind(given),
+            })),
+        }
+    }
+}
+
+/// What the arguments of `explore` ask for; nothing where the word of `--show` stands for nothing.
+fn explored(alloc: Global, given: &ArgMatches) -> Result<Option<Command>, AllocError>
+    requires { HasAll (spec.rules_of Which.Explore) (rows_of (found_of given.now)) }
+    ensures command { IfOk result (λ c. spec.asked_in Which.Explore (rows_of (found_of given.now)) ≡ c) }
+    ensures range { IfOk result (λ c. IfSome c spec.IsInRange) }
+{
+    let Some(show) = shown(given) else {
+        return Ok(None);
+    };
+    let prefix = optional_file(alloc, given, "log")?;
+    Ok(Some(Command::Explore {
+        wiring: file(alloc, given, "wiring")?,
+        states: number(given, "states"),
+        steps: long_number(given, "steps"),
+        log: prefix,
+        show,
+    }))
+}
+
+/// The options of a run, whose limit has this name.
+fn options(given: &ArgMatches, limit: &str) -> Options
+    requires { HasAll (spec.running_rules limit.now) (rows_of (found_of given.now)) }
+    ensures value { result ≡ spec.options_in limit.now (rows_of (found_of given.now)) }
+    ensures range { spec.AreOptions result }
+{
+    Options {
+        workers: number(given, "workers") as usize,
+        rounds: number(given, limit),
+        slice: number(given, "slice"),
+    }
+}
+
+/// What the word of `--show` stands for, if for anything.
+fn shown(given: &ArgMatches) -> Option<Show>
+    requires { HasText (codes "show") (rows_of (found_of given.now)) }
+    ensures { result ≡ spec.show_of (text_at (codes "show") (rows_of (found_of given.now))) }
+{
+    show_of(given.get_str("show").unwrap())
+}
+
+/// What a word stands for, if for anything.
+fn show_of(word: &str) -> Option<Show>
+    ensures { result ≡ spec.show_of word.now }
+{
+    if word == "dump" {
+        Some(Show::Dump)
+    } else if word == "where" {
+        Some(Show::Where)
+    } else if word == "none" {
+        Some(Show::Nothing)
+    } else {
+        None
+    }
+}
+
+/// The kind of a node.
+fn kind(given: &ArgMatches) -> Kind
+    requires { HasNumber 1 2 (codes "kind") (rows_of (found_of given.now)) }
+    ensures { result ≡ spec.kind_in (rows_of (found_of given.now)) }
+{
+    if number(given, "kind") == 2 {
+        Kind::Two
+    } else {
+        Kind::One
     }
 }
 
@@ -91,13 +264,13 @@ pub(crate) const COMMANDS: [Which; 6] = [
 ];
 
 /// How many threads share the nodes.
-const WORKERS: Form = Form::Number(1, 64, "1");
+const WORKERS: Form = Form::Number(1, MOST_WORKERS as i64, "1");
 
 /// After how many rounds or turns a run ends at the latest.
 const LIMIT: Form = Form::Number(0, 4_294_967_295, "100000");
 
 /// How many instructions and dispatches a node does at most before the next has its turn.
-const SLICE: Form = Form::Number(1, 65_536, "64");
+const SLICE: Form = Form::Number(1, LONGEST_SLICE as i64, "64");
 
 /// `WIRING`, whose holds are ignored.
 const WIRING: Argument = Argument {

@@ -4,7 +4,8 @@ ghost use Rattle.std.specs.Prelude.{◌≡◌, ◌+◌, ◌<◌, ◌≤◌, ◌^
 ghost use Rattle.std.specs.List.{list_any, list_all, flat_map};
 ghost use Rattle.tword.specs.Claims.{overlaps_claim};
 ghost use Rattle.tword.specs.Stores.{as_cells, hiding, hiding_from};
-ghost use Rattle.tfiles.specs.Texts.{break_name, node_line, node_text, dump_of, dump_line, lines_of, cell_text};
+ghost use Rattle.tfiles.specs.Texts as spec;
+ghost use Rattle.tfiles.specs.Texts.{node_line, node_text, dump_of, dump_line, lines_of, cell_text};
 ghost use Rattle.tfiles.specs.Texts.{is_zero, is_pending};
 ghost use Rattle.tfiles.specs.Outputs.{Tells};
 
@@ -66,7 +67,7 @@ fn put_standing<W: CountedWrite>(out: &mut Output<'_, W>, broken: Option<Break>,
 
 /// Writes that a node is frozen, and by which break.
 fn put_frozen<W: CountedWrite>(out: &mut Output<'_, W>, broken: Break)
-    ensures { Tells W.contents W.failures out.old out.new (codes "frozen " ++ break_name broken) }
+    ensures { Tells W.contents W.failures out.old out.new (codes "frozen " ++ spec.break_name broken) }
 {
     out.put(b"frozen ");
     out.put(break_name(broken));

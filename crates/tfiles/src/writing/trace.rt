@@ -3,7 +3,8 @@
 ghost use Rattle.std.specs.Prelude.{IfErr, OnOk, [], ◌∷◌, codes, decimal, length};
 ghost use Rattle.hex.specs.Hex.{encode_lower};
 ghost use Rattle.tfiles.specs.Logs.{line};
-ghost use Rattle.tfiles.specs.Texts.{break_name, end_text, note_text, trace_text, words};
+ghost use Rattle.tfiles.specs.Texts as spec;
+ghost use Rattle.tfiles.specs.Texts.{end_text, note_text, trace_text, words};
 ghost use Rattle.tfiles.specs.Failures.{HasRisen, HasStayed};
 ghost use Rattle.tfiles.specs.Outputs.{IsOut, Tells};
 
@@ -85,7 +86,7 @@ fn put_halt<W: CountedWrite>(out: &mut Output<'_, W>, node: u8)
 /// A node that froze.
 fn put_freeze<W: CountedWrite>(out: &mut Output<'_, W>, node: u8, broken: Break)
     ensures { Tells W.contents W.failures out.old out.new
-        (words (codes "freeze" ∷ decimal node ∷ break_name broken ∷ [])) }
+        (words (codes "freeze" ∷ decimal node ∷ spec.break_name broken ∷ [])) }
 {
     out.put(b"freeze ");
     put_decimal(out, u64::from(node));

@@ -1,7 +1,7 @@
 use Rattle.std.proofs.Common.{◌≡◌, Some}
-use Rattle.tfiles.specs.Images.{behind, segment_in, parts_in}
+use Rattle.tfiles.specs.Images.{left_over, segment_in, parts_in}
 use Rattle.tfiles.proofs.image.behind_segments.Given as goal
 
 -- as many parts are there as the loop has run, and the rest stands behind them
 abbrev pub invariant-loop-place : goal.invariant-loop-place
-invariant-loop-place l = Some l.rest ≡ behind (parts_in segment_in l._place l.bytes)
+invariant-loop-place l = Some l.rest ≡ left_over (parts_in segment_in l._place l.bytes)

@@ -1,10 +1,10 @@
-use Rattle.std.proofs.Common.{◌≡◌, ℕ, ◌+◌, ◌*◌, sym, ap, ◌∙◌, subst, arith, [], ◌∷◌, length, drop}
+use Rattle.std.proofs.Common.{◌≡◌, ℕ, ◌+◌, sym, ap, ◌∙◌, subst, arith, [], ◌∷◌, length, map, drop}
 use Rattle.std.specs.Prelude.{min, option_map}
 use Rattle.std.proofs.lemmas.List.{length-append}
 use Rattle.tnet.specs.NetParts.{net_of_parts}
 use Rattle.tfree.specs.Ends.{in_view, out_view, ins_view, outs_view}
-use Rattle.tfree.specs.Shares.{share}
-use Rattle.tfree.specs.Rings.{part_of}
+use Rattle.tnet.specs.Sharing.{share}
+use Rattle.tfree.specs.Rings.{portion_of}
 use Rattle.tfree.specs.Opened.{first_of, owned_of}
 use Rattle.tfree.specs.Allotments.{IsAllotment, AreAllotments}
 use Rattle.tfree.proofs.Portions.{first_more, owned_is, portion, rest}
@@ -26,8 +26,6 @@ loop-allotment-preserved c =
     let owned : c.min-owned.result ≡ owned_of n w k = c.min-owned.ensures
     ∙ ap (λ (m : ℕ). min m c.loop-allotment.left) size ∙ ap (min (share n w)) inv.left ∙ owned_is n w k in
     let more = first_more n w k in
-    let four : 4 * c.min-owned.result ≡ 4 * owned_of n w k = ap (λ (m : ℕ). 4 * m) owned in
-    let next : 4 * first_of n w k + 4 * owned_of n w k ≡ 4 * first_of n w (k + 1) = omega (arith, more) in
     let all_ins = ins_view c.args.ins.items in
     let all_outs = outs_view c.args.outs.items in
     let is : IsAllotment net w all_ins all_outs k s =
@@ -37,20 +35,20 @@ loop-allotment-preserved c =
       empty = c.in_ok-make_allotment.ensures.empty;
       room = omega (arith, c.in_ok-make_allotment.ensures.room, owned);
       ins_are = ap ins_view c.in_ok-make_allotment.ensures.ins
-          ∙ portion (option_map in_view) ins all_ins (4 * first_of n w k) (4 * c.min-owned.result) inv.ins
-          ∙ ap (λ (m : ℕ). part_of (4 * first_of n w k) m all_ins) four;
+          ∙ portion (map (option_map in_view)) ins all_ins (first_of n w k) c.min-owned.result inv.ins
+          ∙ ap (λ (m : ℕ). portion_of (first_of n w k) m all_ins) owned;
       outs_are = ap outs_view c.in_ok-make_allotment.ensures.outs
-          ∙ portion (option_map out_view) outs all_outs (4 * first_of n w k) (4 * c.min-owned.result) inv.outs
-          ∙ ap (λ (m : ℕ). part_of (4 * first_of n w k) m all_outs) four;
+          ∙ portion (map (option_map out_view)) outs all_outs (first_of n w k) c.min-owned.result inv.outs
+          ∙ ap (λ (m : ℕ). portion_of (first_of n w k) m all_outs) owned;
     } in
-    let moved : 4 * first_of n w k + 4 * c.min-owned.result ≡ 4 * first_of n w (k + 1) = omega (arith, next, four) in
+    let moved : first_of n w k + c.min-owned.result ≡ first_of n w (k + 1) = omega (arith, more, owned) in
     record {
       left = omega (arith, inv.left, owned, more);
       ins = ap ins_view c.in_ok-make_allotment.ensures.ins_left
-          ∙ rest (option_map in_view) ins all_ins (4 * first_of n w k) (4 * c.min-owned.result) inv.ins
+          ∙ rest (map (option_map in_view)) ins all_ins (first_of n w k) c.min-owned.result inv.ins
           ∙ ap (λ (m : ℕ). drop m all_ins) moved;
       outs = ap outs_view c.in_ok-make_allotment.ensures.outs_left
-          ∙ rest (option_map out_view) outs all_outs (4 * first_of n w k) (4 * c.min-owned.result) inv.outs
+          ∙ rest (map (option_map out_view)) outs all_outs (first_of n w k) c.min-owned.result inv.outs
           ∙ ap (λ (m : ℕ). drop m all_outs) moved;
       allotments =
           subst (AreAllotments net w all_ins all_outs 0) (sym c.in_ok-push.ensures.items)

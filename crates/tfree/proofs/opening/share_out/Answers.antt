@@ -3,7 +3,7 @@ use Rattle.std.specs.Prelude.{min}
 use Rattle.tlink.specs.Node.{NodeState}
 use Rattle.tnet.specs.NetParts.{net_of_parts}
 use Rattle.tfree.specs.Ends.{ins_view, outs_view}
-use Rattle.tfree.specs.Shares.{share}
+use Rattle.tnet.specs.Sharing.{share}
 use Rattle.tfree.specs.Kept.{IsShare, Kept, share_with}
 use Rattle.tfree.specs.Opened.{owned_of}
 use Rattle.tfree.specs.Allotments.{AreSharedOut}
@@ -33,7 +33,7 @@ owned_is c =
     ∙ ap (min (share (length c.args.parts.nodes.items) (length c.args.allotments.items))) left
     ∙ owned_here (net_of_parts c.args.parts) (length c.args.allotments.items) c.loop-number.number
     c.loop-number.nodes.items c.loop-number.allotments.items c.loop-number.workers.items c.requires.sound
-    c.requires.few c.requires.some.0 c.loop-number.invariant.shared
+    c.args.parts.few c.requires.some.0 c.loop-number.invariant.shared
     c.remove-allotment.result (there c) c.remove-allotment.ensures.value
 
 mine_is : (c : goal.After-workers-1)
@@ -43,7 +43,7 @@ mine_is c =
     ∙ ap (λ (xs : List NodeState). xs ++ take c.min-owned.result c.loop-number.nodes.items)
     (has_room (net_of_parts c.args.parts) (length c.args.allotments.items) c.loop-number.number
     c.loop-number.nodes.items c.loop-number.allotments.items c.loop-number.workers.items c.requires.sound
-    c.requires.few c.requires.some.0 c.loop-number.invariant.shared
+    c.args.parts.few c.requires.some.0 c.loop-number.invariant.shared
     c.remove-allotment.result (there c) c.remove-allotment.ensures.value)
 
 pub new-requires-clause-share : goal.new-requires-clause-share
@@ -54,7 +54,7 @@ new-requires-clause-share c =
     (net_of_parts s.opened.value) (ins_view s.ins.items) (outs_view s.outs.items))) (sym (count_is c))
     (is_share (net_of_parts c.args.parts) (length c.args.allotments.items) c.loop-number.number
     c.loop-number.nodes.items c.loop-number.allotments.items c.loop-number.workers.items c.requires.sound
-    c.requires.few c.requires.some.0 c.loop-number.invariant.shared
+    c.args.parts.few c.requires.some.0 c.loop-number.invariant.shared
     s (there c) c.remove-allotment.ensures.value c.loop-number.first c.min-owned.result c.loop-number.invariant.first
     (owned_is c) c.move_front.new.to.items (mine_is c))
 
@@ -66,7 +66,7 @@ new-requires-clause-kept c =
     (net_of_parts s.opened.value) (ins_view s.ins.items) (outs_view s.outs.items)) c.move_front.new.to.items 0
     (ins_view s.ins.items) (outs_view s.outs.items) [] []) (sym (count_is c))
     (is_kept (net_of_parts c.args.parts) (length c.args.allotments.items) c.loop-number.number c.loop-number.nodes.items
-    c.loop-number.allotments.items c.loop-number.workers.items c.requires.sound c.requires.few c.requires.some.0
+    c.loop-number.allotments.items c.loop-number.workers.items c.requires.sound c.args.parts.few c.requires.some.0
     c.loop-number.invariant.shared
     s (there c) c.remove-allotment.ensures.value c.loop-number.first c.min-owned.result c.loop-number.invariant.first
     (owned_is c) c.move_front.new.to.items (mine_is c))
@@ -81,7 +81,7 @@ loop-number-preserved c =
     let count = count_is b in
     let w = c.new.result in
     let more = one_more net ct k c.loop-number.nodes.items c.loop-number.allotments.items c.loop-number.workers.items
-    c.requires.sound c.requires.few c.requires.some.0 c.loop-number.invariant.shared
+    c.requires.sound c.args.parts.few c.requires.some.0 c.loop-number.invariant.shared
     s (there b) c.remove-allotment.ensures.value c.loop-number.first c.min-owned.result c.loop-number.invariant.first
     (owned_is b) c.move_front.new.to.items (mine_is b) w
     (ap (λ (v : View). v.share) c.new.ensures
@@ -126,7 +126,7 @@ returns c =
       c.loop-number.invariant.allotments,
     ) in
     all_shared (net_of_parts c.args.parts) (length c.args.allotments.items) c.loop-number.nodes.items
-    c.loop-number.allotments.items c.loop-number.workers.items c.requires.sound c.requires.few c.requires.some.0
+    c.loop-number.allotments.items c.loop-number.workers.items c.requires.sound c.args.parts.few c.requires.some.0
     c.requires.some.1
     (subst (λ (m : ℕ). AreSharedOut (net_of_parts c.args.parts) (length c.args.allotments.items) m
     c.loop-number.nodes.items c.loop-number.allotments.items c.loop-number.workers.items) last

@@ -2,7 +2,7 @@ use Rattle.std.proofs.Common.{◌∙◌, sym, arith, subst}
 use Rattle.std.specs.Prelude.{Option, IfSome}
 use Rattle.tfree.specs.Views.{View}
 use Rattle.tfree.specs.Opened.{worker_of}
-use Rattle.tfree.specs.TakenApart.{HasRoomFor, IsAdded}
+use Rattle.tfree.specs.TakenApart.{HasRoomForParts, IsAdded}
 use Rattle.tfree.proofs.TakenParts.{some_of, if_some, from_some, taken_none, taken_more, room_for}
 use Rattle.tfree.proofs.taking.take_all.Goals as goal
 
@@ -10,7 +10,7 @@ pub take_one-wires-requires-clause-room : goal.take_one-wires-requires-clause-ro
 take_one-wires-requires-clause-room c =
     let ws = c.args.workers.items in
     let r = c.requires.room in
-    if_some (λ (v : View). HasRoomFor v.share.owned c.args.all.now) (worker_of 0 ws)
+    if_some (λ (v : View). HasRoomForParts v.share.owned c.args.all.now) (worker_of 0 ws)
     (λ v e. room_for c.args.count ws c.requires.opening c.requires.there 0 c.args.all.now
     (taken_none ws c.args.count c.args.all.now r) (omega arith) v c.requires.some e r.nodes r.ins r.outs r.unmerged)
 
@@ -37,9 +37,9 @@ take_one-requires-clause-room c =
     let ws = c.args.workers.items in
     let n = c.loop-number.number in
     let i = c.loop-number.invariant in
-    subst (λ (o : Option View). IfSome o (λ (v : View). HasRoomFor v.share.owned c.loop-number.all))
+    subst (λ (o : Option View). IfSome o (λ (v : View). HasRoomForParts v.share.owned c.loop-number.all))
     (sym (i.rest n (omega arith)))
-    (if_some (λ (v : View). HasRoomFor v.share.owned c.loop-number.all) (worker_of n ws)
+    (if_some (λ (v : View). HasRoomForParts v.share.owned c.loop-number.all) (worker_of n ws)
     (λ v e. room_for c.args.count ws c.requires.opening c.requires.there n c.loop-number.all i.taken
     (omega (arith, c.loop-number-test.true)) v c.loop-number-test.true e i.nodes i.ins i.outs i.unmerged))
 

@@ -9,7 +9,7 @@ invariant-loop-number l = record {
   rest : (j : ℕ) → l.number ≤ j → worker_of j l.workers.items ≡ worker_of j l.fn.workers.items;
   taken : AreTaken l.fn.workers.items l.number l.all;
   nodes : 64 ≤ vec_capacity l.all.nodes;
-  ins : 256 ≤ vec_capacity l.all.ins;
-  outs : 256 ≤ vec_capacity l.all.outs;
+  ins : 64 ≤ vec_capacity l.all.ins;
+  outs : 64 ≤ vec_capacity l.all.outs;
   unmerged : l.count ≤ vec_capacity l.all.unmerged;
 }

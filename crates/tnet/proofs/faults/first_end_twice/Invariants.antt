@@ -1,9 +1,7 @@
-use Rattle.std.proofs.Common.{◌≡◌, [], take, drop}
-use Rattle.tnet.specs.Building.{all_wires, end_twice_from}
+use Rattle.std.proofs.Common.{◌≡◌, ℕ, ◌<◌, false}
+use Rattle.tnet.specs.Building.{all_wires, has_end_twice}
 use Rattle.tnet.proofs.faults.first_end_twice.Given as goal
 
--- the wires from this one on decide
+-- no wire so far has an end of an earlier one
 abbrev pub invariant-loop-place : goal.invariant-loop-place
-invariant-loop-place l =
-    end_twice_from 0 [] (all_wires l.plan)
-    ≡ end_twice_from l.place (take l.place (all_wires l.plan)) (drop l.place (all_wires l.plan))
+invariant-loop-place l = (k : ℕ) → k < l.place → has_end_twice (all_wires l.plan) k ≡ false

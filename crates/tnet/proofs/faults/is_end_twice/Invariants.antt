@@ -1,10 +1,9 @@
-use Rattle.std.proofs.Common.{◌≡◌, ◌||◌, take, false}
+use Rattle.std.proofs.Common.{◌≡◌, take, false}
 use Rattle.std.specs.List.{list_any}
-use Rattle.tnet.specs.Wires.{joins}
-use Rattle.tnet.specs.Building.{all_wires}
+use Rattle.tnet.specs.Building.{all_wires, share_an_end}
 use Rattle.tnet.proofs.faults.is_end_twice.Given as goal
 
 -- none of the wires so far has one of the ends
 abbrev pub invariant-loop-earlier : goal.invariant-loop-earlier
 invariant-loop-earlier l =
-    list_any (λ v. joins l.wire.a v || joins l.wire.b v) (take l.earlier (all_wires l.plan)) ≡ false
+    list_any (share_an_end l.wire) (take l.earlier (all_wires l.plan)) ≡ false

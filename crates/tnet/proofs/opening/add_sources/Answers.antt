@@ -1,4 +1,4 @@
-use Rattle.std.proofs.Common.{◌≡◌, ap, ◌∙◌, All, subst}
+use Rattle.std.proofs.Common.{ap, ◌∙◌, All, subst}
 use Rattle.std.proofs.lemmas.List.Elements.{All-more}
 use Rattle.tlink.specs.Node.{fresh_source}
 use Rattle.tplan.specs.declared.plan.SourcePlan.{SourcePlan}
@@ -15,5 +15,5 @@ loop-source-preserved c = (
       c.in_ok-push.ensures.items,
   All-more (λ s. All AreBytes s.messages) c.args.sources.now c.loop-source.source-index c.source-item.result
       c.loop-source-test.true c.loop-source.invariant.1
-      (subst (λ (s : SourcePlan). All AreBytes s.messages) c.source-item.is c.source_node.ensures.bytes),
+      (subst (λ (s : SourcePlan). All AreBytes s.messages) c.source-item.is c.in_ok-node.ensures.bytes),
 )

@@ -1,6 +1,6 @@
 use Rattle.std.proofs.Common.{ap}
 use Rattle.tfiles.proofs.Told.{tells_then, tells_as}
-use Rattle.twhere.specs.Wheres.{word_text}
+use Rattle.twhere.specs.Standing.{word_text}
 use Rattle.twhere.proofs.facts.put_place.Goals as goal
 
 pub returns : goal.returns

@@ -1,6 +1,6 @@
 use Rattle.std.proofs.Common.{sym, ap}
 use Rattle.tfiles.proofs.Told.{tells_as, tells_none, tells_then}
-use Rattle.twhere.specs.Wheres.{ack_fact}
+use Rattle.twhere.specs.Standing.{ack_fact}
 use Rattle.twhere.proofs.links.put_ack.Goals as goal
 
 pub returns-then-acknowledged : goal.returns-then-acknowledged

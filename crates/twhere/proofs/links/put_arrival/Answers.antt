@@ -1,6 +1,6 @@
 use Rattle.std.proofs.Common.{sym, ap}
 use Rattle.tfiles.proofs.Told.{tells_as, tells_none, tells_then}
-use Rattle.twhere.specs.Wheres.{byte_fact}
+use Rattle.twhere.specs.Standing.{byte_fact}
 use Rattle.twhere.proofs.links.put_arrival.Goals as goal
 
 pub returns-in-Some : goal.returns-in-Some

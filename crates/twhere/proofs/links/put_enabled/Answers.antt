@@ -1,6 +1,6 @@
 use Rattle.std.proofs.Common.{sym, ap}
 use Rattle.tfiles.proofs.Told.{tells_as, tells_none, tells_then}
-use Rattle.twhere.specs.Wheres.{enabled_fact}
+use Rattle.twhere.specs.Standing.{enabled_fact}
 use Rattle.twhere.proofs.links.put_enabled.Goals as goal
 
 pub returns-in-Some : goal.returns-in-Some

@@ -3,7 +3,7 @@ use Rattle.std.specs.Prelude.{codes}
 use Rattle.tlink.specs.declared.counts.Counts.{Counts}
 use Rattle.tlink.specs.Node.{counts_at}
 use Rattle.tfiles.proofs.Told.{tells_as, tells_then}
-use Rattle.twhere.specs.Wheres.{byte_fact, enabled_fact, input_fact, output_fact}
+use Rattle.twhere.specs.Standing.{byte_fact, enabled_fact, input_fact, output_fact}
 use Rattle.twhere.proofs.links.put_link.Goals as goal
 
 pub returns : goal.returns

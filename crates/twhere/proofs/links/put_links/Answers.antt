@@ -1,7 +1,7 @@
 use Rattle.std.proofs.Common.{ap}
 use Rattle.tnet.specs.declared.inbox.Inbox.{Inbox}
 use Rattle.tfiles.proofs.Told.{tells_as, tells_none, tells_then}
-use Rattle.twhere.specs.Wheres.{link_facts}
+use Rattle.twhere.specs.Standing.{link_facts}
 use Rattle.twhere.proofs.links.put_links.Goals as goal
 
 pub returns : goal.returns

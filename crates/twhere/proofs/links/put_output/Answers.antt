@@ -1,6 +1,6 @@
 use Rattle.std.proofs.Common.{sym, ap, decimal, Bool}
 use Rattle.tfiles.proofs.Told.{tells_as, tells_none, tells_then}
-use Rattle.twhere.specs.Wheres.{output_fact}
+use Rattle.twhere.specs.Standing.{output_fact}
 use Rattle.twhere.proofs.links.put_output.Goals as goal
 
 pub returns-then-is_pending : goal.returns-then-is_pending

@@ -1,6 +1,6 @@
 use Rattle.std.proofs.Common.{◌≡◌, take}
 use Rattle.std.specs.Prelude.{map}
-use Rattle.twhere.specs.Wheres.{listed_of}
+use Rattle.twhere.specs.Standing.{listed_of}
 use Rattle.twhere.proofs.listing.list_net.Given as goal
 
 -- the nodes so far

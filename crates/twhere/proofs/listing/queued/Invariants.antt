@@ -1,6 +1,6 @@
 use Rattle.std.proofs.Common.{◌≡◌, ◌++◌, drop}
 use Rattle.tproc.specs.Entries.{queue_in}
-use Rattle.twhere.specs.Wheres.{descriptors}
+use Rattle.twhere.specs.Standing.{descriptors}
 use Rattle.twhere.proofs.listing.queued.Given as goal
 
 -- what was listed, and what is left

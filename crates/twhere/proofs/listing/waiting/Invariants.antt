@@ -1,7 +1,7 @@
 use Rattle.std.proofs.Common.{◌≡◌, drop}
 use Rattle.std.specs.Prelude.{fold}
 use Rattle.tproc.specs.Entries.{waiting_in}
-use Rattle.twhere.specs.Wheres.{by_descriptor, inserted}
+use Rattle.twhere.specs.Standing.{by_descriptor, inserted}
 use Rattle.twhere.proofs.listing.waiting.Given as goal
 
 -- what was put into its place, and what is left

@@ -1,6 +1,6 @@
 use Rattle.std.proofs.Common.{sym, ap}
 use Rattle.tfiles.proofs.Told.{tells_none, tells_as}
-use Rattle.twhere.specs.Wheres.{halt_on_error_fact}
+use Rattle.twhere.specs.Standing.{halt_on_error_fact}
 use Rattle.twhere.proofs.processes.put_halt_on_error.Goals as goal
 
 pub returns-then-flag : goal.returns-then-flag

@@ -1,6 +1,6 @@
 use Rattle.std.proofs.Common.{sym, ap, ◌∙◌}
 use Rattle.tfiles.proofs.Told.{tells_as, tells_none}
-use Rattle.twhere.specs.Wheres.{interrupted_facts}
+use Rattle.twhere.specs.Standing.{interrupted_facts}
 use Rattle.twhere.proofs.processes.put_interrupted.Goals as goal
 
 pub returns-in-Some : goal.returns-in-Some

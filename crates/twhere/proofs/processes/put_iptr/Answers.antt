@@ -1,6 +1,6 @@
 use Rattle.std.proofs.Common.{ap}
 use Rattle.tfiles.proofs.Told.{tells_then, tells_as}
-use Rattle.twhere.specs.Wheres.{fetched_text}
+use Rattle.twhere.specs.Standing.{fetched_text}
 use Rattle.twhere.proofs.processes.put_iptr.Goals as goal
 
 pub returns : goal.returns

@@ -1,7 +1,7 @@
 use Rattle.std.proofs.Common.{ap}
 use Rattle.tfiles.proofs.LeftText.{flat_map-next, flat_map-end}
 use Rattle.tfiles.proofs.Told.{tells_as, goes_on-start, goes_on-next, goes_on-end}
-use Rattle.twhere.specs.Wheres.{queued_fact, queue_facts}
+use Rattle.twhere.specs.Standing.{queued_fact, queue_facts}
 use Rattle.twhere.proofs.processes.put_queue.Goals as goal
 
 pub loop-process-init : goal.loop-process-init

@@ -1,6 +1,6 @@
 use Rattle.std.proofs.Common.{drop}
 use Rattle.tfiles.proofs.Told.{GoesOn}
-use Rattle.twhere.specs.Wheres.{queue_facts}
+use Rattle.twhere.specs.Standing.{queue_facts}
 use Rattle.twhere.proofs.processes.put_queue.Given as goal
 
 -- what was told and what is left

@@ -2,7 +2,7 @@ use Rattle.std.proofs.Common.{ℕ, sym, ap, ◌∙◌, Option}
 use Rattle.tcpu.specs.declared.registers.Registers.{Registers}
 use Rattle.std.specs.Prelude.{codes}
 use Rattle.tfiles.proofs.Told.{tells_as}
-use Rattle.twhere.specs.Wheres.{idle_facts, process_facts, running_facts}
+use Rattle.twhere.specs.Standing.{idle_facts, process_facts, running_facts}
 use Rattle.twhere.proofs.processes.put_running.Goals as goal
 
 pub returns-in-Some : goal.returns-in-Some

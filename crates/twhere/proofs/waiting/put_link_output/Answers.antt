@@ -3,7 +3,7 @@ use Rattle.tproc.specs.declared.offer.Offer.{Offer}
 use Rattle.tlink.specs.declared.counts.Counts.{Counts}
 use Rattle.tlink.specs.Node.{output_at}
 use Rattle.tfiles.proofs.Told.{tells_as, tells_then}
-use Rattle.twhere.specs.Wheres.{offer_text}
+use Rattle.twhere.specs.Standing.{offer_text}
 use Rattle.twhere.proofs.waiting.put_link_output.Goals as goal
 
 pub returns : goal.returns

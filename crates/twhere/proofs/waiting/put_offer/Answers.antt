@@ -1,7 +1,7 @@
 use Rattle.std.proofs.Common.{sym, ap, decimal, Option}
 use Rattle.tproc.specs.declared.offer.Offer.{Offer}
 use Rattle.tfiles.proofs.Told.{tells_as, tells_none, tells_then}
-use Rattle.twhere.specs.Wheres.{offer_text}
+use Rattle.twhere.specs.Standing.{offer_text}
 use Rattle.twhere.proofs.waiting.put_offer.Goals as goal
 
 pub returns-in-Some : goal.returns-in-Some

@@ -1,6 +1,6 @@
 use Rattle.std.proofs.Common.{sym, ap}
 use Rattle.tfiles.proofs.Told.{tells_as, tells_then}
-use Rattle.twhere.specs.Wheres.{reason_text}
+use Rattle.twhere.specs.Standing.{reason_text}
 use Rattle.twhere.proofs.waiting.put_reason.Goals as goal
 
 pub returns-in-Receives : goal.returns-in-Receives

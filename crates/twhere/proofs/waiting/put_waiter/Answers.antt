@@ -1,7 +1,7 @@
 use Rattle.std.proofs.Common.{ap}
 use Rattle.tproc.specs.Machine.{Machine}
 use Rattle.tfiles.proofs.Told.{tells_then, tells_as}
-use Rattle.twhere.specs.Wheres.{place_text}
+use Rattle.twhere.specs.Standing.{place_text}
 use Rattle.twhere.proofs.waiting.put_waiter.Goals as goal
 
 pub returns : goal.returns

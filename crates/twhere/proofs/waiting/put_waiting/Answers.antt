@@ -1,7 +1,7 @@
 use Rattle.std.proofs.Common.{ap}
 use Rattle.tfiles.proofs.LeftText.{flat_map-next, flat_map-end}
 use Rattle.tfiles.proofs.Told.{tells_as, goes_on-start, goes_on-next, goes_on-end}
-use Rattle.twhere.specs.Wheres.{waiter_fact, waiting_facts}
+use Rattle.twhere.specs.Standing.{waiter_fact, waiting_facts}
 use Rattle.twhere.proofs.waiting.put_waiting.Goals as goal
 
 pub loop-waiter-init : goal.loop-waiter-init

@@ -1,6 +1,6 @@
 use Rattle.std.proofs.Common.{drop}
 use Rattle.tfiles.proofs.Told.{GoesOn}
-use Rattle.twhere.specs.Wheres.{waiting_facts}
+use Rattle.twhere.specs.Standing.{waiting_facts}
 use Rattle.twhere.proofs.waiting.put_waiting.Given as goal
 
 -- what was told and what is left

@@ -1,7 +1,8 @@
 use Rattle.std.proofs.Common.{◌≡◌, drop}
 use Rattle.std.specs.List.{find}
 use Rattle.std.specs.Str.{bytes_eq}
-use Rattle.twords.specs.CommandLines.{name_of, named}
+use Rattle.twords.specs.Table.{name_of}
+use Rattle.twords.specs.CommandLines.{named}
 use Rattle.twords.proofs.words.named.Given as goal
 
 -- the command is the first of those that are left

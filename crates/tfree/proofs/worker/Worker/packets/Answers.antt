@@ -1,4 +1,4 @@
-use Rattle.std.proofs.Common.{◌+◌, ◌<◌, arith, rules}
+use Rattle.std.proofs.Common.{◌+◌, arith, rules}
 use Rattle.tfree.specs.Turns.{Receives, IsPacketDue}
 use Rattle.tfree.specs.Views.{Share}
 use Rattle.tfree.proofs.Nexts.{at_some_fault, fault_of, next_step}

@@ -1,5 +1,6 @@
 use Rattle.std.proofs.Common.{◌≡◌, ap, ◌∙◌, Some}
 use Rattle.std.proofs.lemmas.Result.{err_from_is_err_and}
+use Rattle.tnet.specs.NetParts.{net_of_parts}
 use Rattle.tnet.specs.View.{view}
 use Rattle.tplan.specs.declared.plan.BuildFault.{BuildFault}
 use Rattle.tplan.specs.declared.plan.BuildFault.TheVariants.{OutOfMemory}
@@ -15,11 +16,11 @@ returns-in_err-open-in-None-clause-exact c =
 
 pub returns-in_ok-open-in-None-clause-exact : goal.returns-in_ok-open-in-None-clause-exact
 returns-in_ok-open-in-None-clause-exact c =
-    λ _. net_built c.args.plan c.in_ok-open-in-None.field-0 c.in-None.ensures c.in_ok-open-in-None.ensures.0
-    c.in_ok-open-in-None.ensures.2
+    λ _. net_built c.args.plan (net_of_parts c.in_ok-open-in-None.field-0) c.in-None.ensures c.in_ok-open-in-None.ensures.is
+    c.in_ok-open-in-None.ensures.no_fault
 
 pub returns-in_ok-open-in-None-clause-alike : goal.returns-in_ok-open-in-None-clause-alike
-returns-in_ok-open-in-None-clause-alike c = ap view c.in_ok-open-in-None.ensures.0 ∙ opens_alike c.args.plan
+returns-in_ok-open-in-None-clause-alike c = ap view c.in_ok-open-in-None.ensures.is ∙ opens_alike c.args.plan
 
 pub returns-in-Some-clause-wanted : goal.returns-in-Some-clause-wanted
 returns-in-Some-clause-wanted c = λ e.

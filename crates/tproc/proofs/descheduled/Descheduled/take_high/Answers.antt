@@ -28,7 +28,7 @@ invariant_of-self c =
     let queue : IsQueue (c.in_ok-workspace.workspace ∷ rest_of (queue_in 0 c.self.inside.table)) c.self.inside.high =
     subst (λ (q : List ℕ). IsQueue q c.self.inside.high) (order c) c.self.invariant.0 in
     let links = rw (← c.self.view_is) at c.requires.threaded in
-    let threaded = subst (IsThreaded c.args.claimed.now.memory) (order c) links in
+    let threaded = subst (IsThreaded c.args.claimed.now.memory.bytes) (order c) links in
     let rest = c.pop.ensures _ _ queue (c.behind-next.ensures _ _ queue threaded) in
     queues_as c.remove.new.self _ _ _ (left c) rest c.self.invariant.1
 

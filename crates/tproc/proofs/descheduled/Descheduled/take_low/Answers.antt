@@ -47,7 +47,7 @@ invariant_of-self c =
     let queue : IsQueue (c.in_ok-workspace.workspace ∷ rest_of (queue_in 1 c.self.inside.table)) c.self.inside.low =
     subst (λ (q : List ℕ). IsQueue q c.self.inside.low) (order c) c.self.invariant.1 in
     let links = rw (← c.self.view_is) at c.requires.threaded in
-    let threaded = subst (IsThreaded c.args.claimed.now.memory) (order c) links in
+    let threaded = subst (IsThreaded c.args.claimed.now.memory.bytes) (order c) links in
     let rest = c.pop.ensures _ _ queue (c.behind-next.ensures _ _ queue threaded) in
     queues_as c.remove.new.self _ _ _ (left c) c.self.invariant.0 rest
 

@@ -9,8 +9,8 @@ use Rattle.twiring.proofs.wiring.WiringNodeSection.read.Goals as goal
 pub returns-in_err-memory : goal.returns-in_err-memory
 returns-in_err-memory c =
     let t = table_view c.args.table.now in
-    let rest = answer-both (node_kind_at t) c.node_kind_at.result (required text_in (codes "image") t) c.text_at.result
-    c.both-rest.result (answer-told (node_kind_at t) c.node_kind_at.result c.node_kind_at.ensures) c.text_at.ensures
+    let rest = answer-both (node_kind_at t) c.node_kind_at.result (required text_in (codes "image") t) c.name_at.result
+    c.both-rest.result (answer-told (node_kind_at t) c.node_kind_at.result c.node_kind_at.ensures) c.name_at.ensures
     c.both-rest.ensures in
     let memory = required number_in (codes "memory") t in
     let parts = answer-both memory c.number_at.result

@@ -13,6 +13,6 @@ returns-then-are_three_clear c =
     let place = none_if_ok _
     (ap is_ok (sym c.lies_open.ensures) ∙ sym c.is_ok.ensures.value ∙ c.if-is_ok.true) in
     rw (
-    deschedule-together _ c.args.marks.now c.args.workspace c.minus-lowest.result (omega arith) (omega arith)
+    deschedule-together _ c.args.marks.now c.args.workspace c.below-lowest.result (omega arith) (omega arith)
     (omega arith) place (c.are_three_clear.ensures c.if-are_three_clear.true)
     ) refl

@@ -1,6 +1,6 @@
 use Rattle.std.proofs.Common.{inl, inr, arith}
 use Rattle.std.proofs.lemmas.Bool.{leb-true}
-use Rattle.tword.proofs.HullSteps.{outside}
+use Rattle.tword.proofs.BoundsSteps.{outside}
 use Rattle.tword.proofs.link_buffers.LinkBuffers.is_clear_of.Goals as goal
 
 pub returns-then-self-start : goal.returns-then-self-start

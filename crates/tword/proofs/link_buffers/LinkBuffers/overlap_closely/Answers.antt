@@ -1,8 +1,8 @@
 use Rattle.std.proofs.Common.{ℕ, List, ◌+◌, ◌<◌, sym, ap, ◌∙◌, refl, arith}
 use Rattle.std.proofs.lemmas.Bool.{le-ltb}
 use Rattle.std.specs.List.{list_any}
-use Rattle.tword.specs.Hulls.{meets}
-use Rattle.tword.proofs.HullSteps.{meets_any, no_byte_overlaps}
+use Rattle.tword.specs.Bounds.{meets}
+use Rattle.tword.proofs.BoundsSteps.{meets_any, no_byte_overlaps}
 use Rattle.tword.proofs.link_buffers.LinkBuffers.overlap_closely.Goals as goal
 
 pub returns-then-start-end : goal.returns-then-start-end

@@ -9,7 +9,7 @@ use Rattle.tword.proofs.marks.Marks.release_saved.Goals as goal
 pub lower-requires : goal.lower-requires
 lower-requires c =
     record {
-      some = rw c.saved_words_of.ensures
+      some = rw c.saved_words.ensures
           (enough_saved _ _ _ c.remove-removed.new.self _ c.remove-removed.result c.self.invariant
           c.remove-removed.ensures.words);
     }
@@ -17,7 +17,7 @@ lower-requires c =
 pub invariant_of-self : goal.invariant_of-self
 invariant_of-self c =
     tally_drop _ _ _ _ _ _ c.remove-removed.result c.self.invariant c.remove-removed.ensures.count
-    c.remove-removed.ensures.words (rw c.saved_words_of.ensures at c.lower.ensures)
+    c.remove-removed.ensures.words (rw c.saved_words.ensures at c.lower.ensures)
 
 pub returns-in-Some-clause-frees : goal.returns-in-Some-clause-frees
 returns-in-Some-clause-frees c = λ v.

@@ -1,9 +1,0 @@
-use Rattle.std.proofs.Common.{refl}
-use Rattle.tcpu.proofs.Quiet.{stands_at}
-use Rattle.tcpu.proofs.execution.local_for.Goals as goal
-
-pub returns-in-Ok-clause-left : goal.returns-in-Ok-clause-left
-returns-in-Ok-clause-left c =
-    stands_at c.args.kind.now c.args.instruction.function c.args.instruction.operand c.args.registers.now _ _ _ _ _
-    c.in-Ok.next refl
-    c.in-Ok.ensures.done

@@ -1,7 +1,0 @@
-use Rattle.std.proofs.Common.{◌≡◌, drop}
-use Rattle.tnet.specs.Wires.{far_end}
-use Rattle.tnet.proofs.far_ends.sought.Given as goal
-
--- the wires from this one on decide
-abbrev pub invariant-loop-wire : goal.invariant-loop-wire
-invariant-loop-wire l = far_end l.wires l.end ≡ far_end (drop l.wire-index l.wires) l.end

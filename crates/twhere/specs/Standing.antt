@@ -1,0 +1,287 @@
+-- What is printed of where the processes and the links of a net stand: a line for each node, and below it a line for
+-- each fact.
+-- Source: own choice, a format of this program; the names of registers, flags and queues are the Compiler Writer's
+-- Guide's (1988).
+use Rattle.std.specs.Prelude.{ℕ, zero, suc, ◌+◌, Bool, true, false, nat_le, List, [], ◌∷◌, ◌++◌, map, flat_map}
+use Rattle.std.specs.Prelude.{length, Option, Some, None, is_some, unwrap_or, Result, Ok, Err, codes, decimal, fold}
+use Rattle.std.specs.Prelude.{insert, if◌then◌else◌}
+use Rattle.std.specs.List.{position_or_len}
+use Rattle.std.specs.Int.{w32, from_le_bytes, to_be_bytes}
+use Rattle.hex.specs.Hex.{encode_lower}
+use Rattle.tword.specs.declared.breaks.Break.{Break}
+use Rattle.tword.specs.Words.{plus, word_below}
+use Rattle.tword.specs.Stores.{Store, byte_at}
+use Rattle.tword.specs.Actions.{run, value_of}
+use Rattle.tcode.specs.declared.instruction.Instruction.{Instruction}
+use Rattle.tcode.specs.Decoding.{decode}
+use Rattle.tcode.specs.Texts.{instruction_text}
+use Rattle.tcpu.specs.declared.registers.Registers.{Registers}
+use Rattle.tproc.specs.declared.offer.Offer.{Offer}
+use Rattle.tproc.specs.declared.waiter.Reason.{Reason}
+use Rattle.tproc.specs.declared.waiter.Reason.TheVariants.{Receives, Sends, LinkInput, LinkOutput, Chooses}
+use Rattle.tproc.specs.declared.waiter.Suspended.{Suspended}
+use Rattle.tproc.specs.declared.waiter.Waiter.{Waiter}
+use Rattle.tproc.specs.Machine.{Control, Machine, claims_of, workspace_of}
+use Rattle.tproc.specs.Queues.{iptr_word}
+use Rattle.tproc.specs.LinkChannels.{link_end}
+use Rattle.tlink.specs.declared.counts.Arrival.{Arrival}
+use Rattle.tlink.specs.declared.counts.Counts.{Counts}
+use Rattle.tlink.specs.Roles.{Role, Processor, Source, Sink}
+use Rattle.tlink.specs.Node.{NodeState, counts_at, input_at, output_at}
+use Rattle.tnet.specs.declared.inbox.Inbox.{Inbox}
+use Rattle.tnet.specs.Net.{NetState, four_links, inbox_at}
+use Rattle.tnet.specs.Wires.{end_at}
+use Rattle.tfiles.specs.Logs.{line}
+use Rattle.tfiles.specs.Texts.{break_name, node_line, source_line, sink_line}
+use Rattle.twhere.specs.declared.listing.Listed.{Listed}
+
+-- ---- words and instructions
+
+-- a word
+abbrev pub word_text : ℕ → List ℕ
+word_text w = codes "#" ++ encode_lower (to_be_bytes w32 w)
+
+-- a fact that is a word, behind its name
+abbrev pub word_fact : List ℕ → ℕ → List ℕ
+word_fact name w = line (name ++ word_text w)
+
+-- the instruction that a fetch finds, or the break of the fetch
+abbrev pub fetched_text : Result Instruction Break → List ℕ
+fetched_text (Ok i) = instruction_text i
+fetched_text (Err b) = break_name b
+
+-- what a fetch at an address answers, by the kind of the node
+abbrev pub fetched_at : Machine → ℕ → Result Instruction Break
+fetched_at n iptr = value_of (run (decode n.control.kind iptr) n.store (claims_of n.control))
+
+-- a byte of the store, 0 where there is none
+abbrev pub byte_there : Store → ℕ → ℕ
+byte_there store a = unwrap_or (byte_at store a) 0
+
+-- the four bytes from an address on, as a word
+abbrev pub word_there : Store → ℕ → ℕ
+word_there store a =
+    from_le_bytes w32
+    (byte_there store a
+    ∷ byte_there store (plus a 1)
+    ∷ byte_there store (plus a 2)
+    ∷ byte_there store (plus a 3)
+    ∷ [])
+
+-- the saved Iptr of a process that is queued or waits
+abbrev pub saved_iptr : Machine → ℕ → ℕ
+saved_iptr n process = word_there n.store (word_below (workspace_of process) iptr_word)
+
+-- ---- the process that runs, and the one that was interrupted
+
+-- a priority
+abbrev pub priority_text : ℕ → List ℕ
+priority_text zero = codes " high"
+priority_text (suc p) = codes " low"
+
+-- the flag Error, where it is set
+abbrev pub error_fact : Bool → List ℕ
+error_fact true = line (codes "    Error       set")
+error_fact false = []
+
+-- the flag HaltOnError, where it is set
+abbrev pub halt_on_error_fact : Bool → List ℕ
+halt_on_error_fact true = line (codes "    HaltOnError set")
+halt_on_error_fact false = []
+
+-- the flags that are set
+abbrev pub flag_facts : Registers → List ℕ
+flag_facts r = error_fact r.error ++ halt_on_error_fact r.halt_on_error
+
+-- Iptr, with the instruction there
+abbrev pub iptr_fact : Machine → ℕ → List ℕ
+iptr_fact n iptr =
+    line (codes "    Iptr        " ++ (word_text iptr ++ (codes ": " ++ fetched_text (fetched_at n iptr))))
+
+-- the registers A, B, C and Wptr
+abbrev pub register_facts : Registers → List ℕ
+register_facts r =
+    word_fact (codes "    A           ") r.a
+    ++ (word_fact (codes "    B           ") r.b
+    ++ (word_fact (codes "    C           ") r.c ++ word_fact (codes "    Wptr        ") r.wptr))
+
+-- a process with its registers: its descriptor and its priority, and each register
+abbrev pub process_facts : List ℕ → Machine → ℕ → Registers → List ℕ
+process_facts name n p r =
+    line (name ++ (word_text (r.wptr + p) ++ priority_text p))
+    ++ (iptr_fact n r.iptr ++ (register_facts r ++ flag_facts r))
+
+-- no process runs: the flags alone
+abbrev pub idle_facts : Registers → List ℕ
+idle_facts r = line (codes "  runs          none") ++ flag_facts r
+
+-- the process that runs, or that broke the rule
+abbrev pub running_facts : Machine → Option ℕ → List ℕ
+running_facts n (Some p) = process_facts (codes "  runs          ") n p n.control.registers
+running_facts n None = idle_facts n.control.registers
+
+-- the low process that was interrupted
+abbrev pub interrupted_facts : Machine → Option Suspended → List ℕ
+interrupted_facts n (Some s) = process_facts (codes "  interrupted   ") n 1 s.registers
+interrupted_facts n None = []
+
+-- ---- those that are queued
+
+-- the descriptors of a queue of this priority
+abbrev pub descriptors : ℕ → List ℕ → List ℕ
+descriptors p workspaces = map (λ w. w + p) workspaces
+
+-- a process and its Iptr
+abbrev pub place_text : Machine → ℕ → List ℕ
+place_text n process = word_text process ++ (codes " Iptr " ++ word_text (saved_iptr n process))
+
+-- a process that is queued
+abbrev pub queued_fact : List ℕ → Machine → ℕ → List ℕ
+queued_fact name n process = line (name ++ place_text n process)
+
+-- a queue, the first of it first
+abbrev pub queue_facts : List ℕ → Machine → List ℕ → List ℕ
+queue_facts name n processes = flat_map (queued_fact name n) processes
+
+-- ---- those that wait
+
+-- a waiting process is put before the first whose descriptor is not below its own
+abbrev pub inserted : List Waiter → Waiter → List Waiter
+inserted sorted w = insert sorted (position_or_len (λ v. nat_le w.process v.process) sorted) w
+
+-- processes that wait, in the order of their descriptors
+abbrev pub by_descriptor : List Waiter → List Waiter
+by_descriptor waiting = fold inserted [] waiting
+
+-- a message
+abbrev pub message_text : (buffer length : ℕ) → List ℕ
+message_text buffer length = codes " buffer " ++ (word_text buffer ++ (codes " length " ++ decimal length))
+
+-- a message on an internal channel
+abbrev pub channel_text : (channel buffer length : ℕ) → List ℕ
+channel_text channel buffer length = codes " on channel " ++ (word_text channel ++ message_text buffer length)
+
+-- a message on a link, and how many of its bytes went over
+abbrev pub offer_text : Option Offer → ℕ → List ℕ
+offer_text (Some o) over = message_text o.buffer o.length ++ (codes " over " ++ decimal over)
+offer_text None over = []
+
+-- the input of a link
+abbrev pub link_input_text : NodeState → ℕ → List ℕ
+link_input_text n l = codes " input on link " ++ (decimal l ++ offer_text (input_at n l) (counts_at n l).got)
+
+-- the output of a link
+abbrev pub link_output_text : NodeState → ℕ → List ℕ
+link_output_text n l = codes " output on link " ++ (decimal l ++ offer_text (output_at n l) (counts_at n l).acked)
+
+-- what a process waits for
+abbrev pub reason_text : NodeState → Reason → List ℕ
+reason_text n (Receives channel buffer length) = codes " input" ++ channel_text channel buffer length
+reason_text n (Sends channel buffer length) = codes " output" ++ channel_text channel buffer length
+reason_text n (LinkInput l) = link_input_text n l
+reason_text n (LinkOutput l) = link_output_text n l
+reason_text n Chooses = codes " alternative"
+
+-- a process that waits: its Iptr, and for what
+abbrev pub waiter_fact : NodeState → Waiter → List ℕ
+waiter_fact n w = line (codes "  waits         " ++ (place_text n.machine w.process ++ reason_text n w.reason))
+
+-- the processes of a list that wait, each on a line
+abbrev pub waiting_facts : NodeState → List Waiter → List ℕ
+waiting_facts n waiting = flat_map (waiter_fact n) waiting
+
+-- ---- links
+
+-- what stands before each fact of a link
+abbrev pub link_name : ℕ → List ℕ
+link_name l = codes "  link " ++ (decimal l ++ codes "        ")
+
+-- a fact of a link
+abbrev pub link_fact : ℕ → List ℕ → List ℕ
+link_fact l text = link_name l ++ line text
+
+-- a pending output: how many bytes were sent, and how many of them acknowledged
+abbrev pub output_fact : (link : ℕ) → (is_pending : Bool) → Counts → List ℕ
+output_fact l true c = link_fact l (codes "sent " ++ (decimal c.sent ++ (codes " acknowledged " ++ decimal c.acked)))
+output_fact l false c = []
+
+-- a pending input: how many bytes it has got
+abbrev pub input_fact : (link : ℕ) → (is_pending : Bool) → Counts → List ℕ
+input_fact l true c = link_fact l (codes "got " ++ decimal c.got)
+input_fact l false c = []
+
+-- a byte, and whether it is marked as the last
+abbrev pub arrival_text : Arrival → List ℕ
+arrival_text a = encode_lower (a.byte ∷ []) ++ (if a.last then codes " last" else [])
+
+-- a byte that came, or that lies there as a packet, by this name
+abbrev pub byte_fact : ℕ → List ℕ → Option Arrival → List ℕ
+byte_fact l name (Some a) = link_fact l (name ++ arrival_text a)
+byte_fact l name None = []
+
+-- an acknowledge that lies there
+abbrev pub ack_fact : ℕ → Bool → List ℕ
+ack_fact l true = link_fact l (codes "packet acknowledge")
+ack_fact l false = []
+
+-- the process that enabled the link
+abbrev pub enabled_fact : ℕ → Option ℕ → List ℕ
+enabled_fact l (Some process) = link_fact l (codes "enabled by " ++ word_text process)
+enabled_fact l None = []
+
+-- a link with what lies at it; one that is at rest has no line
+abbrev pub link_facts : NodeState → Inbox → ℕ → List ℕ
+link_facts n box l =
+    output_fact l (is_some (output_at n l)) (counts_at n l)
+    ++ (input_fact l (is_some (input_at n l)) (counts_at n l)
+    ++ (byte_fact l (codes "byte waits ") (counts_at n l).arrived
+    ++ (byte_fact l (codes "packet data ") box.carried
+    ++ (ack_fact l box.acknowledged ++ enabled_fact l (link_end n.machine.control l).remembered))))
+
+-- the four links of a node
+abbrev pub links_facts : NetState → ℕ → NodeState → List ℕ
+links_facts net k n = flat_map (λ l. link_facts n (inbox_at net (end_at k l)) l) four_links
+
+-- ---- nodes
+
+-- the processes of a node that are queued or wait, in the order in which they are told
+abbrev pub listed_of : Control → Listed
+listed_of m =
+    record {
+      high = descriptors 0 m.high;
+      low = descriptors 1 m.low;
+      waiting = by_descriptor m.waiting;
+    }
+
+-- a processor, with these lists of its processes
+abbrev pub processor_where : ℕ → NodeState → Listed → List ℕ
+processor_where k n listed =
+    node_line k n.broken n.machine.control.halted
+    ++ (running_facts n.machine n.machine.control.current
+    ++ (interrupted_facts n.machine n.machine.control.interrupted
+    ++ (queue_facts (codes "  high queue    ") n.machine listed.high
+    ++ (queue_facts (codes "  low queue     ") n.machine listed.low
+    ++ waiting_facts n listed.waiting))))
+
+-- what stands behind the links: a processor, with these lists of its processes, a source or a sink
+abbrev pub role_where : Role → ℕ → NodeState → Listed → List ℕ
+role_where Processor k n listed = processor_where k n listed
+role_where (Source over rest) k n listed = source_line k (length over) (length over + length rest)
+role_where (Sink kept) k n listed = sink_line k (length kept)
+
+-- what stands behind the links of a node, and the links
+abbrev pub listed_where : NetState → ℕ → NodeState → Listed → List ℕ
+listed_where net k n listed = role_where n.role k n listed ++ links_facts net k n
+
+-- a node
+abbrev pub node_where : NetState → ℕ → NodeState → List ℕ
+node_where net k n = listed_where net k n (listed_of n.machine.control)
+
+-- the nodes from a number on
+abbrev pub where_from : NetState → ℕ → List NodeState → List ℕ
+where_from net k [] = []
+where_from net k (n ∷ ns) = node_where net k n ++ where_from net (suc k) ns
+
+-- a net
+abbrev pub where_text : NetState → List ℕ
+where_text net = where_from net 0 net.nodes

@@ -1,0 +1,79 @@
+//! Where the processes, the links and the scripts of a net stand, as text.
+
+ghost use Rattle.std.specs.Prelude.{◌≡◌, ◌≤◌, length, map};
+ghost use Rattle.tword.specs.Limits.{most_nodes};
+ghost use Rattle.tlink.specs.Whole.{IsWhole};
+ghost use Rattle.tfiles.specs.Outputs.{Tells};
+ghost use Rattle.twhere.specs.Standing as spec;
+
+use crate::links::put_links;
+use crate::listing::Listed;
+use crate::processes::{put_interrupted, put_queue, put_running};
+use crate::processor_node::ProcessorNode;
+use crate::waiting::put_waiting;
+use tfiles::CountedWrite;
+use tfiles::writing::node_dump::put_node_line;
+use tfiles::writing::output::Output;
+use tfiles::writing::scripts::{put_sink_line, put_source};
+use tlink::{Node, Role};
+use tnet::Net;
+
+/// Where the processes and the links of each node stand (own choice of format, `specs/Standing`), in the order of the
+/// nodes, sources and sinks behind them. The processes that are queued or wait are those that `list_net` lists. It
+/// takes no memory.
+pub fn put_where<W: CountedWrite>(out: &mut Output<'_, W>, net: &Net, listed: &[Listed])
+    requires listed { listed.now ≡ map (λ n. spec.listed_of n.machine.control) net.now.nodes }
+    requires few { length net.now.nodes ≤ most_nodes }
+    ensures { Tells W.contents W.failures out.old out.new (spec.where_text net.now) }
+{
+    for (number, node) in net.nodes().iter().enumerate() {
+        put_node(out, net, number as u32, node, &listed[number]);
+    }
+}
+
+/// One node, whose number is given, with its links.
+fn put_node<W: CountedWrite>(
+    out: &mut Output<'_, W>,
+    net: &Net,
+    number: u32,
+    node: &Node,
+    listed: &Listed,
+)
+    requires { IsWhole node.now }
+    ensures { Tells W.contents W.failures out.old out.new (spec.listed_where net.now number node.now listed.now) }
+{
+    put_role(out, number, node, listed);
+    put_links(out, net, number, node);
+}
+
+/// What stands behind the links: a processor, a source or a sink.
+fn put_role<W: CountedWrite>(out: &mut Output<'_, W>, number: u32, node: &Node, listed: &Listed)
+    ensures { Tells W.contents W.failures out.old out.new
+        (spec.role_where node.now.role number node.now listed.now) }
+{
+    match node.role() {
+        Role::Processor(processor) => {
+            put_processor(out, number, &ProcessorNode { node, processor }, listed);
+        }
+        Role::Source(source) => put_source(out, number as usize, source),
+        Role::Sink(sink) => put_sink_line(out, number as usize, sink.kept().count()),
+    }
+}
+
+/// The processor of a node.
+fn put_processor<W: CountedWrite>(
+    out: &mut Output<'_, W>,
+    number: u32,
+    at: &ProcessorNode<'_>,
+    listed: &Listed,
+)
+    ensures { Tells W.contents W.failures out.old out.new (spec.processor_where number at.now.node.now listed.now) }
+{
+    let ProcessorNode { node, processor } = *at;
+    put_node_line(out, number as usize, node.broken(), processor.is_halted());
+    put_running(out, processor);
+    put_interrupted(out, processor);
+    put_queue(out, b"  high queue    ", processor, listed.high.as_slice());
+    put_queue(out, b"  low queue     ", processor, listed.low.as_slice());
+    put_waiting(out, at, listed.waiting.as_slice());
+}

@@ -1,0 +1,65 @@
+-- The arguments of a command line: the rules by which `clap` reads them, and the texts and numbers that they have.
+-- Source: own choice; `Rattle.clap.specs` says how `clap` reads words.
+use Rattle.std.specs.Prelude.{ℕ, ◌≡◌, pos, Bool, true, false, List, [], ◌∷◌, Option, Some, is_some}
+use Rattle.std.specs.Option.{option_map_or}
+use Rattle.std.specs.Str.Parse.{digits_value, without_leading_plus}
+use Rattle.clap.specs.Words.{Text, Rule, Row, IsSignedIn, new_rule, first_of, one_of, without_minus}
+use Rattle.clap.specs.declared.builder.value_parser.ValueParser.{ValueParser}
+use Rattle.clap.specs.declared.builder.value_parser.ValueParser.TheVariants.{Signed}
+
+-- ---- their rules
+
+-- a file that has to be named
+abbrev pub file_rule : Text → Rule
+file_rule id = record (new_rule id) { value_names = 1; required = true }
+
+-- an option with a value
+abbrev pub option_rule : Text → Rule
+option_rule id = record (new_rule id) { long = Some id; value_names = 1 }
+
+-- an option with a text, and what it is where it is not given
+abbrev pub text_rule : Text → Text → Rule
+text_rule id default = record (option_rule id) { defaults = default ∷ [] }
+
+-- an option whose value is a number of a range, and what it is where it is not given
+abbrev pub number_rule : Text → ValueParser → Text → Rule
+number_rule id parser default = record (option_rule id) { parser = Some parser; defaults = default ∷ [] }
+
+-- the numbers of a range
+abbrev pub between : ℕ → ℕ → ValueParser
+between least most = Signed (pos least) (pos most)
+
+-- ---- what they have
+
+-- the text of an argument
+abbrev pub text_at : Text → List Row → Text
+text_at id rows = option_map_or (λ t. t) (first_of id rows) []
+
+-- the number of an argument
+abbrev pub number_at : Text → List Row → ℕ
+number_at id rows = option_map_or (λ t. digits_value 10 (without_leading_plus t)) (one_of id rows) 0
+
+-- the argument has a text
+abbrev pub HasText : Text → List Row → Type 0
+HasText id rows = is_some (first_of id rows) ≡ true
+
+-- the argument has a number of a range
+pub record HasNumber (least most : ℕ) (id : Text) (rows : List Row) : Type 0 where
+  pub text : Text
+  pub read : one_of id rows ≡ Some (without_minus text)
+  pub within : IsSignedIn (pos least) (pos most) text
+
+-- a number of a range is there, if the argument has one; else a text
+abbrev pub HasParsed : Option ValueParser → Text → List Row → Type 0
+HasParsed (Some (Signed (pos least) (pos most))) id rows = HasNumber least most id rows
+HasParsed parser id rows = HasText id rows
+
+-- an argument has its number or text, unless it may be left out and has no default
+abbrev pub HasWanted : Bool → List Text → Rule → List Row → Type 0
+HasWanted false [] a rows = Unit {0}
+HasWanted required defaults a rows = HasParsed a.parser a.id rows
+
+-- all arguments that cannot be absent are there
+abbrev pub HasAll : List Rule → List Row → Type 0
+HasAll [] rows = Unit {0}
+HasAll (a ∷ rest) rows = HasWanted a.required a.defaults a rows × HasAll rest rows
