@@ -17,10 +17,6 @@ pub shown-as_cells : (bytes : List ℕ) → shown (as_cells bytes) ≡ bytes
 shown-as_cells [] = refl
 shown-as_cells (b ∷ bytes) = ap (λ (bs : List ℕ). b ∷ bs) (shown-as_cells bytes)
 
--- so equal cells have equal bytes
-pub as_cells-same : (bytes others : List ℕ) → as_cells bytes ≡ as_cells others → bytes ≡ others
-as_cells-same bytes others e = sym (shown-as_cells bytes) ∙ ap (λ (s : Store). shown s) e ∙ shown-as_cells others
-
 pub as_cells-replicate : (n b : ℕ) → as_cells (replicate n b) ≡ replicate n (Some b)
 as_cells-replicate zero b = refl
 as_cells-replicate (suc n) b = ap (λ (s : Store). Some b ∷ s) (as_cells-replicate n b)
