@@ -25,7 +25,7 @@ use Rattle.tcpu.specs.Outcomes.{Outcome}
 use Rattle.tcpu.specs.Functions.{function_effect}
 use Rattle.tcpu.specs.Operations.{operation_effect, looped, is_positive_word}
 use Rattle.tcpu.specs.Effects.{local_or_left, selected_effect, effect_at, effect}
-use Rattle.tcpu.specs.Local.{outcome_of, would_jump, StandsWhereLeft, StaysWhereJumped}
+use Rattle.tcpu.specs.Local.{outcome_of, StandsWhereLeft, StaysWhereJumped}
 
 -- no process is descheduled, and Q holds of each answer
 abbrev pub IsQuiet : {A : Type 0} → (A → Type 0) → Action A → Type 0
@@ -190,20 +190,6 @@ pub effect_broke : {B : Type 0} (kind : Kind) (i : Instruction) (r : Registers) 
     (c : Claims)
     → run (effect kind i r) s c ≡ Err b → run_from (effect kind i r >>= f) s c s ≡ Err b
 effect_broke kind i r b f s c e = rw (effect_then kind i r f s c, e) refl
-
--- what would jump does
-pub jump_foretold : (x : Result (Outcome × Store) Break) → Ok true ≡ would_jump x
-    → (r' : Registers) × (s' : Store) × (x ≡ Ok ((r', Jumped), s'))
-jump_foretold (Ok ((r', Jumped), s')) e = (r', s', refl)
-jump_foretold (Ok ((r', Go), s')) e = cc
-jump_foretold (Ok ((r', Halt), s')) e = cc
-jump_foretold (Ok ((r', Schedule o), s')) e = cc
-jump_foretold (Err b) e = cc
-
--- and what would break does
-pub break_foretold : (x : Result (Outcome × Store) Break) (b : Break) → Err b ≡ would_jump x → x ≡ Err b
-break_foretold (Ok ((r', next), s')) b e = cc
-break_foretold (Err b') b e = cc
 
 -- a jump stays in its workspace
 pub stays_effect : (kind : Kind) (i : Instruction) (r r' : Registers) (c : Claims) (s s' : Store)
