@@ -195,22 +195,21 @@ tally_input ins outs ws counts new i before claim is lt e changed = record {
   saved = is.saved;
 }
 
+-- inputs and outputs count alike
+swapped : (ins outs : List (Option Span)) (ws counts : List ℕ) → IsTally ins outs ws counts → IsTally outs ins ws counts
+swapped ins outs ws counts is = record {
+  counted = λ slot within. omega (arith, is.counted slot within);
+  inputs = is.outputs;
+  outputs = is.inputs;
+  saved = is.saved;
+}
+
 pub tally_output : (ins outs : List (Option Span)) (ws counts new : List ℕ) (i : ℕ) (before claim : Option Span)
     → IsTally ins outs ws counts → i < 4 → before ≡ get_or outs i None → IsExchanged before claim counts new
     → IsTally ins (set outs i claim) ws new
-tally_output ins outs ws counts new i before claim is lt e changed = record {
-  counted = λ slot within.
-      let old : slot < length counts = omega (arith, within, changed.size) in
-      let total = is.counted slot old in
-      let step = changed.counted slot old in
-      let sums = sum_by-set (claims_word (word_at slot)) outs i claim None (omega (arith, is.outputs)) in
-      let same : claims_word (word_at slot) before ≡ claims_word (word_at slot) (get_or outs i None) =
-      ap (claims_word (word_at slot)) e in
-      omega (arith, total, step, sums, same);
-  inputs = is.inputs;
-  outputs = length-set outs i claim ∙ is.outputs;
-  saved = is.saved;
-}
+tally_output ins outs ws counts new i before claim is lt e changed =
+    swapped (set outs i claim) ins ws new
+    (tally_input outs ins ws counts new i before claim (swapped ins outs ws counts is) lt e changed)
 
 -- what a link claims is counted
 pub enough_input : (ins outs : List (Option Span)) (ws counts : List ℕ) (i : ℕ) (before : Option Span)
@@ -226,12 +225,8 @@ enough_input ins outs ws counts i before is lt e slot within =
 pub enough_output : (ins outs : List (Option Span)) (ws counts : List ℕ) (i : ℕ) (before : Option Span)
     → IsTally ins outs ws counts → i < 4 → before ≡ get_or outs i None
     → (slot : ℕ) → slot < length counts → claims_word (word_at slot) before ≤ get_or counts slot 0
-enough_output ins outs ws counts i before is lt e slot within =
-    let total = is.counted slot within in
-    let one = get_or-le-sum_by (claims_word (word_at slot)) outs i None (omega (arith, is.outputs)) in
-    let same : claims_word (word_at slot) before ≡ claims_word (word_at slot) (get_or outs i None) =
-    ap (claims_word (word_at slot)) e in
-    omega (arith, total, one, same)
+enough_output ins outs ws counts i before is lt e =
+    enough_input outs ins ws counts i before (swapped ins outs ws counts is) lt e
 
 -- the table with the words of one more workspace
 pub tally_push : (ins outs : List (Option Span)) (ws counts new : List ℕ) (w : ℕ) → IsTally ins outs ws counts
