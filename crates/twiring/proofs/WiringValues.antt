@@ -24,9 +24,8 @@ use Rattle.twiring.specs.WiringParts.{message_in, version_in, node_in, wire_in, 
 use Rattle.twiring.specs.WiringParts.{array_in, array_at, head_in, ends_in, Arrays, arrays_in, wiring_in}
 use Rattle.twiring.proofs.WiringTests.{Tests, passed, either, tested, judged, same_judged, both-judged, made-judged}
 use Rattle.twiring.proofs.WiringTests.{known-judged, required-judged, timeslice-judged, never, is_good_number}
-use Rattle.twiring.proofs.WiringTests.{node_kind_or_one-judged}
-use Rattle.twiring.proofs.WiringTests.{number_in-judged, text_in-judged, end_in-judged, kind_in-judged}
-use Rattle.twiring.proofs.WiringTests.{messages_in-judged, version_in-judged, array-judged}
+use Rattle.twiring.proofs.WiringTests.{node_kind_or_one-judged, number_in-judged, text_in-judged, end_in-judged}
+use Rattle.twiring.proofs.WiringTests.{kind_in-judged, messages_in-judged, version_in-judged, array-judged}
 
 -- a number, a text, an end, a kind, messages and a version that have to be there
 number-judged : (key : List ℕ) (t : Members)
