@@ -2,7 +2,7 @@
 use Rattle.std.proofs.Common.{◌≡◌, ◌∙◌, ℕ, zero, suc, ◌+◌, ◌-◌, ◌<◌, ◌≤◌, refl, sym, ap, List, [], ◌∷◌, ◌++◌, length, map}
 use Rattle.std.proofs.Common.{take, drop, set, get_or, replicate, length-append, Bool, true, false}
 use Rattle.std.proofs.Common.{Option, Some, None, ◌⊎◌, inl, inr, arith}
-use Rattle.std.specs.Prelude.{slice_get, sum, option_map, is_some}
+use Rattle.std.specs.Prelude.{slice_get, sum, option_map}
 use Rattle.std.specs.List.{concat}
 use Rattle.std.proofs.lemmas.Bool.{cases_eq, cases_lt, ne_eqb, eq-eqb, lt-ltb, le-ltb}
 use Rattle.std.proofs.lemmas.List.{append_assoc, append-nil, length-replicate, map-append, take-append-drop, get_or_append_left}
@@ -160,8 +160,8 @@ module _ (s : Sink) where
 
   receives : (a : Arrival) (o : Option Arrival) → s.arrived ≡ o
       → happens (Data 0 a.byte a.last) (sink_node s) ≡ kept_as sink_node (arrived_of s a o)
-  receives a None h = sink.data_comes _ _ _ counts_of a.byte a.last (ap is_some h)
-  receives a (Some b) h = sink.data_full _ _ _ counts_of a.byte a.last (ap is_some h)
+  receives a None h = sink.data_comes _ _ _ counts_of a.byte a.last h
+  receives a (Some b) h = sink.data_full _ _ _ counts_of a.byte a.last b h
 
   -- where the next byte goes
   at : length (concat s.kept ++ s.part) ≡ length (concat s.kept) + length s.part

@@ -34,14 +34,6 @@ shown_cells [] = refl
 shown_cells (b ∷ bs) = ap (λ (xs : List ℕ). b ∷ xs) (shown_cells bs)
 
 -- whether a byte waits
-some_waits : (x : Option Arrival) → is_some x ≡ true → is_none x ≡ false
-some_waits None h = cc
-some_waits (Some a) h = refl
-
-none_waits : (x : Option Arrival) → is_some x ≡ false → is_none x ≡ true
-none_waits None h = refl
-none_waits (Some a) h = cc
-
 pub none_told : (x : Option Arrival) (b : Bool) → is_some x ≡ not b → b ≡ is_none x
 none_told None true h = refl
 none_told None false h = cc
@@ -56,30 +48,21 @@ pub some_is : (x : Option Arrival) → is_some x ≡ true → (a : Arrival) × (
 some_is None h = cc
 some_is (Some a) h = (a, refl)
 
--- what is not so
-pub not_true : (b : Bool) → not b ≡ true → b ≡ false
-not_true true h = cc
-not_true false h = refl
-
-pub not_false : (b : Bool) → not b ≡ false → b ≡ true
-not_false true h = refl
-not_false false h = cc
-
 module _ (bytes lengths : List ℕ) (kept : ℕ) (c : Counts) where
   abbrev pub this : NodeState
   this = sink_state bytes lengths kept c
 
   -- a byte comes where none waits
-  pub data_full : (byte : ℕ) (last : Bool) → is_some c.arrived ≡ true → happens (Data 0 byte last) this ≡ Err
-      NotEnabled
+  pub data_full : (byte : ℕ) (last : Bool) (a : Arrival) → c.arrived ≡ Some a
+      → happens (Data 0 byte last) this ≡ Err NotEnabled
   unfolding happens
-  data_full byte last h = rw (some_waits c.arrived h) refl
+  data_full byte last a h = rw h refl
 
-  pub data_comes : (byte : ℕ) (last : Bool) → is_some c.arrived ≡ false → happens (Data 0 byte last) this
+  pub data_comes : (byte : ℕ) (last : Bool) → c.arrived ≡ None → happens (Data 0 byte last) this
       ≡ silently Nothing
       (sink_state bytes lengths kept (record c { arrived = Some (record { byte = byte; last = last }) }))
   unfolding happens
-  data_comes byte last h = rw (none_waits c.arrived h) refl
+  data_comes byte last h = rw h refl
 
   -- the tests of Data and Take
   pub data_told : (byte : ℕ) (last : Bool) → is_none c.arrived ≡ is_node_done (happens (Data 0 byte last) this)

@@ -13,14 +13,10 @@ pub returns-else-link-eq0-2 : goal.returns-else-link-eq0-2
 returns-else-link-eq0-2 c =
     source.rests _ c.self.view_is (sink.alone _ _ _ _ _ (λ b last q. cc) (λ q. c.if-link-eq0-2.false (cc)))
 
-pub returns-in-Run : goal.returns-in-Run
-returns-in-Run c = source.rests _ c.self.view_is (sink.alone _ _ _ _ _ (λ b last q. cc) (λ q. cc))
-
-pub returns-in-Send : goal.returns-in-Send
-returns-in-Send c = source.rests _ c.self.view_is (sink.alone _ _ _ _ _ (λ b last q. cc) (λ q. cc))
-
-pub returns-in-Ack : goal.returns-in-Ack
-returns-in-Ack c = source.rests _ c.self.view_is (sink.alone _ _ _ _ _ (λ b last q. cc) (λ q. cc))
+pub returns-in_default : goal.returns-in_default
+returns-in_default c =
+    source.rests _ c.self.view_is
+    (sink.alone _ _ _ _ _ (c.in_default.not-Data 0) (c.in_default.not-Take 0))
 
 pub returns-then-is_none : goal.returns-then-is_none
 returns-then-is_none c =

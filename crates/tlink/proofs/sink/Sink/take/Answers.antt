@@ -1,4 +1,5 @@
 use Rattle.std.proofs.Common.{◌+◌, ◌<◌, refl, arith, rules, length}
+use Rattle.std.proofs.lemmas.Bool.{not-true, not-false}
 use Rattle.tlink.specs.declared.event.NodeEvent.TheVariants.{Take}
 use Rattle.tlink.proofs.Sources as source
 use Rattle.tlink.proofs.Sinks as sink
@@ -14,7 +15,7 @@ returns-then-place-len c =
 pub returns-then-not-arrival : goal.returns-then-not-arrival
 returns-then-not-arrival c =
     source.does (Take 0) _ _ _ c.self.view_is
-    (sink.take_byte _ _ _ _ c.in-Some.arrival c.in-Some.is (search rules) (sink.not_true _ c.if-not-arrival.true))
+    (sink.take_byte _ _ _ _ c.in-Some.arrival c.in-Some.is (search rules) (not-true _ c.if-not-arrival.true))
     refl refl
 
 pub returns : goal.returns
@@ -23,5 +24,5 @@ returns c =
     let few : c.self.inside.messages < length c.self.inside.lengths.items =
     omega (arith, c.self.invariant.each, c.self.invariant.room, more) in
     source.does (Take 0) _ _ _ c.self.view_is
-    (sink.take_last _ _ _ _ c.in-Some.arrival c.in-Some.is more (sink.not_false _ c.if-not-arrival.false)) refl
+    (sink.take_last _ _ _ _ c.in-Some.arrival c.in-Some.is more (not-false _ c.if-not-arrival.false)) refl
     (rw (sink.length_kept c.self.inside.lengths.items c.self.inside.messages (c.self.inside.counts.got + 1) few) refl)

@@ -9,11 +9,7 @@ pub returns-else-link-eq0-2 : goal.returns-else-link-eq0-2
 returns-else-link-eq0-2 c =
     source.rests _ c.self.view_is (source.alone _ _ _ _ _ _ (λ q. cc) (λ q. c.if-link-eq0-2.false (cc)))
 
-pub returns-in-Run : goal.returns-in-Run
-returns-in-Run c = source.rests _ c.self.view_is (source.alone _ _ _ _ _ _ (λ q. cc) (λ q. cc))
-
-pub returns-in-Data : goal.returns-in-Data
-returns-in-Data c = source.rests _ c.self.view_is (source.alone _ _ _ _ _ _ (λ q. cc) (λ q. cc))
-
-pub returns-in-Take : goal.returns-in-Take
-returns-in-Take c = source.rests _ c.self.view_is (source.alone _ _ _ _ _ _ (λ q. cc) (λ q. cc))
+pub returns-in_default : goal.returns-in_default
+returns-in_default c =
+    source.rests _ c.self.view_is
+    (source.alone _ _ _ _ _ _ (c.in_default.not-Send 0) (c.in_default.not-Ack 0))
