@@ -23,9 +23,9 @@ use Rattle.tproc.specs.Placement.{IsWord, AreWords, IsOfferOf}
 use Rattle.tproc.proofs.PlaceMoves.{IsSeat, HasSeat, Offers, ones, population, IsBelow, IsListed, IsRunning, IsSettled}
 use Rattle.tproc.proofs.PlaceMoves.{links_stay}
 
--- there is room for one more
-abbrev pub HasRoom : Control → Type 0
-HasRoom m = population m < most_processes
+-- there is room for one more process
+abbrev pub HasProcessRoom : Control → Type 0
+HasProcessRoom m = population m < most_processes
 
 -- other queues
 with_queues : (links : List LinkEnd) (high low high' low' : List ℕ) (waiting : List Waiter)
@@ -34,7 +34,7 @@ with_queues links high low high' low' waiting t h l =
     record { links = t.links; offered = t.offered; high = h; low = l; waiting = t.waiting }
 
 -- a process is queued
-settled_appended : (w p : ℕ) (m : Control) → IsSettled m → HasRoom m → IsSeat w → IsSettled (appended w p m)
+settled_appended : (w p : ℕ) (m : Control) → IsSettled m → HasProcessRoom m → IsSeat w → IsSettled (appended w p m)
 settled_appended w zero m s room seat =
     let t : IsListed m.links m.high m.low m.waiting = s.listed in
     record {
@@ -63,7 +63,7 @@ abbrev pub Stays : Control → Control → Type 0
 Stays m m' = IsSettled m' × (m'.current ≡ m.current)
 
 -- a process is queued where there is room
-pub enqueue-settles : (process : ℕ) (m : Control) → IsSettled m → HasRoom m → IsSeat (workspace_of process)
+pub enqueue-settles : (process : ℕ) (m : Control) → IsSettled m → HasProcessRoom m → IsSeat (workspace_of process)
     → Gives (Stays m) (enqueue process m)
 unfolding enqueue
 enqueue-settles process m s room seat =
