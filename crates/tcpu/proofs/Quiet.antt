@@ -133,9 +133,7 @@ IsStay r o = StaysWhereJumped o.1 r o.0
 
 ends_stays : (next : Next) (r r' : Registers) → EndsAs next r r' → StaysWhereJumped next r r'
 ends_stays Jumped r r' h = h
-ends_stays (Schedule o) r r' h = tt
-ends_stays Go r r' h = tt
-ends_stays Halt r r' h = tt
+ends_stays _ r r' h = tt
 
 quiet_stays : (r : Registers) (x : Action Outcome) → IsQuiet (IsEnd r) x → IsQuiet (IsStay r) x
 quiet_stays r (answer o) q = ends_stays o.1 r o.0 q
@@ -226,6 +224,4 @@ pub stands_at : (kind : Kind) (f : Function) (n : ℕ) (b r r' : Registers) (c :
     → b.wptr ≡ r.wptr
     → run (effect_at kind f n b r) s c ≡ Ok ((r', next), s') → StandsWhereLeft next s b s' r'
 stands_at kind f n b r r' c s s' (Schedule p) w e = effect_at-left kind f n p b r r' c s s' w e
-stands_at kind f n b r r' c s s' Go w e = tt
-stands_at kind f n b r r' c s s' Jumped w e = tt
-stands_at kind f n b r r' c s s' Halt w e = tt
+stands_at kind f n b r r' c s s' _ w e = tt

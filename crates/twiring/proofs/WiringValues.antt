@@ -334,19 +334,13 @@ arrays_in-judged t =
 
 -- the order of the tests
 one_by_one : (r n w s k h : Bool) → (r || ((n || w) || ((s || k) || h))) ≡ (r || n || w || s || k || h)
-one_by_one true n w s k h = refl
-one_by_one false true w s k h = refl
-one_by_one false false true s k h = refl
-one_by_one false false false true k h = refl
-one_by_one false false false false true h = refl
 one_by_one false false false false false h = refl
+one_by_one _ _ _ _ _ h = refl
 
 -- kinds first
 kinds_first : (a x b y : Bool) → ((a || x) || (b || y)) ≡ ((a || b) || (x || y))
-kinds_first true x b y = refl
 kinds_first false true true y = refl
-kinds_first false true false y = refl
-kinds_first false false b y = refl
+kinds_first _ _ _ y = refl
 
 wrong_by_kind : (r a x b y c z d p e q : Bool)
     → (r || (((a || x) || (b || y)) || (((c || z) || (d || p)) || (e || q))))
