@@ -116,6 +116,7 @@ unclaimed n w c small h =
     let p : Passes n c Writes (saved_words w) = deschedule-passes n c w (omega arith) h in
     rw (p.still, p.unsaved) refl
 
+-- so its words were not saved
 pub unsaved : (n w : ℕ) (c : Claims) → n ≤ 16777216 → deschedule_break n c w ≡ None → has_saved c w ≡ false
 unsaved n w c small h = by (has_saved c w) refl
   where
@@ -124,6 +125,9 @@ unsaved n w c small h = by (has_saved c w) refl
     by true e =
         sym (found (λ v. overlap (saved_words w) (saved_words v)) w c.saved (overlap_self w) e)
         ∙ (deschedule-passes n c w (omega arith) h).unsaved
+
+-- what is needed of a workspace to save its words, and what is then known of it
+pub ruleset descheduled_workspace = (claimable, unclaimed, unsaved)
 
 pub saved_inside : (n w : ℕ) (c : Claims) → n ≤ 16777216 → deschedule_break n c w ≡ None
     → is_inside n (saved_words w) ≡ true

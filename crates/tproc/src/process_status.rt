@@ -57,14 +57,14 @@ impl State {
         requires { is_queued self.now process ≡ false }
         ensures { result ≡ not_waiting self.now process }
     {
+        let sought = u64::from(process.get());
         if let Some(priority) = self.current
-            && u64::from(self.registers.wptr.get()) + u64::from(priority.number())
-                == u64::from(process.get())
+            && u64::from(self.registers.wptr.get()) + u64::from(priority.number()) == sought
         {
             return ProcessStatus::Runs;
         }
         match self.interrupted {
-            Some(kept) if u64::from(kept.registers.wptr.get()) + 1 == u64::from(process.get()) =>
+            Some(kept) if u64::from(kept.registers.wptr.get()) + 1 == sought =>
                 ProcessStatus::Interrupted,
             _ => ProcessStatus::Unknown,
         }
