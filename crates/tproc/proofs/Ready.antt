@@ -4,7 +4,7 @@ use Rattle.std.proofs.Common.{[], ◌∷◌, ◌||◌, ◌==◌, Bool, true, fal
 use Rattle.std.proofs.Common.{get_or, arith}
 use Rattle.std.specs.Prelude.{IfSome, IfOk, IsSome, All, find, option_map, nat_le, unwrap_or}
 use Rattle.std.specs.List.{list_any}
-use Rattle.std.proofs.lemmas.Bool.{eqb-true, eq-eqb, or_right, leb-true, leb-false}
+use Rattle.std.proofs.lemmas.Bool.{eq-eqb, or_right, leb-true, leb-false}
 use Rattle.tword.specs.declared.breaks.Break.{Break}
 use Rattle.tword.specs.Words.{most_neg}
 use Rattle.tword.specs.Stores.{Store, place, word_at, byte_at, with_word, with_cells, as_cells, cells}
@@ -39,20 +39,11 @@ use Rattle.tproc.specs.declared.engine.Engine.{Engine}
 use Rattle.tproc.specs.Doing.{CameOf, Does, Stepped, as_step, adding, machine_of}
 use Rattle.tproc.proofs.ClaimState.{HasWaiter}
 use Rattle.tproc.proofs.Pending.{at_some}
+use Rattle.tproc.proofs.Occurs.{found}
 use Rattle.tproc.proofs.Opening.{added_keeps_placed, loaded_keeps_placed}
 use Rattle.tproc.proofs.Placed.{step_keeps_placed}
 use Rattle.tproc.proofs.Resting.{rest_changes_nothing}
 use Rattle.tproc.proofs.Storing.{buffer_inside}
-
--- a test that an element of a list passes
-found : (f : ℕ → Bool) (x : ℕ) (ys : List ℕ) → f x ≡ true → is_among x ys ≡ true → list_any f ys ≡ true
-found f x [] t h = cc
-found f x (y ∷ ys) t h = by (y == x) refl h (found f x ys t)
-  where
-    by : (b : Bool) → (y == x) ≡ b → (b || is_among x ys) ≡ true → (is_among x ys ≡ true → list_any f ys ≡ true)
-        → (f y || list_any f ys) ≡ true
-    by true e k rest = rw (eqb-true _ _ e, t) refl
-    by false e k rest = or_right (f y) _ (rest k)
 
 -- what some element passes, some element of a list with the same elements passes
 any_within : (f : ℕ → Bool) (xs ys : List ℕ) → ((w : ℕ) → is_among w xs ≡ true → is_among w ys ≡ true)

@@ -1,6 +1,6 @@
 -- What the checks of a touch tell of the calls of the memory that follow.
 use Rattle.std.proofs.Common.{◌≡◌, ℕ, ◌+◌, ◌-◌, ◌≤◌, ◌<◌, ◌%◌, ◌^◌, Bool, true, false, not, ◌||◌, cond, Option}
-use Rattle.std.proofs.Common.{Some, None, Result, Ok, Err, refl, [], arith}
+use Rattle.std.proofs.Common.{Some, None, Result, Ok, Err, refl, sym, ◌∙◌, [], arith}
 use Rattle.std.specs.Prelude.{◌==◌}
 use Rattle.std.proofs.lemmas.Bool.{leb-true, le-leb, eqb-true, or_right}
 use Rattle.tword.specs.declared.breaks.Break.{Break}
@@ -16,6 +16,8 @@ use Rattle.tword.proofs.Passing.{Passes, span_break-none, word_break-aligned, wo
 use Rattle.tword.proofs.Passing.{deschedule-words}
 use Rattle.tword.proofs.Descheduling.{inside_within, inside_within, deschedule-passes, saved_word-clear}
 use Rattle.tword.proofs.Blind.{Clear}
+use Rattle.tproc.proofs.ClaimState.{overlap_self}
+use Rattle.tproc.proofs.Occurs.{found}
 
 -- a touch beside one more workspace whose words are saved, which is the last that is looked at
 choices : (i o t x s : Bool)
@@ -113,6 +115,19 @@ pub unclaimed : (n w : ℕ) (c : Claims) → n ≤ 16777216 → deschedule_break
 unclaimed n w c small h =
     let p : Passes n c Writes (saved_words w) = deschedule-passes n c w (omega arith) h in
     rw (p.still, p.unsaved) refl
+
+-- so its words were not saved
+pub unsaved : (n w : ℕ) (c : Claims) → n ≤ 16777216 → deschedule_break n c w ≡ None → has_saved c w ≡ false
+unsaved n w c small h = by (has_saved c w) refl
+  where
+    by : (b : Bool) → has_saved c w ≡ b → b ≡ false
+    by false e = refl
+    by true e =
+        sym (found (λ v. overlap (saved_words w) (saved_words v)) w c.saved (overlap_self w) e)
+        ∙ (deschedule-passes n c w (omega arith) h).unsaved
+
+-- what is needed of a workspace to save its words, and what is then known of it
+pub ruleset descheduled_workspace = (claimable, unclaimed, unsaved)
 
 pub saved_inside : (n w : ℕ) (c : Claims) → n ≤ 16777216 → deschedule_break n c w ≡ None
     → is_inside n (saved_words w) ≡ true
