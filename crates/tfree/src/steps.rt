@@ -1,15 +1,14 @@
 //! One event of a node at its rings: it takes from a ring where a packet is seen, and puts into one where room is
 //! seen.
 
-ghost use Rattle.std.specs.Prelude.{◌≡◌, ◌+◌, ◌<◌, [], ◌∷◌, ◌++◌, ℕ, length, map, option_map, nat_lt, slice_get};
-ghost use Rattle.std.specs.Prelude.{IsTrue, IfSome, IfErr, IsSome, Ok, true, false, Option, Some, None, MatchResult};
-ghost use Rattle.std.specs.Prelude.{List};
+ghost use Rattle.std.specs.Prelude.{◌≡◌, ◌+◌, ◌<◌, [], ◌++◌, option_map};
+ghost use Rattle.std.specs.Prelude.{IsTrue, IfSome, IfErr, Ok, true, false, Option, Some, None};
 ghost use Rattle.rtrb.specs.Ring.{known_items, known_free};
-ghost use Rattle.tlink.specs.Events.{happens, is_node_enabled};
+ghost use Rattle.tlink.specs.Events.{is_node_enabled};
 ghost use Rattle.tfree.specs.Slots.{slot_at};
 ghost use Rattle.tfree.specs.declared.steps.OwnLink as spec;
 ghost use Rattle.tfree.specs.Ends.{in_view, out_view, ins_view, outs_view, seen_of, IsFront, HasFree};
-ghost use Rattle.tfree.specs.Views.{InView, OutView, got_of, put_of, with_put};
+ghost use Rattle.tfree.specs.Views.{InView, OutView, with_put};
 ghost use Rattle.tfree.specs.Logs.{log_view, Whether, sent_as};
 ghost use Rattle.tfree.specs.Steps.{SameRing, SameRingBack, Received, NoneDue, Emitted, AnswersRoom};
 ghost use Rattle.tfree.specs.Steps.{LeftAtFront, LeftWithRoom};
