@@ -38,16 +38,6 @@ pub cells_end : (t : ℕ → Bool) (a i : ℕ) (bytes : List ℕ) → length byt
     → hiding_from t a (as_cells (drop i bytes)) ≡ []
 cells_end t a i bytes l = ap (λ (xs : List ℕ). hiding_from t a (as_cells xs)) (drop_of_length-le bytes l)
 
-pub all_zero_next : (t : ℕ → Bool) (a i : ℕ) (bytes : List ℕ) → i < length bytes
-    → list_all is_zero (hiding_from t (a + i) (as_cells (drop i bytes)))
-    ≡ (is_zero (cell_of t (a + i) (get_or bytes i 0)) && list_all is_zero
-    (hiding_from t (a + (i + 1)) (as_cells (drop (i + 1) bytes))))
-all_zero_next t a i bytes l = ap (λ (s : Store). list_all is_zero s) (cells_next t a i bytes l)
-
-pub all_zero_end : (t : ℕ → Bool) (a i : ℕ) (bytes : List ℕ) → length bytes ≤ i
-    → list_all is_zero (hiding_from t a (as_cells (drop i bytes))) ≡ true
-all_zero_end t a i bytes l = ap (λ (s : Store). list_all is_zero s) (cells_end t a i bytes l)
-
 pub cells_text_next : (t : ℕ → Bool) (a i : ℕ) (bytes : List ℕ) → i < length bytes
     → flat_map cell_text (hiding_from t (a + i) (as_cells (drop i bytes)))
     ≡ cell_text (cell_of t (a + i) (get_or bytes i 0))
