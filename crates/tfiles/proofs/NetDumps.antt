@@ -1,9 +1,10 @@
 -- The dumps of the nodes of a net, one after another.
-use Rattle.std.proofs.Common.{◌≡◌, ℕ, zero, suc, refl, sym, ap, ap₂, ◌∙◌, ◌+◌, ◌<◌, ◌≤◌, List, [], ◌∷◌, ◌++◌, length}
+use Rattle.std.proofs.Common.{◌≡◌, ℕ, suc, refl, sym, ap, ap₂, ◌∙◌, ◌+◌, ◌<◌, ◌≤◌, List, [], ◌∷◌, ◌++◌, length}
 use Rattle.std.proofs.Common.{drop, get_or, arith, add-one, Bool, Option, Some}
 use Rattle.std.specs.Prelude.{map, zip}
 use Rattle.std.proofs.Math.Seq.{drop-cons}
 use Rattle.std.proofs.lemmas.Option.{same_Some}
+use Rattle.std.proofs.lemmas.List.{drop_all}
 use Rattle.tword.specs.declared.breaks.Break.{Break}
 use Rattle.tword.specs.declared.span.Span.{Span}
 use Rattle.tword.specs.Stores.{Store, hiding, shown}
@@ -40,13 +41,6 @@ dumps_view n (x ∷ xs) (b ∷ bs) h = ap (λ t. dump_at n x ++ t) (dumps_view (
 -- all dumps are those of what is seen of the net
 pub dumps_all : (net : NetState) → IsSound net → dumps 0 net.nodes ≡ dump_text (view net)
 dumps_all net sound = dumps_view 0 net.nodes net.inboxes sound.boxes
-
--- nothing is left behind the last
-drop_over : (k : ℕ) (xs : List NodeState) → length xs ≤ k → drop k xs ≡ []
-drop_over zero [] h = refl
-drop_over (suc k) [] h = refl
-drop_over zero (x ∷ xs) h = absurd (omega (arith, h))
-drop_over (suc k) (x ∷ xs) h = drop_over k xs (omega (arith, h))
 
 -- the dump of a processor, from what is known of it
 pub dump_known : (n : ℕ) (m : Machine) (broken : Option Break) (halted : Bool) (pending : List (Option Span))
@@ -87,4 +81,4 @@ dumps_next k nodes x below is =
     ap (λ l. dumps k l) rest ∙ ap (λ n. dump_at k x ++ dumps n (drop n nodes)) (sym (add-one k))
 
 pub dumps_end : (k : ℕ) (nodes : List NodeState) → length nodes ≤ k → dumps k (drop k nodes) ≡ []
-dumps_end k nodes over = ap (λ l. dumps k l) (drop_over k nodes over)
+dumps_end k nodes over = ap (λ l. dumps k l) (drop_all k nodes over)
