@@ -25,7 +25,7 @@ use tplan::End;
 pub struct OwnLink {
     /// The place of the node among those of the worker.
     pub node: usize,
-    pub link: u8,
+    pub link: usize,
 }
 
 /// The oldest packet that is seen in a ring. Where its other end is at hand, at the link `own` of `outs`, none is
@@ -43,7 +43,7 @@ fn look(end: &mut InEnd, outs: &mut Vec<Slots<OutEnd>>, own: Option<OwnLink>) ->
     let Some(own) = own else {
         return end.look();
     };
-    match &mut outs[own.node][usize::from(own.link)] {
+    match &mut outs[own.node][own.link] {
         Some(out) => end.look_beside(out),
         None => end.look(),
     }
@@ -114,7 +114,7 @@ fn room_of(out: &mut OutEnd, ins: &mut Vec<Slots<InEnd>>, own: Option<OwnLink>) 
     let Some(own) = own else {
         return out.has_room();
     };
-    match &mut ins[own.node][usize::from(own.link)] {
+    match &mut ins[own.node][own.link] {
         Some(end) => out.has_room_beside(end),
         None => out.has_room(),
     }
