@@ -10,9 +10,8 @@ ghost use Rattle.tproc.specs.ProcessStatus.{has_room, queue, reason_of};
 ghost use Rattle.tproc.specs.Queues.{appended, last_of, waiting_for, without_waiter};
 ghost use Rattle.tproc.specs.Agreement.{Agrees, AgreesWith, AreSaved, HasPlace, IsPlain, IsReady, Settles};
 ghost use Rattle.tproc.specs.Agreement.{StillAgrees, StillSaved, Unsettles, descheduled_count};
-ghost use Rattle.tproc.specs.Doing.{Does, DoesAction, adding, machine_of};
+ghost use Rattle.tproc.specs.Doing.{Does, DoesAction, adding};
 ghost use Rattle.tproc.specs.SavedWords.{IsThreaded};
-ghost use Rattle.tproc.specs.Opening.{Adds, added};
 ghost use Rattle.tproc.specs.Queues as spec;
 
 use crate::claimed_memory::ClaimedMemory;
@@ -198,9 +197,9 @@ pub fn release(state: &mut State, claimed: &mut ClaimedMemory, process: Word)
 }
 
 impl Engine {
-    /// A process from outside is let in, with its first address.
+    /// A process from outside is let in, with its first address, behind the others of its queue.
     #[tactic(auto, using(crate::proofs::Saved::itself_saved, crate::proofs::Saved::are_saved))]
-    fn add(&mut self, process: Word, iptr: Word) -> Result<Ran, Break>
+    pub fn add(&mut self, process: Word, iptr: Word) -> Result<Ran, Break>
         requires plain { IsPlain self.old.state }
         ensures { Does (adding process iptr self.old.state) self.old result self.new }
     {
@@ -209,16 +208,5 @@ impl Engine {
             .set_saved_word(workspace_of(process), IPTR_WORD, iptr);
         enqueue(&mut self.state, &mut self.claimed, process);
         Ok(Ran::Instruction)
-    }
-
-    /// A process from outside is added, behind the others of its queue.
-    pub fn add_process(&mut self, process: Word, iptr: Word) -> Result<(), Break>
-        requires plain { IsPlain self.old.state }
-        ensures { Adds (added process iptr (machine_of self.old))
-            (machine_of self.old) result
-            (machine_of self.new) }
-    {
-        self.add(process, iptr)?;
-        Ok(())
     }
 }
