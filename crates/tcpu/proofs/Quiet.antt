@@ -25,7 +25,7 @@ use Rattle.tcpu.specs.Outcomes.{Outcome}
 use Rattle.tcpu.specs.Functions.{function_effect}
 use Rattle.tcpu.specs.Operations.{operation_effect, looped, is_positive_word}
 use Rattle.tcpu.specs.Effects.{local_or_left, selected_effect, effect_at, effect}
-use Rattle.tcpu.specs.Local.{outcome_of, would_jump, StandsWhereLeft, StaysWhereJumped}
+use Rattle.tcpu.specs.Local.{outcome_of, StandsWhereLeft, StaysWhereJumped}
 
 -- no process is descheduled, and Q holds of each answer
 abbrev pub IsQuiet : {A : Type 0} → (A → Type 0) → Action A → Type 0
@@ -133,9 +133,7 @@ IsStay r o = StaysWhereJumped o.1 r o.0
 
 ends_stays : (next : Next) (r r' : Registers) → EndsAs next r r' → StaysWhereJumped next r r'
 ends_stays Jumped r r' h = h
-ends_stays (Schedule o) r r' h = tt
-ends_stays Go r r' h = tt
-ends_stays Halt r r' h = tt
+ends_stays _ r r' h = tt
 
 quiet_stays : (r : Registers) (x : Action Outcome) → IsQuiet (IsEnd r) x → IsQuiet (IsStay r) x
 quiet_stays r (answer o) q = ends_stays o.1 r o.0 q
@@ -191,20 +189,6 @@ pub effect_broke : {B : Type 0} (kind : Kind) (i : Instruction) (r : Registers) 
     → run (effect kind i r) s c ≡ Err b → run_from (effect kind i r >>= f) s c s ≡ Err b
 effect_broke kind i r b f s c e = rw (effect_then kind i r f s c, e) refl
 
--- what would jump does
-pub jump_foretold : (x : Result (Outcome × Store) Break) → Ok true ≡ would_jump x
-    → (r' : Registers) × (s' : Store) × (x ≡ Ok ((r', Jumped), s'))
-jump_foretold (Ok ((r', Jumped), s')) e = (r', s', refl)
-jump_foretold (Ok ((r', Go), s')) e = cc
-jump_foretold (Ok ((r', Halt), s')) e = cc
-jump_foretold (Ok ((r', Schedule o), s')) e = cc
-jump_foretold (Err b) e = cc
-
--- and what would break does
-pub break_foretold : (x : Result (Outcome × Store) Break) (b : Break) → Err b ≡ would_jump x → x ≡ Err b
-break_foretold (Ok ((r', next), s')) b e = cc
-break_foretold (Err b') b e = cc
-
 -- a jump stays in its workspace
 pub stays_effect : (kind : Kind) (i : Instruction) (r r' : Registers) (c : Claims) (s s' : Store)
     (result : Result Next Break)
@@ -240,6 +224,4 @@ pub stands_at : (kind : Kind) (f : Function) (n : ℕ) (b r r' : Registers) (c :
     → b.wptr ≡ r.wptr
     → run (effect_at kind f n b r) s c ≡ Ok ((r', next), s') → StandsWhereLeft next s b s' r'
 stands_at kind f n b r r' c s s' (Schedule p) w e = effect_at-left kind f n p b r r' c s s' w e
-stands_at kind f n b r r' c s s' Go w e = tt
-stands_at kind f n b r r' c s s' Jumped w e = tt
-stands_at kind f n b r r' c s s' Halt w e = tt
+stands_at kind f n b r r' c s s' _ w e = tt

@@ -1,7 +1,7 @@
 -- The lines of a dump, byte by byte and line by line.
 use Rattle.std.proofs.Common.{◌≡◌, ℕ, zero, suc, ◌+◌, ◌*◌, ◌-◌, ◌<◌, ◌≤◌, refl, sym, ap, ap₂, ◌∙◌, List, [], ◌∷◌, ◌++◌}
 use Rattle.std.proofs.Common.{length, get_or, take, drop, flat_map, min, Bool, true, false, ◌⊎◌, inl, inr, Option, Some}
-use Rattle.std.proofs.Common.{None, arith, add-one, drop-cons}
+use Rattle.std.proofs.Common.{None, arith, add-one, append_assoc, drop-cons}
 use Rattle.std.specs.Prelude.{codes, if◌then◌else◌, ◌&&◌, ◌||◌, ◌==◌, nat_lt, slice_range}
 use Rattle.std.specs.Int.{div_ceil, to_be_bytes, w32}
 use Rattle.hex.specs.Hex.{encode_lower}
@@ -9,7 +9,9 @@ use Rattle.std.specs.List.{list_all, list_any, sum}
 use Rattle.std.proofs.Math.ListN.{drop_of_length-le}
 use Rattle.std.proofs.lemmas.Bool.{or_parts, and_parts, eq-eqb, lt-ltb, ltb-true, both_ways, cases_lt}
 use Rattle.std.proofs.lemmas.List.Folds.{sum_by-zero}
-use Rattle.std.proofs.lemmas.List.{drop-map, take-map, drop-drop, length-map, length-drop, take_all}
+use Rattle.std.proofs.lemmas.List.{drop-map, take-map, drop-drop, drop-take, take-take, take-append-drop, take_all}
+use Rattle.std.proofs.lemmas.List.{length-map, length-drop, length-take}
+use Rattle.std.proofs.lemmas.List.Folds.{list_all-append}
 use Rattle.tword.specs.declared.span.Span.{Span}
 use Rattle.tword.specs.Claims.{overlap, overlaps_claim}
 use Rattle.tword.specs.Stores.{Store, as_cells, hiding_from}
@@ -35,16 +37,6 @@ cells_next t a i bytes l =
 pub cells_end : (t : ℕ → Bool) (a i : ℕ) (bytes : List ℕ) → length bytes ≤ i
     → hiding_from t a (as_cells (drop i bytes)) ≡ []
 cells_end t a i bytes l = ap (λ (xs : List ℕ). hiding_from t a (as_cells xs)) (drop_of_length-le bytes l)
-
-pub all_zero_next : (t : ℕ → Bool) (a i : ℕ) (bytes : List ℕ) → i < length bytes
-    → list_all is_zero (hiding_from t (a + i) (as_cells (drop i bytes)))
-    ≡ (is_zero (cell_of t (a + i) (get_or bytes i 0)) && list_all is_zero
-    (hiding_from t (a + (i + 1)) (as_cells (drop (i + 1) bytes))))
-all_zero_next t a i bytes l = ap (λ (s : Store). list_all is_zero s) (cells_next t a i bytes l)
-
-pub all_zero_end : (t : ℕ → Bool) (a i : ℕ) (bytes : List ℕ) → length bytes ≤ i
-    → list_all is_zero (hiding_from t a (as_cells (drop i bytes))) ≡ true
-all_zero_end t a i bytes l = ap (λ (s : Store). list_all is_zero s) (cells_end t a i bytes l)
 
 pub cells_text_next : (t : ℕ → Bool) (a i : ℕ) (bytes : List ℕ) → i < length bytes
     → flat_map cell_text (hiding_from t (a + i) (as_cells (drop i bytes)))
@@ -159,18 +151,28 @@ line_shown a cells e =
     ap (λ (z : Bool). if z then [] else line
     (encode_lower (to_be_bytes w32 a) ++ (codes ":" ++ flat_map cell_text cells))) e
 
--- the lines of a store, from one of them on
-abbrev pub lines_from : ℕ → Store → List ℕ
-lines_from k store = dump_lines (length store - k) (most_neg + 16 * k) (drop (16 * k) store)
+-- the lines of cells from an address on, from one of them on
+abbrev pub lines_from : ℕ → ℕ → Store → List ℕ
+lines_from a k cells = dump_lines (length cells - k) (a + 16 * k) (drop (16 * k) cells)
 
-pub lines_begin : (store : Store) → lines_of store ≡ lines_from 0 store
-lines_begin store = ap₂ (λ (n a : ℕ). dump_lines n a store) (omega arith) (omega arith)
+-- bytes have as many cells, hidden or not
+length-cells : (t : ℕ → Bool) (a : ℕ) (bytes : List ℕ) → length (hiding_from t a (as_cells bytes)) ≡ length bytes
+length-cells t a bytes = length-hiding_from t a (as_cells bytes) ∙ length-map bytes Some
+
+pub lines_begin : (t : ℕ → Bool) (a : ℕ) (bytes : List ℕ)
+    → dump_lines (length bytes) a (hiding_from t a (as_cells bytes)) ≡ lines_from a 0 (hiding_from t a (as_cells bytes))
+lines_begin t a bytes =
+    let size : length (hiding_from t a (as_cells bytes)) ≡ length bytes = length-cells t a bytes in
+    ap₂ (λ (n b : ℕ). dump_lines n b (hiding_from t a (as_cells bytes))) (omega (arith, size)) (omega arith)
+
+-- some bytes out of more, from a place on
+abbrev pub part_of : ℕ → ℕ → List ℕ → List ℕ
+part_of size s bytes = slice_range bytes s (min (length bytes) (s + size))
 
 -- a line of bytes
-abbrev pub line_of : (ℕ → Bool) → ℕ → List ℕ → List ℕ
-line_of t k bytes =
-    dump_line (most_neg + 16 * k)
-    (hiding_from t (most_neg + 16 * k) (as_cells (slice_range bytes (16 * k) (min (length bytes) (16 * k + 16)))))
+abbrev pub line_of : (ℕ → Bool) → ℕ → ℕ → List ℕ → List ℕ
+line_of t a k bytes =
+    dump_line (a + 16 * k) (hiding_from t (a + 16 * k) (as_cells (part_of 16 (16 * k) bytes)))
 
 pub is_within : (n k lines : ℕ) → lines ≡ div_ceil n 16 → k < lines → 16 * k < n
 is_within n k lines e l = grind (arith, e)
@@ -178,43 +180,148 @@ is_within n k lines e l = grind (arith, e)
 pub is_behind : (n k lines : ℕ) → lines ≡ div_ceil n 16 → lines ≤ k → n ≤ 16 * k
 is_behind n k lines e l = grind (arith, e)
 
-sixteen : (s : ℕ) (bytes : List ℕ) → slice_range bytes s (min (length bytes) (s + 16)) ≡ take 16 (drop s bytes)
-sixteen s bytes = by (cases_lt (length bytes) (s + 16))
+part_taken : (size s : ℕ) (bytes : List ℕ) → part_of size s bytes ≡ take size (drop s bytes)
+part_taken size s bytes = by (cases_lt (length bytes) (s + size))
   where
-    by : (length bytes < s + 16) ⊎ (s + 16 ≤ length bytes)
-        → slice_range bytes s (min (length bytes) (s + 16)) ≡ take 16 (drop s bytes)
+    by : (length bytes < s + size) ⊎ (s + size ≤ length bytes) → part_of size s bytes ≡ take size (drop s bytes)
     by (inl l) =
         let e : length (drop s bytes) ≡ length bytes - s = length-drop s bytes in
-        take_all (min (length bytes) (s + 16) - s) (drop s bytes) (omega (arith, e))
-        ∙ sym (take_all 16 (drop s bytes) (omega (arith, e)))
-    by (inr l) = let e : min (length bytes) (s + 16) - s ≡ 16 = omega arith in ap (λ (n : ℕ). take n (drop s bytes)) e
+        take_all (min (length bytes) (s + size) - s) (drop s bytes) (omega (arith, e))
+        ∙ sym (take_all size (drop s bytes) (omega (arith, e)))
+    by (inr l) =
+        let e : min (length bytes) (s + size) - s ≡ size = omega arith in ap (λ (n : ℕ). take n (drop s bytes)) e
 
-pub lines_next : (t : ℕ → Bool) (k : ℕ) (bytes : List ℕ) → 16 * k < length bytes
-    → lines_from k (hiding_from t most_neg (as_cells bytes)) ≡ line_of t k bytes
-    ++ lines_from (k + 1) (hiding_from t most_neg (as_cells bytes))
-lines_next t k bytes l =
-    let store : Store = hiding_from t most_neg (as_cells bytes) in
-    let size : length store ≡ length bytes = length-hiding_from t most_neg (as_cells bytes) ∙ length-map bytes Some in
-    let fuel : length store - k ≡ suc (length store - (k + 1)) = omega (arith, size) in
-    let cells : take 16 (drop (16 * k) store) ≡ hiding_from t (most_neg + 16 * k)
-    (as_cells (slice_range bytes (16 * k) (min (length bytes) (16 * k + 16)))) =
-    ap (λ (s : Store). take 16 s) (drop-hiding_from t (16 * k) most_neg (as_cells bytes))
-    ∙ take-hiding_from t 16 (most_neg + 16 * k) (drop (16 * k) (as_cells bytes))
-    ∙ ap (λ (s : Store). hiding_from t (most_neg + 16 * k) (take 16 s)) (drop-map Some (16 * k) bytes)
-    ∙ ap (λ (s : Store). hiding_from t (most_neg + 16 * k) s) (take-map Some 16 (drop (16 * k) bytes))
-    ∙ ap (λ (s : List ℕ). hiding_from t (most_neg + 16 * k) (as_cells s)) (sym (sixteen (16 * k) bytes)) in
-    let address : most_neg + 16 * k + 16 ≡ most_neg + 16 * (k + 1) = omega arith in
+-- the cells of such a part
+cells_taken : (t : ℕ → Bool) (size a s : ℕ) (bytes : List ℕ)
+    → take size (drop s (hiding_from t a (as_cells bytes))) ≡ hiding_from t (a + s) (as_cells (part_of size s bytes))
+cells_taken t size a s bytes =
+    ap (λ (cells : Store). take size cells) (drop-hiding_from t s a (as_cells bytes))
+    ∙ take-hiding_from t size (a + s) (drop s (as_cells bytes))
+    ∙ ap (λ (cells : Store). hiding_from t (a + s) (take size cells)) (drop-map Some s bytes)
+    ∙ ap (λ (cells : Store). hiding_from t (a + s) cells) (take-map Some size (drop s bytes))
+    ∙ ap (λ (part : List ℕ). hiding_from t (a + s) (as_cells part)) (sym (part_taken size s bytes))
+
+pub lines_next : (t : ℕ → Bool) (a k : ℕ) (bytes : List ℕ) → 16 * k < length bytes
+    → lines_from a k (hiding_from t a (as_cells bytes)) ≡ line_of t a k bytes
+    ++ lines_from a (k + 1) (hiding_from t a (as_cells bytes))
+lines_next t a k bytes l =
+    let cells : Store = hiding_from t a (as_cells bytes) in
+    let size : length cells ≡ length bytes = length-cells t a bytes in
+    let fuel : length cells - k ≡ suc (length cells - (k + 1)) = omega (arith, size) in
+    let address : a + 16 * k + 16 ≡ a + 16 * (k + 1) = omega arith in
     let place : 16 * k + 16 ≡ 16 * (k + 1) = omega arith in
-    ap (λ (n : ℕ). dump_lines n (most_neg + 16 * k) (drop (16 * k) store)) fuel
-    ∙ ap₂ (λ (s : Store) (rest : Store). dump_line (most_neg + 16 * k) s
-    ++ dump_lines (length store - (k + 1)) (most_neg + 16 * k + 16) rest) cells (drop-drop 16 (16 * k) store)
-    ∙ ap₂ (λ (a n : ℕ). line_of t k bytes ++ dump_lines (length store - (k + 1)) a (drop n store)) address place
+    ap (λ (n : ℕ). dump_lines n (a + 16 * k) (drop (16 * k) cells)) fuel
+    ∙ ap₂ (λ (s : Store) (rest : Store). dump_line (a + 16 * k) s
+    ++ dump_lines (length cells - (k + 1)) (a + 16 * k + 16) rest) (cells_taken t 16 a (16 * k) bytes)
+    (drop-drop 16 (16 * k) cells)
+    ∙ ap₂ (λ (b n : ℕ). line_of t a k bytes ++ dump_lines (length cells - (k + 1)) b (drop n cells)) address place
 
-pub lines_end : (t : ℕ → Bool) (k : ℕ) (bytes : List ℕ) → length bytes ≤ 16 * k
-    → lines_from k (hiding_from t most_neg (as_cells bytes)) ≡ []
-lines_end t k bytes l =
+pub lines_end : (t : ℕ → Bool) (a k : ℕ) (bytes : List ℕ) → length bytes ≤ 16 * k
+    → lines_from a k (hiding_from t a (as_cells bytes)) ≡ []
+lines_end t a k bytes l =
+    let cells : Store = hiding_from t a (as_cells bytes) in
+    let size : length cells ≡ length bytes = length-cells t a bytes in
+    ap (λ (s : Store). dump_lines (length cells - k) (a + 16 * k) s) (drop_of_length-le cells (omega (arith, size)))
+    ∙ dump_lines-none (length cells - k) (a + 16 * k)
+
+-- more lines than there are change nothing
+lines_enough : (n m a : ℕ) (cells : Store) → length cells ≤ 16 * n → length cells ≤ 16 * m
+    → dump_lines n a cells ≡ dump_lines m a cells
+lines_enough n m a [] few few' = dump_lines-none n a ∙ sym (dump_lines-none m a)
+lines_enough zero m a (cell ∷ cells) few few' = absurd (omega (arith, few))
+lines_enough (suc n) zero a (cell ∷ cells) few few' = absurd (omega (arith, few'))
+lines_enough (suc n) (suc m) a (cell ∷ cells) few few' =
+    let left : length (drop 16 (cell ∷ cells)) ≡ length (cell ∷ cells) - 16 = length-drop 16 (cell ∷ cells) in
+    ap (λ (rest : List ℕ). dump_line a (take 16 (cell ∷ cells)) ++ rest)
+    (lines_enough n m (a + 16) (drop 16 (cell ∷ cells)) (omega (arith, left, few)) (omega (arith, left, few')))
+
+-- some lines, and those behind them
+lines_split : (k n a : ℕ) (cells : Store)
+    → dump_lines (n + k) a cells ≡ dump_lines k a (take (16 * k) cells)
+    ++ dump_lines n (a + 16 * k) (drop (16 * k) cells)
+lines_split zero n a cells = ap₂ (λ (m b : ℕ). dump_lines m b cells) (omega arith) (omega arith)
+lines_split (suc k) n a cells =
+    let all : Store = take (16 * suc k) cells in
+    let first : take 16 all ≡ take 16 cells = take-take 16 (16 * suc k) cells (omega arith) in
+    let rest : drop 16 all ≡ take (16 * k) (drop 16 cells) =
+    ap (λ (j : ℕ). drop 16 (take j cells)) (omega arith) ∙ drop-take 16 (16 * k) cells in
+    let behind : drop (16 * k) (drop 16 cells) ≡ drop (16 * suc k) cells =
+    drop-drop (16 * k) 16 cells ∙ ap (λ (j : ℕ). drop j cells) (omega arith) in
+    let more : n + suc k ≡ suc (n + k) = omega arith in
+    ap (λ (m : ℕ). dump_lines m a cells) more
+    ∙ ap (λ (lines : List ℕ). dump_line a (take 16 cells) ++ lines) (lines_split k n (a + 16) (drop 16 cells))
+    ∙ sym (append_assoc (dump_line a (take 16 cells)) (dump_lines k (a + 16) (take (16 * k) (drop 16 cells)))
+    (dump_lines n (a + 16 + 16 * k) (drop (16 * k) (drop 16 cells))))
+    ∙ ap₂ (λ (lines : List ℕ) (s : Store). lines ++ dump_lines n (a + 16 + 16 * k) s)
+    (ap₂ (λ (s r : Store). dump_line a s ++ dump_lines k (a + 16) r) (sym first) (sym rest)) behind
+    ∙ ap (λ (b : ℕ). dump_lines (suc k) a all ++ dump_lines n b (drop (16 * suc k) cells)) (omega arith)
+
+-- cells that are all zero have no line
+lines_blank : (n a : ℕ) (cells : Store) → list_all is_zero cells ≡ true → dump_lines n a cells ≡ []
+lines_blank zero a cells none = refl
+lines_blank (suc n) a cells none =
+    let both : (list_all is_zero (take 16 cells) && list_all is_zero (drop 16 cells)) ≡ true =
+    sym (list_all-append is_zero (take 16 cells) (drop 16 cells))
+    ∙ ap (λ (s : Store). list_all is_zero s) (take-append-drop 16 cells) ∙ none in
+    let parts = and_parts (list_all is_zero (take 16 cells)) (list_all is_zero (drop 16 cells)) both in
+    ap₂ (λ (x y : List ℕ). x ++ y) (sym (line_left_out a (take 16 cells) (sym parts.0)))
+    (lines_blank n (a + 16) (drop 16 cells) parts.1)
+
+-- nor have bytes that come to nothing, where no pending input has one of them
+pub block_left_out : (pending : List (Option Span)) (n a : ℕ) (bytes : List ℕ) → sum bytes ≡ 0
+    → list_any (overlaps_claim (record { start = a; size = length bytes })) pending ≡ false
+    → [] ≡ dump_lines n a (hiding_from (is_pending pending) a (as_cells bytes))
+block_left_out pending n a bytes none apart =
+    sym (lines_blank n a (as_cells bytes) (none_summed bytes none))
+    ∙ ap (λ (cells : Store). dump_lines n a cells)
+    (sym (none_hidden a (as_cells bytes)) ∙ shown_same pending a bytes apart)
+
+-- the lines of a store, from a block on
+abbrev pub blocks_from : ℕ → Store → List ℕ
+blocks_from k store = dump_lines (length store) (most_neg + 256 * k) (drop (256 * k) store)
+
+-- the lines of a block
+abbrev pub block_of : (ℕ → Bool) → ℕ → List ℕ → List ℕ
+block_of t k bytes =
+    dump_lines (length (part_of 256 (256 * k) bytes)) (most_neg + 256 * k)
+    (hiding_from t (most_neg + 256 * k) (as_cells (part_of 256 (256 * k) bytes)))
+
+pub blocks_begin : (store : Store) → lines_of store ≡ blocks_from 0 store
+blocks_begin store = refl
+
+pub is_block_within : (n k blocks : ℕ) → blocks ≡ div_ceil n 256 → k < blocks → 256 * k < n
+is_block_within n k blocks e l = grind (arith, e)
+
+pub is_block_behind : (n k blocks : ℕ) → blocks ≡ div_ceil n 256 → blocks ≤ k → n ≤ 256 * k
+is_block_behind n k blocks e l = grind (arith, e)
+
+pub blocks_next : (t : ℕ → Bool) (k : ℕ) (bytes : List ℕ)
+    → blocks_from k (hiding_from t most_neg (as_cells bytes)) ≡ block_of t k bytes
+    ++ blocks_from (k + 1) (hiding_from t most_neg (as_cells bytes))
+blocks_next t k bytes =
     let store : Store = hiding_from t most_neg (as_cells bytes) in
-    let size : length store ≡ length bytes = length-hiding_from t most_neg (as_cells bytes) ∙ length-map bytes Some in
-    ap (λ (s : Store). dump_lines (length store - k) (most_neg + 16 * k) s)
-    (drop_of_length-le store (omega (arith, size)))
-    ∙ dump_lines-none (length store - k) (most_neg + 16 * k)
+    let a : ℕ = most_neg + 256 * k in
+    let here : Store = drop (256 * k) store in
+    let part : List ℕ = part_of 256 (256 * k) bytes in
+    let left : length here ≡ length store - 256 * k = length-drop (256 * k) store in
+    let taken : take 256 here ≡ hiding_from t a (as_cells part) = cells_taken t 256 most_neg (256 * k) bytes in
+    let size : length (hiding_from t a (as_cells part)) ≡ length part = length-cells t a part in
+    let few : length (take 256 here) ≡ min 256 (length here) = length-take 256 here in
+    let same : length (hiding_from t a (as_cells part)) ≡ length (take 256 here) =
+    ap (λ (s : Store). length s) (sym taken) in
+    lines_enough (length store) (length store + 16) a here (omega (arith, left)) (omega (arith, left))
+    ∙ lines_split 16 (length store) a here
+    ∙ ap₂ (λ (lines : List ℕ) (s : Store). lines ++ dump_lines (length store) (a + 256) s)
+    (ap (λ (s : Store). dump_lines 16 a s) taken
+    ∙ lines_enough 16 (length part) a (hiding_from t a (as_cells part)) (omega (arith, few, same))
+    (omega (arith, size)))
+    (drop-drop 256 (256 * k) store)
+    ∙ ap₂ (λ (b n : ℕ). block_of t k bytes ++ dump_lines (length store) b (drop n store)) (omega arith) (omega arith)
+
+pub blocks_end : (t : ℕ → Bool) (k : ℕ) (bytes : List ℕ) → length bytes ≤ 256 * k
+    → blocks_from k (hiding_from t most_neg (as_cells bytes)) ≡ []
+blocks_end t k bytes l =
+    let store : Store = hiding_from t most_neg (as_cells bytes) in
+    let size : length store ≡ length bytes = length-cells t most_neg bytes in
+    ap (λ (s : Store). dump_lines (length store) (most_neg + 256 * k) s)
+    (drop_of_length-le store (omega (arith, size))) ∙ dump_lines-none (length store) (most_neg + 256 * k)

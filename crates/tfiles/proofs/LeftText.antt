@@ -1,18 +1,8 @@
 -- A loop that writes a text, piece by piece: what it has written and what is left make up the whole.
-use Rattle.std.proofs.Common.{◌≡◌, ℕ, ◌+◌, ◌<◌, ◌≤◌, refl, sym, ap, ◌∙◌, List, [], ◌∷◌, ◌++◌, length, get_or, drop}
-use Rattle.std.proofs.Common.{flat_map, append_assoc, append-nil, add-one, drop-cons}
+use Rattle.std.proofs.Common.{◌≡◌, ℕ, ◌+◌, ◌<◌, ◌≤◌, refl, List, [], ◌∷◌, ◌++◌, length, get_or, drop}
+use Rattle.std.proofs.Common.{flat_map, add-one, drop-cons}
 use Rattle.std.proofs.Math.ListN.{drop_of_length-le}
 use Rattle.hex.specs.Hex.{encode_with, encode_lower}
-
--- one more piece is written
-pub left-next : (out new piece left rest whole : List ℕ) → out ++ left ≡ whole → left ≡ piece ++ rest
-    → new ≡ out ++ piece → new ++ rest ≡ whole
-left-next out new piece left rest whole h e n =
-    rw n (append_assoc out piece rest ∙ ap (λ (t : List ℕ). out ++ t) (sym e) ∙ h)
-
--- nothing is left
-pub left-none : (out left whole : List ℕ) → out ++ left ≡ whole → left ≡ [] → out ≡ whole
-left-none out left whole h e = sym (append-nil out) ∙ ap (λ (t : List ℕ). out ++ t) (sym e) ∙ h
 
 -- the text of items, from one of them on
 pub flat_map-next : {A : Type 0} (f : A → List ℕ) (xs : List A) (i : ℕ) (d : A) → i < length xs

@@ -10,7 +10,6 @@ pub mod LineWords
 pub mod LogSteps
 pub mod SmallNumbers
 pub mod LineParts
-pub mod BadLines
 pub mod LeftText
 pub mod Failures
 pub mod Told

@@ -1,9 +1,10 @@
 -- The dumps of the nodes of a net, one after another.
-use Rattle.std.proofs.Common.{◌≡◌, ℕ, zero, suc, refl, sym, ap, ap₂, ◌∙◌, ◌+◌, ◌<◌, ◌≤◌, List, [], ◌∷◌, ◌++◌, length}
-use Rattle.std.proofs.Common.{drop, get_or, arith, add-one, append_assoc, append-nil, Bool, Option, Some}
+use Rattle.std.proofs.Common.{◌≡◌, ℕ, suc, refl, sym, ap, ap₂, ◌∙◌, ◌+◌, ◌<◌, ◌≤◌, List, [], ◌∷◌, ◌++◌, length}
+use Rattle.std.proofs.Common.{drop, get_or, arith, add-one, Bool, Option, Some}
 use Rattle.std.specs.Prelude.{map, zip}
 use Rattle.std.proofs.Math.Seq.{drop-cons}
 use Rattle.std.proofs.lemmas.Option.{same_Some}
+use Rattle.std.proofs.lemmas.List.{drop_all}
 use Rattle.tword.specs.declared.breaks.Break.{Break}
 use Rattle.tword.specs.declared.span.Span.{Span}
 use Rattle.tword.specs.Stores.{Store, hiding, shown}
@@ -40,36 +41,6 @@ dumps_view n (x ∷ xs) (b ∷ bs) h = ap (λ t. dump_at n x ++ t) (dumps_view (
 -- all dumps are those of what is seen of the net
 pub dumps_all : (net : NetState) → IsSound net → dumps 0 net.nodes ≡ dump_text (view net)
 dumps_all net sound = dumps_view 0 net.nodes net.inboxes sound.boxes
-
--- so many dumps are behind what the buffer held, and the rest are to come
-abbrev pub ComesTo : ℕ → List NodeState → List ℕ → List ℕ → Type 0
-ComesTo k nodes old new = new ++ dumps k (drop k nodes) ≡ old ++ dumps 0 nodes
-
--- one more dump
-pub one_more_dump : (k : ℕ) (nodes : List NodeState) (x : NodeState) (old new new' : List ℕ) → k < length nodes
-    → x ≡ get_or nodes k x
-    → ComesTo k nodes old new → new' ≡ new ++ dump_at k x → ComesTo (k + 1) nodes old new'
-one_more_dump k nodes x old new new' below is so_far now =
-    let rest : drop k nodes ≡ x ∷ drop (suc k) nodes = drop-cons nodes k x below
-    ∙ ap (λ y. y ∷ drop (suc k) nodes) (sym is) in
-    let here : new ++ (dump_at k x ++ dumps (suc k) (drop (suc k) nodes)) ≡ old ++ dumps 0 nodes =
-    sym (ap (λ l. new ++ dumps k l) rest) ∙ so_far in
-    rw (add-one, now, append_assoc) here
-
--- nothing is left behind the last
-drop_over : (k : ℕ) (xs : List NodeState) → length xs ≤ k → drop k xs ≡ []
-drop_over zero [] h = refl
-drop_over (suc k) [] h = refl
-drop_over zero (x ∷ xs) h = absurd (omega (arith, h))
-drop_over (suc k) (x ∷ xs) h = drop_over k xs (omega (arith, h))
-
--- the end
-pub all_dumps : (k : ℕ) (net : NetState) (old new : List ℕ) → IsSound net → length net.nodes ≤ k
-    → ComesTo k net.nodes old new → new ≡ old ++ dump_text (view net)
-all_dumps k net old new sound over so_far =
-    let here : new ++ [] ≡ old ++ dumps 0 net.nodes = sym (ap (λ l. new ++ dumps k l) (drop_over k net.nodes over))
-    ∙ so_far in
-    sym (append-nil new) ∙ here ∙ ap (λ t. old ++ t) (dumps_all net sound)
 
 -- the dump of a processor, from what is known of it
 pub dump_known : (n : ℕ) (m : Machine) (broken : Option Break) (halted : Bool) (pending : List (Option Span))
@@ -110,4 +81,4 @@ dumps_next k nodes x below is =
     ap (λ l. dumps k l) rest ∙ ap (λ n. dump_at k x ++ dumps n (drop n nodes)) (sym (add-one k))
 
 pub dumps_end : (k : ℕ) (nodes : List NodeState) → length nodes ≤ k → dumps k (drop k nodes) ≡ []
-dumps_end k nodes over = ap (λ l. dumps k l) (drop_over k nodes over)
+dumps_end k nodes over = ap (λ l. dumps k l) (drop_all k nodes over)

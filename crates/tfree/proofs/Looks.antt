@@ -17,21 +17,20 @@ use Rattle.tfree.proofs.LinkSlots.{slot_found}
 use Rattle.tfree.proofs.Slots.{same_place, same_rest, same_head}
 
 module _ {A B : Type 0} (f : A → B) (ends : List (List (Option A))) (own : Option OwnLink) (p q : OwnLink)
-    (row : List (Option A)) (l : ℕ) (slot : Option A) (o : B) (p_is : own ≡ Some p) (l_is : l ≡ p.link)
-    (row_is : row ≡ get_or ends p.node row) (slot_is : slot ≡ get_or row l slot) (q_is : own ≡ Some q)
+    (row : List (Option A)) (slot : Option A) (o : B) (p_is : own ≡ Some p) (row_is : row ≡ get_or ends p.node row)
+    (slot_is : slot ≡ get_or row p.link slot) (q_is : own ≡ Some q)
     (there : slot_at (map_slots f ends) q.node q.link ≡ Some o) where
   seen : option_map f slot ≡ Some o
   seen =
-      slot_found f ends p.node l row slot row_is slot_is o
-      (ap (slot_at (map_slots f ends) p.node) l_is
-      ∙ ap (λ (x : OwnLink). slot_at (map_slots f ends) x.node x.link) (sym (same_place own p q p_is q_is)) ∙ there)
+      slot_found f ends p.node p.link row slot row_is slot_is o
+      (ap (λ (x : OwnLink). slot_at (map_slots f ends) x.node x.link) (sym (same_place own p q p_is q_is)) ∙ there)
 
   -- the end that stands at a link
-  pub end_there : (end : A) → get_or row l slot ≡ Some end → o ≡ f end
+  pub end_there : (end : A) → get_or row p.link slot ≡ Some end → o ≡ f end
   end_there end e = same_Some o (f end) (sym seen ∙ ap (option_map f) (slot_is ∙ e))
 
   -- none stands there
-  pub none_there : get_or row l slot ≡ None → ⊥
+  pub none_there : get_or row p.link slot ≡ None → ⊥
   none_there e = let h : Some o ≡ None = sym seen ∙ ap (option_map f) (slot_is ∙ e) in cc
 
 -- nothing was answered, so nothing is seen

@@ -17,7 +17,7 @@ use Rattle.tnet.specs.Net.{NetState, empty_inbox, inbox_at, with_inbox, node_at,
 use Rattle.tnet.specs.Packets.{node_event, received, net_answer, net_happens}
 use Rattle.tnet.specs.Stations.{put_in}
 use Rattle.tnet.specs.Sound.{IsSound, IsEnd}
-use Rattle.tnet.proofs.WireRooms.{HasRoom, FindsRoom, finds_room}
+use Rattle.tnet.proofs.WireRooms.{HasPacketRoom, FindsRoom, finds_room}
 use Rattle.tnet.proofs.Ends.{same_end-true, same_end-self}
 use Rattle.tnet.proofs.OpenedWires.{wired_ends}
 use Rattle.tfree.specs.Stamps.{Clocks, stamps_at, with_stamps, stamp_taken, ticked}
@@ -89,7 +89,7 @@ module _ (net : NetState) (c : Clocks) (stamp k n : ℕ) (node : NodeState) (ev 
   module _ (node' : NodeState) (em : Emitted) (l : ℕ) (p : Packet) (far : End) (emits : em.packet ≡ Some (l, p))
       (wire : far_end net.wires (end_at n l) ≡ Some far) (sound : IsSound net)
       (rows : length c.ends ≡ length net.nodes) (four : All (λ r. length r ≡ 4) c.ends)
-      (room : HasRoom p (inbox_at net far)) where
+      (room : HasPacketRoom p (inbox_at net far)) where
     is_end : IsEnd (length net.nodes) far
     is_end = (wired_ends (length net.nodes) net.wires (end_at n l) far sound.wires.ends wire).1
 

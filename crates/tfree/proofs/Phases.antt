@@ -21,10 +21,6 @@ pub stops : (P Q : Share → Phase) (v w : View) (ok : Bool) → ok ≡ false �
     → Phased (λ s. Then (P s) (Q s)) v ok w
 stops P Q v w ok e h = (h.0, inl (e, h.1))
 
--- a phase that stopped
-pub stopped : (P : Share → Phase) (v w : View) (ok : Bool) → ok ≡ false → Phased P v false w → Phased P v ok w
-stopped P v w ok e h = (h.0, subst (λ (b : Bool). P v.share v.events b w.events) (sym e) h.1)
-
 -- the first phase came to its end, and then the second
 pub goes : (P Q : Share → Phase) (v m w : View) (ok : Bool) → Phased P v true m → Phased Q m ok w
     → Phased (λ s. Then (P s) (Q s)) v ok w

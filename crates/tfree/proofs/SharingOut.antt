@@ -92,9 +92,6 @@ module _ (opened : NetState) (count k : ℕ) (nodes : List NodeState) (allotment
     share_is : given ≡ share_at opened count sh.ins sh.outs k
     share_is = rw (first_is, mine_length, allotment.opened_is, allotment.ins_are, allotment.outs_are) refl
 
-    pub wires_are : s.wires ≡ (net_of_parts s.opened.value).wires
-    wires_are = allotment.wires ∙ ap (λ (m : NetState). m.wires) (sym allotment.opened_is)
-
     pub is_share : IsShare given
     is_share =
         subst IsShare (sym share_is)

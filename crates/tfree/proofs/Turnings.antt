@@ -1,8 +1,8 @@
 -- Turns of a worker one after another, and workers that made theirs.
-use Rattle.std.proofs.Common.{◌≡◌, ℕ, zero, suc, ◌+◌, ◌<◌, ◌≤◌, refl, sym, ◌∙◌, ap, subst, arith, length, get_or, List}
+use Rattle.std.proofs.Common.{◌≡◌, ℕ, zero, suc, ◌+◌, ◌<◌, ◌≤◌, refl, sym, ◌∙◌, ap, subst, arith, length, List}
 use Rattle.std.proofs.Common.{[], ◌∷◌, ◌++◌, map, take, Bool, true, false}
 use Rattle.std.proofs.Math.Seq.{take-append_seam}
-use Rattle.std.specs.Prelude.{Ok, Err, is_ok, replicate, slice_set}
+use Rattle.std.specs.Prelude.{Ok, Err, is_ok, replicate}
 use Rattle.tfree.specs.declared.stamp.OwnEvent.{OwnEvent}
 use Rattle.tfree.specs.Views.{Share, View}
 use Rattle.tfree.specs.Turns.{Times, IsTurn}
@@ -84,16 +84,6 @@ module _ (slice : ℕ) where
   both_on n (v ∷ vs) vs' (d ∷ ds) ds' (e ∷ es) es' (w ∷ ws) ws' h k =
       (h.0, both_on n vs vs' ds ds' es es' ws ws' h.1 k)
   both_on n _ vs' _ ds' _ es' _ ws' h k = absurd h
-
-  -- the only worker
-  pub only_on : (n : ℕ) (vs : List View) (ds : List Ended) (v w : View) (d e : Ended) → length vs ≡ 1
-      → length ds ≡ length vs → GoesOn n slice (get_or vs 0 v) (get_or ds 0 d) e w
-      → AreEachGoneOn n slice vs ds (slice_set ds 0 e) (slice_set vs 0 w)
-  only_on n (v' ∷ []) (d' ∷ []) v w d e one same h = (h, tt)
-  only_on n [] ds v w d e one same h = absurd (omega (arith, one))
-  only_on n (v' ∷ x ∷ vs) ds v w d e one same h = absurd (omega (arith, one))
-  only_on n (v' ∷ []) [] v w d e one same h = absurd (omega (arith, same))
-  only_on n (v' ∷ []) (d' ∷ y ∷ ds) v w d e one same h = absurd (omega (arith, same))
 
 module _ (turns slice : ℕ) where
   -- each keeps its share

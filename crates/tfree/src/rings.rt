@@ -1,7 +1,6 @@
 //! The rings of a net that is opened: one for each direction of each wire, with what lay there.
 
-ghost use Rattle.std.specs.Prelude.{◌≡◌, ◌+◌, ◌<◌, ◌≤◌, [], None, length, replicate, IfOk, IfSome, OnOk};
-ghost use Rattle.rtrb.specs.Ring.{sent, received};
+ghost use Rattle.std.specs.Prelude.{◌≡◌, ◌+◌, ◌<◌, [], None, length, replicate, IfOk, IfSome, OnOk};
 ghost use Rattle.tnet.specs.NetParts.{net_of_parts};
 ghost use Rattle.tnet.specs.Sound.{AreWires, IsEnd};
 ghost use Rattle.tnet.specs.Wires.{far_end};

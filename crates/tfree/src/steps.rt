@@ -1,15 +1,14 @@
 //! One event of a node at its rings: it takes from a ring where a packet is seen, and puts into one where room is
 //! seen.
 
-ghost use Rattle.std.specs.Prelude.{◌≡◌, ◌+◌, ◌<◌, [], ◌∷◌, ◌++◌, ℕ, length, map, option_map, nat_lt, slice_get};
-ghost use Rattle.std.specs.Prelude.{IsTrue, IfSome, IfErr, IsSome, Ok, true, false, Option, Some, None, MatchResult};
-ghost use Rattle.std.specs.Prelude.{List};
+ghost use Rattle.std.specs.Prelude.{◌≡◌, ◌+◌, ◌<◌, [], ◌++◌, option_map};
+ghost use Rattle.std.specs.Prelude.{IsTrue, IfSome, IfErr, Ok, true, false, Option, Some, None};
 ghost use Rattle.rtrb.specs.Ring.{known_items, known_free};
-ghost use Rattle.tlink.specs.Events.{happens, is_node_enabled};
+ghost use Rattle.tlink.specs.Events.{is_node_enabled};
 ghost use Rattle.tfree.specs.Slots.{slot_at};
 ghost use Rattle.tfree.specs.declared.steps.OwnLink as spec;
 ghost use Rattle.tfree.specs.Ends.{in_view, out_view, ins_view, outs_view, seen_of, IsFront, HasFree};
-ghost use Rattle.tfree.specs.Views.{InView, OutView, got_of, put_of, with_put};
+ghost use Rattle.tfree.specs.Views.{InView, OutView, with_put};
 ghost use Rattle.tfree.specs.Logs.{log_view, Whether, sent_as};
 ghost use Rattle.tfree.specs.Steps.{SameRing, SameRingBack, Received, NoneDue, Emitted, AnswersRoom};
 ghost use Rattle.tfree.specs.Steps.{LeftAtFront, LeftWithRoom};
@@ -26,7 +25,7 @@ use tplan::End;
 pub struct OwnLink {
     /// The place of the node among those of the worker.
     pub node: usize,
-    pub link: u8,
+    pub link: usize,
 }
 
 /// The oldest packet that is seen in a ring. Where its other end is at hand, at the link `own` of `outs`, none is
@@ -44,7 +43,7 @@ fn look(end: &mut InEnd, outs: &mut Vec<Slots<OutEnd>>, own: Option<OwnLink>) ->
     let Some(own) = own else {
         return end.look();
     };
-    match &mut outs[own.node][usize::from(own.link)] {
+    match &mut outs[own.node][own.link] {
         Some(out) => end.look_beside(out),
         None => end.look(),
     }
@@ -115,7 +114,7 @@ fn room_of(out: &mut OutEnd, ins: &mut Vec<Slots<InEnd>>, own: Option<OwnLink>) 
     let Some(own) = own else {
         return out.has_room();
     };
-    match &mut ins[own.node][usize::from(own.link)] {
+    match &mut ins[own.node][own.link] {
         Some(end) => out.has_room_beside(end),
         None => out.has_room(),
     }

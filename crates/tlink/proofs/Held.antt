@@ -40,7 +40,7 @@ script-else e (suc (suc zero)) = refl
 script-else e (suc (suc (suc l))) = refl
 
 -- what holds of link 0, and of one where nothing is pending, holds of each
-script_each : (P : LinkEnd → Type 0) (e : LinkEnd) → P e → P quiet_end → (l : ℕ) → P (link_end (script_control e) l)
+pub script_each : (P : LinkEnd → Type 0) (e : LinkEnd) → P e → P quiet_end → (l : ℕ) → P (link_end (script_control e) l)
 script_each P e here else zero = here
 script_each P e here else (suc l) = rw (script-else e l) else
 

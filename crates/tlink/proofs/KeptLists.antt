@@ -2,7 +2,7 @@
 use Rattle.std.proofs.Common.{◌≡◌, ◌∙◌, ℕ, zero, suc, ◌+◌, ◌-◌, ◌<◌, ◌≤◌, refl, sym, ap, List, [], ◌∷◌, ◌++◌, length, map}
 use Rattle.std.proofs.Common.{take, drop, set, get_or, replicate, length-append, Bool, true, false}
 use Rattle.std.proofs.Common.{Option, Some, None, ◌⊎◌, inl, inr, arith}
-use Rattle.std.specs.Prelude.{slice_get, sum, option_map, is_some}
+use Rattle.std.specs.Prelude.{slice_get, sum, option_map}
 use Rattle.std.specs.List.{concat}
 use Rattle.std.proofs.lemmas.Bool.{cases_eq, cases_lt, ne_eqb, eq-eqb, lt-ltb, le-ltb}
 use Rattle.std.proofs.lemmas.List.{append_assoc, append-nil, length-replicate, map-append, take-append-drop, get_or_append_left}
@@ -13,7 +13,7 @@ use Rattle.std.proofs.lemmas.Option.{same_Some, slice_get-map}
 use Rattle.tlink.specs.declared.counts.Arrival.{Arrival}
 use Rattle.tlink.specs.declared.counts.Counts.{Counts}
 use Rattle.tlink.specs.declared.event.NodeEvent.{NodeEvent}
-use Rattle.tlink.specs.declared.event.NodeEvent.TheVariants.{Run, Send, Data, Take, Ack}
+use Rattle.tlink.specs.declared.event.NodeEvent.TheVariants.{Send, Data, Take, Ack}
 use Rattle.tlink.specs.declared.event.Mark.TheVariants.{Nothing, Completed}
 use Rattle.tlink.specs.declared.event.Packet.TheVariants as packet
 use Rattle.tlink.specs.Events.{happens, emitting, silently}
@@ -125,13 +125,9 @@ module _ (s : Source) where
           refl
 
   source_is : (e : NodeEvent) → happens e (source_node s) ≡ kept_as source_node (source_does e s)
-  source_is Run = source.source_no_run _ _ _ _ counts
   source_is (Send zero) = sends (slice_get s.messages s.over) refl
-  source_is (Send (suc l)) = source.source_no_send _ _ _ _ counts (suc l) (λ e. absurd (omega (arith, e)))
-  source_is (Data l byte last) = source.source_no_data _ _ _ _ counts l byte last
-  source_is (Take l) = source.source_no_take _ _ _ _ counts l
   source_is (Ack zero) = hears (slice_get s.messages s.over) refl
-  source_is (Ack (suc l)) = source.source_no_ack _ _ _ _ counts (suc l) (λ e. absurd (omega (arith, e)))
+  source_is e = source.alone _ _ _ _ counts e (λ q. cc) (λ q. cc)
 
 pub sources_are_lists : SourcesAreLists
 sources_are_lists = (λ messages. refl, λ e s. source_is s e)
@@ -164,8 +160,8 @@ module _ (s : Sink) where
 
   receives : (a : Arrival) (o : Option Arrival) → s.arrived ≡ o
       → happens (Data 0 a.byte a.last) (sink_node s) ≡ kept_as sink_node (arrived_of s a o)
-  receives a None h = sink.data_comes _ _ _ counts_of a.byte a.last (ap is_some h)
-  receives a (Some b) h = sink.data_full _ _ _ counts_of a.byte a.last (ap is_some h)
+  receives a None h = sink.data_comes _ _ _ counts_of a.byte a.last h
+  receives a (Some b) h = sink.data_full _ _ _ counts_of a.byte a.last b h
 
   -- where the next byte goes
   at : length (concat s.kept ++ s.part) ≡ length (concat s.kept) + length s.part
@@ -210,14 +206,9 @@ module _ (s : Sink) where
           refl))
 
   sink_is : (e : NodeEvent) → happens e (sink_node s) ≡ kept_as sink_node (sink_does e s)
-  sink_is Run = sink.sink_no_run _ _ _ counts_of
-  sink_is (Send l) = sink.sink_no_send _ _ _ counts_of l
   sink_is (Data zero byte last) = receives (record { byte = byte; last = last }) s.arrived refl
-  sink_is (Data (suc l) byte last) =
-      sink.sink_no_data _ _ _ counts_of (suc l) byte last (λ e. absurd (omega (arith, e)))
   sink_is (Take zero) = takes s.arrived s.room refl refl
-  sink_is (Take (suc l)) = sink.sink_no_take _ _ _ counts_of (suc l) (λ e. absurd (omega (arith, e)))
-  sink_is (Ack l) = sink.sink_no_ack _ _ _ counts_of l
+  sink_is e = sink.alone _ _ _ counts_of e (λ b last q. cc) (λ q. cc)
 
 pub sinks_are_lists : SinksAreLists
 sinks_are_lists = (λ capacity. (let e : capacity - 0 ≡ capacity = omega arith in rw (length-replicate {A = ℕ} capacity 0, e) refl), λ e s. sink_is s e)

@@ -9,18 +9,17 @@ use Rattle.std.proofs.Math.Seq.{take-suc-set}
 use Rattle.tword.specs.Words.{most_neg}
 use Rattle.tword.specs.Stores.{Store, as_cells, with_cells, shown}
 use Rattle.tproc.specs.declared.offer.Offer.{Offer}
-use Rattle.tproc.specs.declared.waiter.LinkEnd.{LinkEnd}
 use Rattle.tlink.specs.declared.counts.Arrival.{Arrival}
 use Rattle.tlink.specs.declared.counts.Counts.{Counts}
 use Rattle.tlink.specs.declared.event.Mark.TheVariants.{Nothing, Completed}
-use Rattle.tlink.specs.declared.event.NodeEvent.TheVariants.{Run, Send, Data, Take, Ack}
+use Rattle.tlink.specs.declared.event.NodeEvent.{NodeEvent}
+use Rattle.tlink.specs.declared.event.NodeEvent.TheVariants.{Data, Take}
 use Rattle.tlink.specs.declared.event.Packet.TheVariants as packet
 use Rattle.tlink.specs.declared.event.StepFault.TheVariants.{NotEnabled}
-use Rattle.tlink.specs.Roles.{asking}
-use Rattle.tlink.specs.Node.{NodeState, counts_at, input_at}
-use Rattle.tlink.specs.Events.{happens, silently, emitting, take_marked, after_take, is_node_done}
+use Rattle.tlink.specs.Node.{NodeState}
+use Rattle.tlink.specs.Events.{happens, silently, emitting, take_marked, is_node_done}
 use Rattle.tlink.specs.Scripts.{sink_state, kept_part, cut}
-use Rattle.tlink.proofs.Held.{script-step, script-else}
+use Rattle.tlink.proofs.Alone.{takes_alone}
 
 -- a byte is set among those that became cells
 cell_set : (bytes : List ℕ) (i b : ℕ) → i < length bytes
@@ -35,14 +34,6 @@ shown_cells [] = refl
 shown_cells (b ∷ bs) = ap (λ (xs : List ℕ). b ∷ xs) (shown_cells bs)
 
 -- whether a byte waits
-some_waits : (x : Option Arrival) → is_some x ≡ true → is_none x ≡ false
-some_waits None h = cc
-some_waits (Some a) h = refl
-
-none_waits : (x : Option Arrival) → is_some x ≡ false → is_none x ≡ true
-none_waits None h = refl
-none_waits (Some a) h = cc
-
 pub none_told : (x : Option Arrival) (b : Bool) → is_some x ≡ not b → b ≡ is_none x
 none_told None true h = refl
 none_told None false h = cc
@@ -57,30 +48,21 @@ pub some_is : (x : Option Arrival) → is_some x ≡ true → (a : Arrival) × (
 some_is None h = cc
 some_is (Some a) h = (a, refl)
 
--- what is not so
-pub not_true : (b : Bool) → not b ≡ true → b ≡ false
-not_true true h = cc
-not_true false h = refl
-
-pub not_false : (b : Bool) → not b ≡ false → b ≡ true
-not_false true h = refl
-not_false false h = cc
-
 module _ (bytes lengths : List ℕ) (kept : ℕ) (c : Counts) where
   abbrev pub this : NodeState
   this = sink_state bytes lengths kept c
 
   -- a byte comes where none waits
-  pub data_full : (byte : ℕ) (last : Bool) → is_some c.arrived ≡ true → happens (Data 0 byte last) this ≡ Err
-      NotEnabled
+  pub data_full : (byte : ℕ) (last : Bool) (a : Arrival) → c.arrived ≡ Some a
+      → happens (Data 0 byte last) this ≡ Err NotEnabled
   unfolding happens
-  data_full byte last h = rw (some_waits c.arrived h) refl
+  data_full byte last a h = rw h refl
 
-  pub data_comes : (byte : ℕ) (last : Bool) → is_some c.arrived ≡ false → happens (Data 0 byte last) this
+  pub data_comes : (byte : ℕ) (last : Bool) → c.arrived ≡ None → happens (Data 0 byte last) this
       ≡ silently Nothing
       (sink_state bytes lengths kept (record c { arrived = Some (record { byte = byte; last = last }) }))
   unfolding happens
-  data_comes byte last h = rw (none_waits c.arrived h) refl
+  data_comes byte last h = rw h refl
 
   -- the tests of Data and Take
   pub data_told : (byte : ℕ) (last : Bool) → is_none c.arrived ≡ is_node_done (happens (Data 0 byte last) this)
@@ -159,49 +141,9 @@ module _ (bytes lengths : List ℕ) (kept : ℕ) (c : Counts) where
           rw (h, room, e, put, size, at, rest) refl
 
   -- it does nothing else
-  pub sink_no_run : happens Run this ≡ Err NotEnabled
-  unfolding happens
-  sink_no_run = rw (script-step (asking (most_neg + kept) (length bytes - kept)) this.machine refl) refl
-
-  pub sink_no_send : (l : ℕ) → happens (Send l) this ≡ Err NotEnabled
-  unfolding happens
-  sink_no_send zero = refl
-  sink_no_send (suc l) = rw (script-else (asking (most_neg + kept) (length bytes - kept)) l) refl
-
-  pub sink_no_ack : (l : ℕ) → happens (Ack l) this ≡ Err NotEnabled
-  unfolding happens
-  sink_no_ack zero = refl
-  sink_no_ack (suc l) = rw (script-else (asking (most_neg + kept) (length bytes - kept)) l) refl
-
-  pub sink_no_data : (l byte : ℕ) (last : Bool) → (l ≡ 0 → ⊥) → happens (Data l byte last) this ≡ Err NotEnabled
-  unfolding happens
-  sink_no_data zero byte last other = absurd (other refl)
-  sink_no_data (suc zero) byte last other = refl
-  sink_no_data (suc (suc zero)) byte last other = refl
-  sink_no_data (suc (suc (suc zero))) byte last other = refl
-  sink_no_data (suc (suc (suc (suc l)))) byte last other = refl
-
-  pub sink_no_take : (l : ℕ) → (l ≡ 0 → ⊥) → happens (Take l) this ≡ Err NotEnabled
-  unfolding happens
-  sink_no_take zero other = absurd (other refl)
-  sink_no_take (suc l) other = by (counts_at this (suc l)) (input_at this (suc l)) input_none
-    where
-      input_none : input_at this (suc l) ≡ None
-      input_none =
-          ap (λ (e : LinkEnd). e.input) (script-else (asking (most_neg + kept) (length bytes - kept)) l)
-
-      by : (d : Counts) (o : Option Offer) → o ≡ None → after_take (suc l) d.arrived o d this ≡ Err NotEnabled
-      by d o e = rw e (none d.arrived)
-        where
-          none : (a : Option Arrival) → after_take (suc l) a None d this ≡ Err NotEnabled
-          none None = refl
-          none (Some a) = refl
-
-  -- it asks at link 0 alone
-  pub sink_no_input : (l : ℕ) → (l ≡ 0 → ⊥) → input_at this l ≡ None
-  sink_no_input zero other = absurd (other refl)
-  sink_no_input (suc l) other =
-      ap (λ (e : LinkEnd). e.input) (script-else (asking (most_neg + kept) (length bytes - kept)) l)
+  pub alone : (e : NodeEvent) → ((byte : ℕ) (last : Bool) → e ≡ Data 0 byte last → ⊥) → (e ≡ Take 0 → ⊥)
+      → happens e this ≡ Err NotEnabled
+  alone = takes_alone this _ refl refl refl
 
 -- the lengths behind one more message
 pub length_kept : (lengths : List ℕ) (messages n : ℕ) → messages < length lengths

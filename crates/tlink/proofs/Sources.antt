@@ -1,7 +1,7 @@
 -- What a source does at each event.
 use Rattle.std.proofs.Common.{◌≡◌, ◌∙◌, ℕ, zero, suc, ◌+◌, ◌-◌, ◌<◌, ◌≤◌, refl, sym, ap, subst, cond, List, [], ◌∷◌}
 use Rattle.std.proofs.Common.{length, drop, take, ◌++◌, length-take, length-drop}
-use Rattle.std.proofs.Common.{get_or, Bool, true, false, ◌&&◌, not, Option, Some, None, Result, Ok, Err, ◌⊎◌, inl, inr}
+use Rattle.std.proofs.Common.{get_or, Bool, true, false, ◌&&◌, not, Some, None, Result, Ok, Err, ◌⊎◌, inl, inr}
 use Rattle.std.proofs.Common.{arith}
 use Rattle.std.specs.Prelude.{sum, slice_get, unwrap_or, option_map, nat_lt, ◌==◌}
 use Rattle.std.proofs.lemmas.Bool.{cases_eq, ne_eqb, eq-eqb, lt-ltb, le-ltb}
@@ -10,41 +10,40 @@ use Rattle.std.proofs.lemmas.Option.{same_Some, slice_get-map, slice_get-get_or,
 use Rattle.std.proofs.lemmas.Option.{get_or_from_slice_get}
 use Rattle.tword.specs.Words.{most_neg}
 use Rattle.tword.specs.Stores.{as_cells, byte_at}
-use Rattle.tproc.specs.declared.offer.Offer.{Offer}
-use Rattle.tproc.specs.declared.waiter.LinkEnd.{LinkEnd}
-use Rattle.tlink.specs.declared.counts.Arrival.{Arrival}
 use Rattle.tlink.specs.declared.counts.Counts.{Counts}
 use Rattle.tlink.specs.declared.event.Emitted.{Emitted}
 use Rattle.tlink.specs.declared.event.Mark.TheVariants.{Nothing}
 use Rattle.tlink.specs.declared.event.NodeEvent.{NodeEvent}
-use Rattle.tlink.specs.declared.event.NodeEvent.TheVariants.{Run, Send, Data, Take, Ack}
+use Rattle.tlink.specs.declared.event.NodeEvent.TheVariants.{Send, Data, Ack}
 use Rattle.tlink.specs.declared.event.Packet.TheVariants as packet
 use Rattle.tlink.specs.declared.event.StepFault.{StepFault}
 use Rattle.tlink.specs.declared.event.StepFault.TheVariants.{NotEnabled}
-use Rattle.tlink.specs.Roles.{offering}
-use Rattle.tlink.specs.Node.{NodeState, counts_at, input_at}
-use Rattle.tlink.specs.Events.{Answer, happens, silently, emitting, after_take, is_node_enabled, is_node_done}
+use Rattle.tlink.specs.Node.{NodeState}
+use Rattle.tlink.specs.Events.{Answer, happens, silently, emitting, is_node_enabled, is_node_done}
 use Rattle.tlink.specs.Events.{node_answered, node_left_by}
 use Rattle.tlink.specs.Answers.{DoesNode}
 use Rattle.tlink.specs.Scripts.{source_state, IsSourceWithin}
-use Rattle.tlink.proofs.Held.{script-step, script-else}
+use Rattle.tlink.proofs.Alone.{sends_alone}
 
 -- what a call does, where the node's answer is known
-pub does : (e : NodeEvent) (n old n' : NodeState) (known : Answer) (result : Result Emitted StepFault) → n ≡ old
-    → happens e n ≡ known → result ≡ node_answered known → n' ≡ node_left_by n known
+pub does : (e : NodeEvent) {n old : NodeState} (n' : NodeState) (known : Answer) (result : Result Emitted StepFault)
+    → n ≡ old → happens e n ≡ known → result ≡ node_answered known → n' ≡ node_left_by n known
     → DoesNode (happens e old) old result n'
-does e n old n' known result same is told left =
+does e {n} n' known result same is told left =
     subst (λ (m : NodeState). DoesNode (happens e m) m result n') same
     (record { told = told ∙ ap node_answered (sym is); left = left ∙ ap (node_left_by n) (sym is) })
 
-pub refuses : (e : NodeEvent) (n old : NodeState) → n ≡ old → happens e n ≡ Err NotEnabled
+pub refuses : (e : NodeEvent) {n old : NodeState} → n ≡ old → happens e n ≡ Err NotEnabled
     → DoesNode (happens e old) old (Err NotEnabled) old
-refuses e n old same is = does e n old old (Err NotEnabled) (Err NotEnabled) same is refl (sym same)
+refuses e {old = old} same is = does e old (Err NotEnabled) (Err NotEnabled) same is refl (sym same)
 
 -- so for the test
-pub tells : (e : NodeEvent) (n old : NodeState) (known : Answer) (b : Bool) → n ≡ old → happens e n ≡ known
-    → b ≡ is_node_done known → b ≡ is_node_enabled e old
-tells e n old known b same is told = told ∙ ap is_node_done (sym is ∙ ap (happens e) same)
+pub tells : (e : NodeEvent) {n old : NodeState} {b : Bool} → n ≡ old → b ≡ is_node_done (happens e n)
+    → b ≡ is_node_enabled e old
+tells e same told = told ∙ ap (is_node_enabled e) same
+
+pub rests : (e : NodeEvent) {n old : NodeState} → n ≡ old → happens e n ≡ Err NotEnabled → false ≡ is_node_enabled e old
+rests e same is = tells e same (sym (ap is_node_done is))
 
 -- the lengths of the messages that are not over, by the first of them
 pub rest_none : (lengths : List ℕ) (done : ℕ) → slice_get lengths done ≡ None → drop done lengths ≡ []
@@ -209,42 +208,5 @@ module _ (bytes lengths : List ℕ) (done start : ℕ) (c : Counts) where
         (let e : suc done ≡ done + 1 = omega arith in e))
 
   -- it does nothing else
-  pub source_no_run : happens Run this ≡ Err NotEnabled
-  unfolding happens
-  source_no_run = rw (script-step (offering (most_neg + start) (drop done lengths)) this.machine refl) refl
-
-  pub source_no_send : (l : ℕ) → (l ≡ 0 → ⊥) → happens (Send l) this ≡ Err NotEnabled
-  unfolding happens
-  source_no_send zero other = absurd (other refl)
-  source_no_send (suc l) other = rw (script-else (offering (most_neg + start) (drop done lengths)) l) refl
-
-  pub source_no_data : (l byte : ℕ) (last : Bool) → happens (Data l byte last) this ≡ Err NotEnabled
-  unfolding happens
-  source_no_data l byte last = refl
-
-  pub source_no_take : (l : ℕ) → happens (Take l) this ≡ Err NotEnabled
-  unfolding happens
-  source_no_take l = by (counts_at this l) (input_at this l) (input_none l)
-    where
-      input_none : (l : ℕ) → input_at this l ≡ None
-      input_none zero = refl
-      input_none (suc l) =
-          ap (λ (e : LinkEnd). e.input) (script-else (offering (most_neg + start) (drop done lengths)) l)
-
-      by : (d : Counts) (o : Option Offer) → o ≡ None → after_take l d.arrived o d this ≡ Err NotEnabled
-      by d o e = rw e (none d.arrived)
-        where
-          none : (a : Option Arrival) → after_take l a None d this ≡ Err NotEnabled
-          none None = refl
-          none (Some a) = refl
-
-  pub source_no_ack : (l : ℕ) → (l ≡ 0 → ⊥) → happens (Ack l) this ≡ Err NotEnabled
-  unfolding happens
-  source_no_ack zero other = absurd (other refl)
-  source_no_ack (suc l) other = rw (script-else (offering (most_neg + start) (drop done lengths)) l) refl
-
-  -- it asks for nothing
-  pub source_no_input : (l : ℕ) → input_at this l ≡ None
-  source_no_input zero = refl
-  source_no_input (suc l) =
-      ap (λ (e : LinkEnd). e.input) (script-else (offering (most_neg + start) (drop done lengths)) l)
+  pub alone : (e : NodeEvent) → (e ≡ Send 0 → ⊥) → (e ≡ Ack 0 → ⊥) → happens e this ≡ Err NotEnabled
+  alone = sends_alone this _ refl refl

@@ -229,9 +229,7 @@ impl Sink {
                     Err(StepFault::NotEnabled)
                 }
             }
-            NodeEvent::Run => Err(StepFault::NotEnabled),
-            NodeEvent::Send(_) => Err(StepFault::NotEnabled),
-            NodeEvent::Ack(_) => Err(StepFault::NotEnabled),
+            _ => Err(StepFault::NotEnabled),
         }
     }
 
@@ -253,9 +251,7 @@ impl Sink {
                     false
                 }
             }
-            NodeEvent::Run => false,
-            NodeEvent::Send(_) => false,
-            NodeEvent::Ack(_) => false,
+            _ => false,
         }
     }
 

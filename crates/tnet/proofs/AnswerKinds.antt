@@ -2,7 +2,7 @@
 -- next byte completes stays.
 use Rattle.std.proofs.Common.{◌≡◌, ◌≢◌, ℕ, refl, ap, ◌∙◌, List, set, Bool, true, false, Result, Ok, Err, Option}
 use Rattle.std.proofs.Common.{Some, None, ◌⊎◌, inl, inr}
-use Rattle.std.specs.Prelude.{⊤, slice_index_or, ◌+◌, ◌&&◌, ◌==◌, not, nat_lt, if◌then◌else◌, is_none, IsSome, IfSome}
+use Rattle.std.specs.Prelude.{⊤, slice_index_or, ◌+◌, ◌&&◌, ◌==◌, not, if◌then◌else◌, is_none, IsSome, IfSome}
 use Rattle.std.proofs.lemmas.List.{get_or-set_other}
 use Rattle.std.proofs.lemmas.Option.{same_Some}
 use Rattle.tword.specs.declared.breaks.Break.{Break}
@@ -18,7 +18,6 @@ use Rattle.tproc.proofs.Noticing.{notice-links}
 use Rattle.tproc.proofs.Resting.{halting_halts}
 use Rattle.tlink.specs.declared.counts.Arrival.{Arrival}
 use Rattle.tlink.specs.declared.counts.Counts.{Counts}
-use Rattle.tlink.specs.declared.event.Packet.{Packet}
 use Rattle.tlink.specs.declared.event.NodeEvent.{NodeEvent}
 use Rattle.tlink.specs.declared.event.NodeEvent.TheVariants.{Run, Send, Data, Take, Ack}
 use Rattle.tlink.specs.declared.event.Emitted.{Emitted}
@@ -31,8 +30,8 @@ use Rattle.tlink.specs.Node.{due_at, is_wired, frozen}
 use Rattle.tlink.specs.Roles.{Role, Processor, Source, Sink, receives, has_room, is_full, role_woken, woken}
 use Rattle.tlink.specs.Roles.{role_filled, filled, due}
 use Rattle.tlink.proofs.Held.{woken-links, filled-links}
-use Rattle.tlink.specs.Events.{Answer, happens, unless_frozen, after_run, after_send, after_take, after_ack}
-use Rattle.tlink.specs.Events.{take_marked, stored, noticed_by, silently, emitting, ended, node_left_by, node_answered}
+use Rattle.tlink.specs.Events.{Answer, happens, unless_frozen, after_run, after_take, after_ack}
+use Rattle.tlink.specs.Events.{take_marked, stored, noticed_by, silently, ended, node_left_by, node_answered}
 use Rattle.tplan.specs.declared.event.Act.{Act}
 use Rattle.tplan.specs.declared.event.Act.TheVariants as act
 use Rattle.tplan.specs.declared.plan.End.{End}
@@ -53,12 +52,6 @@ abbrev pub Brings : NodeState → Answer → Type 0
 Brings n (Ok (n', e)) = (e.packet ≡ None) × (e.mark ≡ Nothing) × SameDue n n'
 Brings n (Err NotEnabled) = ⊤
 Brings n (Err (Frozen b)) = ⊥
-
--- an event that sends: nothing is told or frozen
-abbrev pub Sends : Answer → Type 0
-Sends (Ok (n', e)) = e.mark ≡ Nothing
-Sends (Err NotEnabled) = ⊤
-Sends (Err (Frozen b)) = ⊥
 
 -- an event that takes a byte: it may complete the message of its link, and what the next bytes at the others complete
 -- stays
@@ -163,23 +156,6 @@ ack_of l (Some o) c n same = ack_by l c o n (not (c.sent == c.acked + 1)) (c.ack
 pub ack_brings : (l : ℕ) (n : NodeState) → Brings n (happens (Ack l) n)
 unfolding happens
 ack_brings l n = unless_brings n n.broken _ (ack_of l (output_at n l) (counts_at n l) n refl)
-
-unless_sends : (b : Option Break) (a : Answer) → Sends a → Sends (unless_frozen b a)
-unless_sends None a h = h
-unless_sends (Some b) a h = tt
-
-send_by : (l : ℕ) (p : Packet) (n : NodeState) (t : Bool) → Sends (if t then emitting l p Nothing n else Err NotEnabled)
-send_by l p n true = refl
-send_by l p n false = tt
-
-send_of : (l : ℕ) (o : Option Offer) (c : Counts) (n : NodeState) → Sends (after_send l o c n)
-send_of l None c n = tt
-send_of l (Some o) c n = send_by l _ _ (is_wired n l && (c.acked == c.sent) && nat_lt c.sent o.length)
-
--- Send
-pub send_sends : (l : ℕ) (n : NodeState) → Sends (happens (Send l) n)
-unfolding happens
-send_sends l n = unless_sends n.broken _ (send_of l (output_at n l) (counts_at n l) n)
 
 unless_takes : (l : ℕ) (n : NodeState) (b : Option Break) (a : Answer) → Takes l n a → Takes l n (unless_frozen b a)
 unless_takes l n None a h = h
@@ -312,24 +288,6 @@ run_emits_none n far node = by (happens Run node) (run_runs node)
     by (Ok (m, x)) h = h.0
     by (Err NotEnabled) h = tt
     by (Err (Frozen b)) h = refl
-
--- and after one that tells something, as after one that is not enabled, there is none
-pub run_ends : (n : ℕ) (far : ℕ → Option End) (node : NodeState)
-    → IfSome (done_of n far Run node) (λ (d : Done). d.note ≡ None)
-    ⊎ (happens Run (node_left_by node (happens Run node)) ≡ Err NotEnabled)
-run_ends n far node = by (happens Run node) refl (run_runs node)
-  where
-    by : (a : Answer) → happens Run node ≡ a → Runs a → IfSome (done_of n far Run node) (λ (d : Done). d.note ≡ None)
-        ⊎ (happens Run (node_left_by node (happens Run node)) ≡ Err NotEnabled)
-    by (Ok (m, x)) is h = by_mark h.1
-      where
-        by_mark : ((x.mark ≡ Nothing) ⊎ ((x.mark ≡ Halted) × (happens Run m ≡ Err NotEnabled)))
-            → IfSome (done_of n far Run node) (λ (d : Done). d.note ≡ None)
-            ⊎ (happens Run (node_left_by node (happens Run node)) ≡ Err NotEnabled)
-        by_mark (inl q) = inl (rw (is, q) refl)
-        by_mark (inr q) = inr (rw is q.1)
-    by (Err NotEnabled) is h = inr (rw is is)
-    by (Err (Frozen b)) is h = inr (rw is (frozen-stops Run b node))
 
 brought_stand : (node : NodeState) (l : ℕ) (a : Answer) → Brings node a
     → due_at (node_left_by node a) l ≡ due_at node l

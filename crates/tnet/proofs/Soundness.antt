@@ -8,7 +8,7 @@ use Rattle.tnet.specs.Net.{NetState}
 use Rattle.tnet.specs.Packets.{NetAnswer, net_happens, net_left_by}
 use Rattle.tnet.specs.Sound.{IsSound}
 use Rattle.tnet.proofs.SoundEvents.{stays_sound}
-use Rattle.tnet.specs.Answers.{DoesEvent, DoesNet}
+use Rattle.tnet.specs.Answers.{DoesEvent}
 
 by_answer : (e : Event) (net : NetState) (a : NetAnswer) → IsSound net → net_happens e net ≡ a
     → IsSound (net_left_by e net a)

@@ -36,8 +36,8 @@ Did None old result new = (result ≡ false) × (new ≡ old)
 Did (Some net) old result new = (result ≡ true) × (new ≡ net)
 
 -- room for the message of an input, in so many bytes
-abbrev pub HasRoom : Option Offer → ℕ → Type 0
-HasRoom input room = IfSome input (λ (o : Offer). o.length ≤ room)
+abbrev pub HasMessageRoom : Option Offer → ℕ → Type 0
+HasMessageRoom input room = IfSome input (λ (o : Offer). o.length ≤ room)
 
 -- the links where what the next byte completes surely stands after an act: all after one that takes a packet, and all
 -- others after one that takes a byte

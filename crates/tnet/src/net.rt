@@ -1,8 +1,7 @@
 //! A net of nodes and wires, with the packets that lie at the ends of its wires.
 
-ghost use Rattle.std.specs.Prelude.{◌≡◌, ◌≢◌, ◌≤◌, ℕ, Some, length, IsTrue, IfErr, IfOk, ◌↔◌};
+ghost use Rattle.std.specs.Prelude.{◌≡◌, ◌≢◌, ◌≤◌, Some, length, IsTrue, IfErr, IfOk, ◌↔◌};
 ghost use Rattle.tword.specs.Limits.{most_nodes};
-ghost use Rattle.tlink.specs.Node.{NodeState};
 ghost use Rattle.tnet.specs.Net.{NetState, inbox_at, sources_in, sinks_in};
 ghost use Rattle.tnet.specs.Packets.{net_happens, answered, net_left_by, after_event, after_events, applied, is_enabled};
 ghost use Rattle.tnet.specs.Packets.{IsQuiet};

@@ -7,12 +7,11 @@ ghost use Rattle.tnet.specs.Stations as spec;
 ghost use Rattle.tnet.specs.Stations.{box_at, emptied, put_in, answer_note, done_of, runs_done};
 ghost use Rattle.tplan.specs.declared.plan.End.{End};
 ghost use Rattle.tnet.specs.FarEnds.{far_in_row};
-ghost use Rattle.tnet.specs.Answers.{HasRoom};
+ghost use Rattle.tnet.specs.Answers.{HasMessageRoom};
 
 use crate::inbox::Inbox;
 use crate::messages::message;
 use crate::wires::{Row, end_of};
-use std::alloc::Global;
 use std::mem;
 use tlink::{Arrival, Emitted, Mark, Node, NodeEvent, Packet, Runs, StepFault};
 use tplan::{Act, End, Note};
@@ -108,7 +107,6 @@ pub fn input_of(node: &Node, event: NodeEvent) -> Option<Offer>
 /// which is used up.
 #[inline(always)]
 pub fn note_of(
-    alloc: Global,
     number: u8,
     far: &Row<Option<End>>,
     input: Option<Offer>,
@@ -116,7 +114,7 @@ pub fn note_of(
     node: &Node,
     room: &mut Vec<u8>,
 ) -> Option<Note>
-    requires room { HasRoom input (vec_capacity room.old) }
+    requires room { HasMessageRoom input (vec_capacity room.old) }
     ensures note { result ≡ answer_note number (far_in_row far.now) input answer.now node.now }
     ensures kept { input ≡ None → room.new ≡ room.old }
 {
@@ -126,7 +124,7 @@ pub fn note_of(
             Mark::Halted => Some(Note::Halt(number)),
             Mark::Completed(link) => {
                 let from = far.get(usize::from(link)).copied().unwrap_or(None);
-                message_note(alloc, from, end_of(number, link), input, node, room)
+                message_note(from, end_of(number, link), input, node, room)
             }
         },
         Err(StepFault::Frozen(broken)) => Some(Note::Freeze(number, *broken)),
@@ -136,21 +134,21 @@ pub fn note_of(
 
 /// A message that has come to its end, if it came over a wire.
 fn message_note(
-    alloc: Global,
     from: Option<End>,
     to: End,
     input: Option<Offer>,
     node: &Node,
     room: &mut Vec<u8>,
 ) -> Option<Note>
-    requires room { HasRoom input (vec_capacity room.old) }
+    requires room { HasMessageRoom input (vec_capacity room.old) }
     ensures note { result ≡ spec.message_note from to (spec.input_bytes input node.now) }
     ensures kept { input ≡ None → room.new ≡ room.old }
 {
     let from = from?;
+    let no_bytes = Vec::new(*room.allocator());
     let bytes = match input {
-        Some(offer) => message(node, offer, mem::replace(room, Vec::new(alloc))),
-        None => Items::new(Vec::new(alloc)),
+        Some(offer) => message(node, offer, mem::replace(room, no_bytes)),
+        None => Items::new(no_bytes),
     };
     Some(Note::Msg { from, to, bytes })
 }
@@ -159,14 +157,13 @@ fn message_note(
 /// into `room`, which is used up.
 #[inline(always)]
 pub fn act(
-    alloc: Global,
     number: u8,
     far: &Row<Option<End>>,
     node: &mut Node,
     event: NodeEvent,
     room: &mut Vec<u8>,
 ) -> Option<Done>
-    requires room { HasRoom (spec.input_of event node.old) (vec_capacity room.old) }
+    requires room { HasMessageRoom (spec.input_of event node.old) (vec_capacity room.old) }
     ensures done { result ≡ done_of number (far_in_row far.now) event node.old }
     ensures left { node.new ≡ node_left_by node.old (happens event node.old) }
     ensures rests { result ≡ None → node.new ≡ node.old }
@@ -174,7 +171,7 @@ pub fn act(
 {
     let input = input_of(node, event);
     let answer = node.step(event);
-    let note = note_of(alloc, number, far, input, &answer, node, room);
+    let note = note_of(number, far, input, &answer, node, room);
     match answer {
         Ok(emitted) => Some(Done {
             packet: emitted.packet,

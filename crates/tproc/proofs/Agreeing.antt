@@ -3,138 +3,117 @@ use Rattle.std.proofs.Common.{◌≡◌, ◌≢◌, ◌∙◌, ℕ, zero, suc, �
 use Rattle.std.proofs.Common.{true, false, List, [], ◌∷◌, ◌++◌, length, Some, None, Option, arith, AllPairs}
 use Rattle.std.proofs.Common.{length-append}
 use Rattle.std.specs.Prelude.{IsSome, IfSome, ◌==◌, option_to_list}
-use Rattle.std.proofs.lemmas.Bool.{eqb-true, eqb-false, eq-eqb, ne_eqb, or_right}
-use Rattle.std.proofs.lemmas.List.{map-append, length-map}
-use Rattle.std.proofs.lemmas.List.Folds.{list_any-append}
+use Rattle.std.proofs.lemmas.Bool.{eqb-true, eqb-false, eq-eqb, ne_eqb}
+use Rattle.std.proofs.lemmas.List.{length-map}
+use Rattle.std.proofs.lemmas.List.Kept.{AllPairs-cons}
 use Rattle.tword.specs.Claims.{Claims, has_saved, saving}
 use Rattle.tproc.specs.Machine.{Control, workspace_of, descheduled}
 use Rattle.tproc.specs.ProcessStatus.{is_among, reason_of}
+use Rattle.tproc.specs.declared.waiter.LinkEnd.{LinkEnd}
 use Rattle.tproc.specs.declared.waiter.Reason.{Reason}
-use Rattle.tproc.specs.declared.waiter.Waiter.{Waiter}
 use Rattle.tproc.specs.Queues.{appended, waiting_for, without_waiter}
-use Rattle.tproc.specs.Agreement.{AgreesWith, Agrees, Settles, Unsettles, Leaves, IsPlain, StillSaved}
+use Rattle.tproc.specs.Agreement.{AgreesOn, AgreesWith, Agrees, Settles, Unsettles, StillSaved, descheduled_count}
 use Rattle.tword.specs.Accesses.{Frees}
-use Rattle.tproc.proofs.Occurs.{occurs, occurs-append, occurring_once, found-occurs, same_once}
-use Rattle.tproc.proofs.ClaimState.{workspaces_of, HasWaiter}
-use Rattle.tproc.proofs.Waiters.{without, without_none, waiter_occurs, found_waiter, filter_step}
+use Rattle.tproc.proofs.Occurs.{occurs, hits, occurs-append, occurring_once, found-occurs, occurs-found, found-alike}
+use Rattle.tproc.proofs.Occurs.{all_occurring, pairs_from, same_once}
+use Rattle.tproc.proofs.ClaimState.{times, workspaces_of, HasWaiter}
+use Rattle.tproc.proofs.ClaimMeaning.{occurs-descheduled}
+use Rattle.tproc.proofs.ClaimMoves.{appended-times, waiting-times}
+use Rattle.tproc.proofs.Waiters.{found_waiter, without_length, without_times}
 
--- a workspace goes from the others to those of the control
-moved : (x o d d' : Bool) → d' ≡ (x || d) → (x || (o || d)) ≡ (o || d')
-moved true true d d' e = refl
-moved true false d d' e = sym e
-moved false true d d' e = refl
-moved false false d d' e = sym e
-
-moved_among : (v w : ℕ) (others d d' : List ℕ) → is_among v d' ≡ ((w == v) || is_among v d)
-    → ((w == v) || is_among v (others ++ d)) ≡ is_among v (others ++ d')
-moved_among v w others d d' e =
-    simp list_any-append (moved (w == v) (is_among v others) (is_among v d) (is_among v d') e)
-
-pub settled : (w : ℕ) (others : List ℕ) (c : Claims) (m m' : Control) → AgreesWith (w ∷ others) c m
-    → ((v : ℕ) → is_among v (descheduled m') ≡ ((w == v) || is_among v (descheduled m)))
-    → length (descheduled m') ≡ length (descheduled m) + 1
-    → m'.links ≡ m.links → AgreesWith others c m'
-settled w others c m m' h e n l =
+-- whatever their order, the same workspaces agree
+reordered : (xs ys : List ℕ) (c : Claims) (links : List LinkEnd) → AgreesOn c xs links
+    → ((v : ℕ) → occurs v ys ≡ occurs v xs) → length ys ≡ length xs → AgreesOn c ys links
+reordered xs ys c links h e n =
     record {
-      on = record {
-        saved = λ v. h.on.saved v ∙ moved_among v w others (descheduled m) (descheduled m') (e v);
-        count = omega (
-          arith,
-          h.on.count,
-          n,
-          length-append {A = ℕ} others (descheduled m'),
-          length-append {A = ℕ} others (descheduled m),
-        );
-        inputs = rw l h.on.inputs;
-        outputs = rw l h.on.outputs;
-      };
+      saved = λ v. h.saved v ∙ found-alike v xs ys (sym (e v));
+      count = h.count ∙ sym n;
+      distinct =
+          pairs_from (λ v w. v ≢ w) ys (λ v. omega (arith, e v, occurring_once xs h.distinct v)) (λ v w a b k. k);
+      inputs = h.inputs;
+      outputs = h.outputs;
     }
+
+-- one more workspace is queued or waits
+record HasMore (w : ℕ) (m m' : Control) : Type 0 where
+  times : (v : ℕ) → times m'.high m'.low m'.waiting v ≡ hits w v + times m.high m.low m.waiting v
+  count : descheduled_count m' ≡ descheduled_count m + 1
+  links : m'.links ≡ m.links
+
+-- it stands among the others, or among those of the control
+among_others : (w : ℕ) (m m' : Control) (others : List ℕ) → HasMore w m m' → (v : ℕ)
+    → occurs v (others ++ descheduled m') ≡ occurs v (w ∷ (others ++ descheduled m))
+among_others w m m' others h v =
+    omega (
+      arith,
+      h.times v,
+      occurs-append v others (descheduled m'),
+      occurs-append v others (descheduled m),
+      occurs-descheduled m' v,
+      occurs-descheduled m v,
+    )
+
+as_many : (w : ℕ) (m m' : Control) (others : List ℕ) → HasMore w m m'
+    → length (others ++ descheduled m') ≡ length (w ∷ (others ++ descheduled m))
+as_many w m m' others h = simp (length-append, length-map) (omega (arith, h.count))
+
+settled : (w : ℕ) (m m' : Control) → HasMore w m m' → Settles w m m'
+settled w m m' h = λ others c a. record {
+  on = rw h.links (reordered _ _ c m.links a.on (among_others w m m' others h) (as_many w m m' others h));
+}
 
 -- and back
-pub unsettled : (w : ℕ) (others : List ℕ) (c : Claims) (m m' : Control) → AgreesWith others c m
-    → ((v : ℕ) → is_among v (descheduled m) ≡ ((w == v) || is_among v (descheduled m')))
-    → length (descheduled m) ≡ length (descheduled m') + 1
-    → m'.links ≡ m.links → AgreesWith (w ∷ others) c m'
-unsettled w others c m m' h e n l =
-    record {
-      on = record {
-        saved = λ v. h.on.saved v ∙ sym (moved_among v w others (descheduled m') (descheduled m) (e v));
-        count = omega (
-          arith,
-          h.on.count,
-          n,
-          length-append {A = ℕ} others (descheduled m'),
-          length-append {A = ℕ} others (descheduled m),
-        );
-        inputs = rw l h.on.inputs;
-        outputs = rw l h.on.outputs;
-      };
-    }
-
--- one more in a queue, or among those that wait
-shuffle_high : (x a b c : Bool) → (((a || (x || false)) || b) || c) ≡ (x || ((a || b) || c))
-shuffle_high true true b c = refl
-shuffle_high true false b c = refl
-shuffle_high false true b c = refl
-shuffle_high false false b c = refl
-
-shuffle_low : (x a b c : Bool) → ((a || (b || (x || false))) || c) ≡ (x || ((a || b) || c))
-shuffle_low true true b c = refl
-shuffle_low true false true c = refl
-shuffle_low true false false c = refl
-shuffle_low false true b c = refl
-shuffle_low false false true c = refl
-shuffle_low false false false c = refl
-
-shuffle_last : (x a c : Bool) → (a || (c || (x || false))) ≡ (x || (a || c))
-shuffle_last true true c = refl
-shuffle_last true false true = refl
-shuffle_last true false false = refl
-shuffle_last false true c = refl
-shuffle_last false false true = refl
-shuffle_last false false false = refl
-
-in_high : (v w : ℕ) (xs ys zs : List ℕ)
-    → is_among v (((xs ++ w ∷ []) ++ ys) ++ zs) ≡ ((w == v) || is_among v ((xs ++ ys) ++ zs))
-in_high v w xs ys zs = simp list_any-append (shuffle_high (w == v) (is_among v xs) (is_among v ys) (is_among v zs))
-
-in_low : (v w : ℕ) (xs ys zs : List ℕ)
-    → is_among v ((xs ++ (ys ++ w ∷ [])) ++ zs) ≡ ((w == v) || is_among v ((xs ++ ys) ++ zs))
-in_low v w xs ys zs = simp list_any-append (shuffle_low (w == v) (is_among v xs) (is_among v ys) (is_among v zs))
-
-at_last : (v w : ℕ) (xs zs : List ℕ) → is_among v (xs ++ (zs ++ w ∷ [])) ≡ ((w == v) || is_among v (xs ++ zs))
-at_last v w xs zs = simp list_any-append (shuffle_last (w == v) (is_among v xs) (is_among v zs))
+unsettled : (w : ℕ) (m m' : Control) → HasMore w m' m → Unsettles w m m'
+unsettled w m m' h = λ others c a. record {
+  on = rw (sym h.links)
+      (reordered _ _ c m.links a.on (λ v. sym (among_others w m' m others h v)) (sym (as_many w m' m others h)));
+}
 
 -- a workspace is queued that was saved
 pub settles_appended : (w p : ℕ) (m : Control) → Settles w m (appended w p m)
-settles_appended w zero m = λ others c h.
-    settled w others c m (appended w zero m) h (λ v. in_high v w m.high m.low (workspaces_of m.waiting))
-    (simp length-append (omega arith)) refl
-settles_appended w (suc p) m = λ others c h.
-    settled w others c m (appended w (suc p) m) h (λ v. in_low v w m.high m.low (workspaces_of m.waiting))
-    (simp length-append (omega arith)) refl
+settles_appended w p m =
+    settled w m (appended w p m) (record { times = appended-times p w m; count = count p; links = links p })
+  where
+    count : (p : ℕ) → descheduled_count (appended w p m) ≡ descheduled_count m + 1
+    count zero = simp length-append (omega arith)
+    count (suc p) = simp length-append (omega arith)
+
+    links : (p : ℕ) → (appended w p m).links ≡ m.links
+    links zero = refl
+    links (suc p) = refl
 
 -- a process waits whose words were saved
 pub settles_waiting : (process : ℕ) (r : Reason) (m : Control)
     → Settles (workspace_of process) m (waiting_for process r m)
-settles_waiting process r m = λ others c h.
-    settled (workspace_of process) others c m (waiting_for process r m) h
-    (λ v. simp map-append (at_last v (workspace_of process) (m.high ++ m.low) (workspaces_of m.waiting)))
-    (simp (map-append, length-append) (omega arith)) refl
+settles_waiting process r m =
+    settled (workspace_of process) m (waiting_for process r m) (record {
+      times = waiting-times process (workspace_of process) r m refl;
+      count = simp length-append (omega arith);
+      links = refl;
+    })
 
--- a workspace is saved
-pub agrees_but : (w : ℕ) (others : List ℕ) (c d : Claims) (m : Control) → AgreesWith others c m → d ≡ saving w c
-    → AgreesWith (w ∷ others) d m
-agrees_but w others c d m h e =
+-- a workspace is saved that was not
+pub agrees_but : (w : ℕ) (others : List ℕ) (c d : Claims) (m : Control) → AgreesWith others c m → has_saved c w ≡ false
+    → d ≡ saving w c → AgreesWith (w ∷ others) d m
+agrees_but w others c d m h f e =
     rw e (record {
       on =
           record {
             saved = λ v. ap (λ b. (w == v) || b) (h.on.saved v);
             count = omega (arith, h.on.count);
+            distinct = AllPairs-cons (λ v u. v ≢ u) w (others ++ descheduled m) (all_occurring (λ v. w ≢ v)
+                (others ++ descheduled m) other) h.on.distinct;
             inputs = h.on.inputs;
             outputs = h.on.outputs;
           };
     })
+  where
+    other : (v : ℕ) → 0 < occurs v (others ++ descheduled m) → w ≢ v
+    other v b = λ k.
+        let there : is_among w (others ++ descheduled m) ≡ true =
+        occurs-found w (others ++ descheduled m) (rw (sym k) at b) in
+        let saved : has_saved c w ≡ is_among w (others ++ descheduled m) = h.on.saved w in
+        cc
 
 -- and is among those that are
 pub saved_itself : (w : ℕ) (c : Claims) → has_saved (saving w c) w ≡ true
@@ -143,58 +122,6 @@ saved_itself w c = rw (eq-eqb w w refl) refl
 -- the workspace of a descriptor of the process that runs
 pub own_workspace : (w p : ℕ) → w % 4 ≡ 0 → p < 2 → workspace_of (w + p) ≡ w
 own_workspace w p e h = omega arith
-
--- a list of waiting processes without one that is there: its workspace and all others, and one less
-besides : (v p : ℕ) (ws : List Waiter) (r : Reason) → ((w : ℕ) → occurs w (workspaces_of ws) ≤ 1) → HasWaiter ws p r
-    → is_among v (workspaces_of ws) ≡ ((workspace_of p == v) || is_among v (workspaces_of (without p ws)))
-besides v p [] r once k = absurd (omega (arith, k.1))
-besides v p (x ∷ xs) r once (zero, b, e) =
-    let f : x.process ≡ p = ap (λ (w : Waiter). w.process) e in
-    let none : occurs (workspace_of p) (workspaces_of xs) ≡ 0 =
-    omega (arith, once (workspace_of p), same_once (workspace_of x.process) (workspace_of p) (ap workspace_of f)) in
-    filter_step x xs p (λ ys. is_among v (workspaces_of (x ∷ xs))
-    ≡ ((workspace_of p == v) || is_among v (workspaces_of ys)))
-    (λ _. rw (without_none xs p none, f) refl) (λ n. absurd (n f))
-besides v p (x ∷ xs) r once (suc k, b, e) =
-    let rest : is_among v (workspaces_of xs) ≡ ((workspace_of p == v) || is_among v (workspaces_of (without p xs))) =
-    besides v p xs r (λ w. omega (arith, once w)) (k, (omega arith), e) in
-    filter_step x xs p (λ ys. is_among v (workspaces_of (x ∷ xs))
-    ≡ ((workspace_of p == v) || is_among v (workspaces_of ys)))
-    (λ f. absurd
-    (omega (
-      arith,
-      once (workspace_of p),
-      same_once (workspace_of x.process) (workspace_of p) (ap workspace_of f),
-      waiter_occurs xs p r (k, (omega arith), e),
-    )))
-    (λ _. swap (workspace_of x.process == v) (workspace_of p == v) _ _ rest)
-  where
-    swap : (b a c d : Bool) → c ≡ (a || d) → (b || c) ≡ (a || (b || d))
-    swap true true c d h = refl
-    swap true false c d h = refl
-    swap false a c d h = h
-
-pub one_less : (p : ℕ) (ws : List Waiter) (r : Reason) → ((w : ℕ) → occurs w (workspaces_of ws) ≤ 1) → HasWaiter ws p r
-    → length ws ≡ length (without p ws) + 1
-one_less p [] r once k = absurd (omega (arith, k.1))
-one_less p (x ∷ xs) r once (zero, b, e) =
-    let f : x.process ≡ p = ap (λ (w : Waiter). w.process) e in
-    let none : occurs (workspace_of p) (workspaces_of xs) ≡ 0 =
-    omega (arith, once (workspace_of p), same_once (workspace_of x.process) (workspace_of p) (ap workspace_of f)) in
-    filter_step x xs p (λ ys. length (x ∷ xs) ≡ length ys + 1)
-    (λ _. rw (without_none xs p none) (omega arith)) (λ n. absurd (n f))
-one_less p (x ∷ xs) r once (suc k, b, e) =
-    let rest : length xs ≡ length (without p xs) + 1 =
-    one_less p xs r (λ w. omega (arith, once w)) (k, (omega arith), e) in
-    filter_step x xs p (λ ys. length (x ∷ xs) ≡ length ys + 1)
-    (λ f. absurd
-    (omega (
-      arith,
-      once (workspace_of p),
-      same_once (workspace_of x.process) (workspace_of p) (ap workspace_of f),
-      waiter_occurs xs p r (k, (omega arith), e),
-    )))
-    (λ _. omega (arith, rest))
 
 -- each workspace of those that wait stands there once
 pub once_waiting : (m : Control) → AllPairs (λ v w. v ≢ w) (descheduled m) → (w : ℕ)
@@ -210,132 +137,78 @@ a_waiter m p h = by (reason_of m p) refl h
     by (Some r) e k = (r, found_waiter m.waiting p r e)
     by None e k = cc
 
--- a process that waited is forgotten, but its words are saved
-pub unsettles_forgotten : (process : ℕ) (m m' : Control) → AllPairs (λ v w. v ≢ w) (descheduled m)
-    → IsSome (reason_of m process) → m' ≡ without_waiter process m → Unsettles (workspace_of process) m m'
-unsettles_forgotten process m m' d e k = λ others c h.
-    rw k (unsettled (workspace_of process) others c m (without_waiter process m) h
-    (λ v. simp list_any-append
-    (rw (besides v process m.waiting w.0 once w.1)
-    (shuffle_rest (workspace_of process == v) (is_among v m.high) (is_among v m.low)
-    (is_among v (workspaces_of (without process m.waiting))))))
-    (simp (length-append, length-map) (omega (arith, one_less process m.waiting w.0 once w.1))) refl)
-  where
-    once : (v : ℕ) → occurs v (workspaces_of m.waiting) ≤ 1
-    once = once_waiting m d
+-- where a process waits no longer, there was one more
+module _ (process : ℕ) (m m' : Control) (d : AllPairs (λ v w. v ≢ w) (descheduled m))
+    (e : IsSome (reason_of m process)) (k : m' ≡ without_waiter process m) where
+  waits : (r : Reason) × HasWaiter m.waiting process r
+  waits = a_waiter m process e
 
-    w : (r : Reason) × HasWaiter m.waiting process r
-    w = a_waiter m process e
+  one_fewer : HasMore (workspace_of process) (without_waiter process m) m
+  one_fewer =
+      record {
+        times = λ v. omega (arith, without_times m.waiting process waits.0 (once_waiting m d) waits.1 v);
+        count = omega (arith, without_length m.waiting process waits.0 (once_waiting m d) waits.1);
+        links = refl;
+      }
 
-    shuffle_rest : (x a b c : Bool) → ((a || b) || (x || c)) ≡ (x || ((a || b) || c))
-    shuffle_rest true true b c = refl
-    shuffle_rest true false true c = refl
-    shuffle_rest true false false c = refl
-    shuffle_rest false true b c = refl
-    shuffle_rest false false true c = refl
-    shuffle_rest false false false c = refl
+  pub fewer_forgotten : descheduled_count m' + 1 ≡ descheduled_count m
+  fewer_forgotten = rw k (omega (arith, one_fewer.count))
 
--- the first of a list without repeats is not in the rest
-fresh_high : (w : ℕ) (xs : List ℕ) → AllPairs (λ v w. v ≢ w) (w ∷ xs) → is_among w xs ≡ false
-fresh_high w xs d = by (is_among w xs) refl
-  where
-    by : (b : Bool) → is_among w xs ≡ b → b ≡ false
-    by false e = refl
-    by true e = absurd (omega (arith, occurring_once (w ∷ xs) d w, found-occurs w xs e, same_once w w refl))
+  -- its words are saved still
+  pub unsettles_forgotten : Unsettles (workspace_of process) m m'
+  unsettles_forgotten = rw k (unsettled (workspace_of process) m (without_waiter process m) one_fewer)
 
--- nor is one that stands between two parts
-fresh_low : (w : ℕ) (xs ys zs : List ℕ) → AllPairs (λ v w. v ≢ w) ((xs ++ (w ∷ ys)) ++ zs)
-    → is_among w ((xs ++ ys) ++ zs) ≡ false
-fresh_low w xs ys zs d = by (is_among w ((xs ++ ys) ++ zs)) refl
-  where
-    by : (b : Bool) → is_among w ((xs ++ ys) ++ zs) ≡ b → b ≡ false
-    by false e = refl
-    by true e =
-        absurd (omega (
-          arith,
-          occurring_once ((xs ++ (w ∷ ys)) ++ zs) d w,
-          found-occurs w ((xs ++ ys) ++ zs) e,
-          same_once w w refl,
-          occurs-append w (xs ++ (w ∷ ys)) zs,
-          occurs-append w xs (w ∷ ys),
-          occurs-append w (xs ++ ys) zs,
-          occurs-append w xs ys,
-        ))
-
-shuffle_first : (x a b c : Bool) → ((a || (x || b)) || c) ≡ (x || ((a || b) || c))
-shuffle_first true true b c = refl
-shuffle_first true false b c = refl
-shuffle_first false a b c = refl
-
--- the first of the low queue, among all
-among_low : (v w : ℕ) (xs ys zs : List ℕ)
-    → is_among v ((xs ++ (w ∷ ys)) ++ zs) ≡ ((w == v) || is_among v ((xs ++ ys) ++ zs))
-among_low v w xs ys zs = simp list_any-append (shuffle_first (w == v) (is_among v xs) (is_among v ys) (is_among v zs))
+  -- and so are those of the others
+  pub still_saved_forgotten : StillSaved m m'
+  still_saved_forgotten = rw k (λ c h v i.
+      h v (occurs-found v (descheduled m) (omega (
+        arith,
+        found-occurs v (descheduled (without_waiter process m)) i,
+        one_fewer.times v,
+        occurs-descheduled m v,
+        occurs-descheduled (without_waiter process m) v,
+      ))))
 
 -- the first of a queue leaves it, or none is there
-pub leaves_high : (o : Option ℕ) (m : Control) (hs : List ℕ) → m.high ≡ option_to_list o ++ hs → IsPlain m
-    → IfSome o (λ w. Leaves w m (record m { high = hs }))
-leaves_high None m hs e p = tt
-leaves_high (Some w) m hs e p =
-    let d : AllPairs (λ v w. v ≢ w) (w ∷ ((hs ++ m.low) ++ workspaces_of m.waiting)) = rw e at p.distinct in (
-      fresh_high w _ d,
-      (λ others c h. unsettled w others c m (record m { high = hs }) h (λ v. rw e refl) (rw e (omega arith)) refl),
-    )
+pub leaves_high : (o : Option ℕ) (m : Control) (hs : List ℕ) → m.high ≡ option_to_list o ++ hs
+    → IfSome o (λ w. Unsettles w m (record m { high = hs }))
+leaves_high None m hs e = tt
+leaves_high (Some w) m hs e =
+    unsettled w m (record m { high = hs })
+    (record { times = λ v. rw e (omega arith); count = rw e (omega arith); links = refl })
 
-pub leaves_low : (o : Option ℕ) (m : Control) (ls : List ℕ) → m.low ≡ option_to_list o ++ ls → IsPlain m
-    → IfSome o (λ w. Leaves w m (record m { low = ls }))
-leaves_low None m ls e p = tt
-leaves_low (Some w) m ls e p =
-    let d : AllPairs (λ v w. v ≢ w) ((m.high ++ (w ∷ ls)) ++ workspaces_of m.waiting) = rw e at p.distinct in (
-      fresh_low w m.high ls _ d,
-      (λ others c h.
-          unsettled w others c m (record m { low = ls }) h
-          (λ v. rw e (among_low v w m.high ls (workspaces_of m.waiting)))
-          (rw e (simp length-append (omega arith))) refl),
-    )
+pub leaves_low : (o : Option ℕ) (m : Control) (ls : List ℕ) → m.low ≡ option_to_list o ++ ls
+    → IfSome o (λ w. Unsettles w m (record m { low = ls }))
+leaves_low None m ls e = tt
+leaves_low (Some w) m ls e =
+    unsettled w m (record m { low = ls })
+    (record { times = λ v. rw e (omega arith); count = rw e (omega arith); links = refl })
 
--- those that wait without a process are among those that wait
-fewer : (v p : ℕ) (ws : List Waiter) → is_among v (workspaces_of (without p ws)) ≡ true
-    → is_among v (workspaces_of ws) ≡ true
-fewer v p [] h = h
-fewer v p (x ∷ xs) h =
-    filter_step x xs p (λ ys. is_among v (workspaces_of ys) ≡ true → is_among v (workspaces_of (x ∷ xs)) ≡ true)
-    (λ _ k. or_right (workspace_of x.process == v) _ (fewer v p xs k))
-    (λ _ k. kept (workspace_of x.process == v) _ _ (fewer v p xs) k) h
-  where
-    kept : (a b c : Bool) → (b ≡ true → c ≡ true) → (a || b) ≡ true → (a || c) ≡ true
-    kept true b c f k = refl
-    kept false b c f k = f k
-
--- so who is saved stays so where a process waits no longer
-pub still_saved_forgotten : (process : ℕ) (m m' : Control) → m' ≡ without_waiter process m → StillSaved m m'
-still_saved_forgotten process m m' k = λ c h v e.
-    let e' : is_among v ((m.high ++ m.low) ++ workspaces_of (without process m.waiting)) ≡ true = rw k at e in
-    h v (more v (m.high ++ m.low) (workspaces_of (without process m.waiting)) (workspaces_of m.waiting)
-    (fewer v process m.waiting) e')
-  where
-    kept : (a b c : Bool) → (b ≡ true → c ≡ true) → (a || b) ≡ true → (a || c) ≡ true
-    kept true b c f k = refl
-    kept false b c f k = f k
-
-    more : (v : ℕ) (xs ys zs : List ℕ) → (is_among v ys ≡ true → is_among v zs ≡ true) → is_among v (xs ++ ys) ≡ true
-        → is_among v (xs ++ zs) ≡ true
-    more v xs ys zs f e = rw list_any-append (kept (is_among v xs) _ _ f (rw list_any-append at e))
-
--- the words of a workspace that no process has are freed
-pub agrees_freed : (w : ℕ) (c d : Claims) (m : Control) → AgreesWith (w ∷ []) c m → is_among w (descheduled m) ≡ false
-    → Frees w c d → length d.saved + 1 ≡ length c.saved → (d.inputs ≡ c.inputs) × (d.outputs ≡ c.outputs) → Agrees d m
-agrees_freed w c d m h f frees count same =
+-- the words of a workspace that was saved besides are freed
+pub agrees_freed : (w : ℕ) (c d : Claims) (m : Control) → AgreesWith (w ∷ []) c m → Frees w c d
+    → length d.saved + 1 ≡ length c.saved → (d.inputs ≡ c.inputs) × (d.outputs ≡ c.outputs) → Agrees d m
+agrees_freed w c d m h frees count same =
     record {
       on = record {
         saved = λ v. frees v ∙ rw (h.on.saved v) (only v (v == w) refl);
         count = omega (arith, count, h.on.count);
+        distinct = λ i j x a b. h.on.distinct (suc i) (suc j) x (omega arith) (omega arith);
         inputs = same.0 ∙ h.on.inputs;
         outputs = same.1 ∙ h.on.outputs;
       };
     }
   where
+    fresh : (b : Bool) → is_among w (descheduled m) ≡ b → b ≡ false
+    fresh false e = refl
+    fresh true e =
+        absurd (omega (
+          arith,
+          occurring_once (w ∷ descheduled m) h.on.distinct w,
+          found-occurs w (descheduled m) e,
+          same_once w w refl,
+        ))
+
     only : (v : ℕ) (b : Bool) → (v == w) ≡ b
         → (not b && ((w == v) || is_among v (descheduled m))) ≡ is_among v (descheduled m)
-    only v true k = rw (eqb-true v w k, f) refl
+    only v true k = rw (eqb-true v w k, fresh (is_among w (descheduled m)) refl) refl
     only v false k = rw (ne_eqb w v (λ q. eqb-false v w k (sym q))) refl

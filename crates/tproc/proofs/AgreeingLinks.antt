@@ -25,6 +25,7 @@ agrees_linked l e others c d m h i o s =
           record {
             saved = λ v. ap (λ (xs : List ℕ). list_any (λ w. w == v) xs) s ∙ h.on.saved v;
             count = rw s h.on.count;
+            distinct = h.on.distinct;
             inputs = i ∙ ap (λ xs. set xs l (option_map buffer_of e.input)) h.on.inputs
                 ∙ sym (map-set (λ (x : LinkEnd). option_map buffer_of x.input) m.links l e);
             outputs = o ∙ ap (λ xs. set xs l (option_map buffer_of e.output)) h.on.outputs

@@ -1,11 +1,11 @@
 -- Lists of lemmas for the functions that save words of a process: one for each way in which they come to do so.
 use Rattle.tproc.proofs.Agreeing.{agrees_but, own_workspace, saved_itself}
-use Rattle.tproc.proofs.Places.{place_admitted, place_own, place_running, room_admitted, room_own, room_running}
+use Rattle.tproc.proofs.Places.{place_admitted, place_running, room_admitted, room_own, room_running}
 use Rattle.tproc.proofs.Saved.{are_saved, itself_saved, saved_beside}
 
--- the current process, by its descriptor, is descheduled: there is a place for it and room for its words, and claims
--- agree with them saved besides
-pub ruleset own_process = (place_own, room_own, agrees_but)
+-- the current process, by its descriptor, is descheduled: there is room for its words, and claims agree with them
+-- saved besides
+pub ruleset own_process = (room_own, agrees_but)
 
 -- the process of the priority that runs is descheduled, and queued
 pub ruleset running_process = (place_running, room_running, agrees_but, saved_itself, own_workspace, are_saved)

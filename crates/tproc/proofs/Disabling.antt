@@ -13,10 +13,10 @@ use Rattle.tcpu.specs.declared.registers.Registers.{Registers}
 use Rattle.tcpu.specs.Outcomes.{all_to, flag}
 use Rattle.tproc.specs.declared.ran.Ran.{Ran}
 use Rattle.tproc.specs.declared.ran.Ran.TheVariants.{Instruction}
-use Rattle.tproc.specs.declared.waiter.Reason.TheVariants.{Sends, Receives, Chooses, LinkInput, LinkOutput}
+use Rattle.tproc.specs.declared.waiter.Reason.TheVariants.{Sends, Chooses}
 use Rattle.tproc.specs.Machine.{Control}
 use Rattle.tproc.specs.declared.process_status.ProcessStatus.{ProcessStatus}
-use Rattle.tproc.specs.declared.process_status.ProcessStatus.TheVariants.{Waits, Queued, Runs, Interrupted, Unknown}
+use Rattle.tproc.specs.declared.process_status.ProcessStatus.TheVariants.{Waits, Runs}
 use Rattle.tproc.specs.ProcessStatus.{status}
 use Rattle.tproc.specs.Queues.{iptr_word, state_word, not_process, waiting_for}
 use Rattle.tproc.specs.declared.channels.Side.TheVariants.{Input}
@@ -82,13 +82,7 @@ module _ (old : Store) where
           size = length-with_word old channel not_process w l;
           stands = λ k. other_word old channel not_process w l k apart;
         })
-    found-ends (Waits (Receives other buffer length)) = tt
-    found-ends (Waits Chooses) = tt
-    found-ends (Waits (LinkInput l)) = tt
-    found-ends (Waits (LinkOutput l)) = tt
-    found-ends Queued = tt
-    found-ends Interrupted = tt
-    found-ends Unknown = tt
+    found-ends _ = tt
 
     internal-ends : Ends
         (LooksAt w old m

@@ -2,9 +2,7 @@
 use Rattle.std.proofs.Common.{◌≡◌, ℕ, zero, suc, ◌+◌, ◌-◌, refl, ◌∙◌, [], ◌∷◌, length, Ok}
 use Rattle.std.proofs.Common.{Option, Some, None, arith}
 use Rattle.std.proofs.lemmas.Bool.{le-leb, and_from}
-use Rattle.std.proofs.lemmas.List.{length-replicate}
 use Rattle.tword.specs.declared.kind.Kind.{Kind}
-use Rattle.tword.specs.Accesses.{IsMemorySize}
 use Rattle.tword.specs.Words.{most_neg}
 use Rattle.tword.specs.Stores.{Store}
 use Rattle.tword.specs.Claims.{Claims}
@@ -17,7 +15,7 @@ use Rattle.tproc.specs.Links.{finished, finish_output, finish_input, notice, wak
 use Rattle.tproc.specs.LinkChannels.{link_end, with_link}
 use Rattle.tproc.specs.Machine.{Control, Machine, claims_of, workspace_of, priority_of}
 use Rattle.tproc.specs.Messages.{input_of, HasByte, with_byte}
-use Rattle.tproc.specs.Opening.{added, empty_machine}
+use Rattle.tproc.specs.Opening.{added}
 use Rattle.tproc.specs.Placement.{IsPlaced}
 use Rattle.tproc.specs.Queues.{appended, release, without_waiter, add_process, admit}
 use Rattle.tproc.specs.SavedWords.{OfEachMove}
@@ -178,13 +176,6 @@ kinds_stay n p =
               (and_from _ _ (le-leb most_neg (o.buffer + i) (omega (arith, lies.above)))
               (le-leb (o.buffer + i - most_neg + 1) (length n.store) (omega (arith, lies.above, lies.within, h))));
         }
-
--- a processor without a process has the size that it was made for
-pub empty_sized : (size timeslice : ℕ) (kind : Kind) → IsMemorySize kind size
-    → IsSized (empty_machine size timeslice kind)
-empty_sized size timeslice kind h =
-    let e : length (empty_machine size timeslice kind).store ≡ size = length-replicate size (Some 0) in
-    record { size = rw e h }
 
 -- each move leaves a size that one of its kind may have
 pub sizes_stay : (n : Machine) → IsPlaced n → IsSized n → OfEachMove (λ n n'. IsSized n') n

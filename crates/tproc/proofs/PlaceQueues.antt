@@ -2,7 +2,7 @@
 use Rattle.std.proofs.Common.{◌≡◌, ℕ, zero, suc, ◌+◌, ◌<◌, ◌≤◌, refl, ap, cond, ◌∙◌, List, [], ◌∷◌, ◌++◌, length}
 use Rattle.std.proofs.Common.{length-append, get_or, set, length-set, Bool, true, false, not, Option, Some, None, ◌⊎◌}
 use Rattle.std.proofs.Common.{inl, inr, arith}
-use Rattle.std.specs.Prelude.{◌==◌, All, IfSome, filter}
+use Rattle.std.specs.Prelude.{◌==◌, All, filter}
 use Rattle.std.specs.List.{list_any}
 use Rattle.std.proofs.lemmas.Bool.{eqb-true, eqb-false, not-true, or_cases}
 use Rattle.std.proofs.lemmas.List.Elements.{All-filter, All-push, All-head, All-tail, filter_passes}
@@ -20,39 +20,21 @@ use Rattle.tproc.specs.ProcessStatus.{queue}
 use Rattle.tproc.specs.Queues.{appended, enqueue, release, without_waiter, link_from, last_of, resumed}
 use Rattle.tproc.specs.LinkChannels.{link_end, with_link}
 use Rattle.tproc.specs.Placement.{IsWord, AreWords, IsOfferOf}
-use Rattle.tproc.proofs.PlaceMoves.{IsSeat, HasSeat, Offers, ones, population, IsBelow, IsListed, IsRunning, IsSettled}
+use Rattle.tproc.proofs.PlaceMoves.{IsSeat, HasSeat, Offers, ones, population, IsBelow, IsSettled}
 use Rattle.tproc.proofs.PlaceMoves.{links_stay}
 
--- there is room for one more
-abbrev pub HasRoom : Control → Type 0
-HasRoom m = population m < most_processes
-
--- other queues
-with_queues : (links : List LinkEnd) (high low high' low' : List ℕ) (waiting : List Waiter)
-    → IsListed links high low waiting → All IsSeat high' → All IsSeat low' → IsListed links high' low' waiting
-with_queues links high low high' low' waiting t h l =
-    record { links = t.links; offered = t.offered; high = h; low = l; waiting = t.waiting }
+-- there is room for one more process
+abbrev pub HasProcessRoom : Control → Type 0
+HasProcessRoom m = population m < most_processes
 
 -- a process is queued
-settled_appended : (w p : ℕ) (m : Control) → IsSettled m → HasRoom m → IsSeat w → IsSettled (appended w p m)
+settled_appended : (w p : ℕ) (m : Control) → IsSettled m → HasProcessRoom m → IsSeat w → IsSettled (appended w p m)
 settled_appended w zero m s room seat =
-    let t : IsListed m.links m.high m.low m.waiting = s.listed in
-    record {
-      listed =
-          with_queues m.links m.high m.low (m.high ++ w ∷ []) m.low m.waiting t (All-push IsSeat m.high w t.high seat)
-          t.low;
-      running = s.running;
-      few = rw length-append (omega (arith, room));
-    }
+    let high : All IsSeat (m.high ++ w ∷ []) = All-push IsSeat m.high w s.listed.high seat in
+    search (arith, length-append {A = ℕ})
 settled_appended w (suc p) m s room seat =
-    let t : IsListed m.links m.high m.low m.waiting = s.listed in
-    record {
-      listed =
-          with_queues m.links m.high m.low m.high (m.low ++ w ∷ []) m.waiting t t.high
-          (All-push IsSeat m.low w t.low seat);
-      running = s.running;
-      few = rw length-append (omega (arith, room));
-    }
+    let low : All IsSeat (m.low ++ w ∷ []) = All-push IsSeat m.low w s.listed.low seat in
+    search (arith, length-append {A = ℕ})
 
 appended-current : (w p : ℕ) (m : Control) → (appended w p m).current ≡ m.current
 appended-current w zero m = refl
@@ -63,7 +45,7 @@ abbrev pub Stays : Control → Control → Type 0
 Stays m m' = IsSettled m' × (m'.current ≡ m.current)
 
 -- a process is queued where there is room
-pub enqueue-settles : (process : ℕ) (m : Control) → IsSettled m → HasRoom m → IsSeat (workspace_of process)
+pub enqueue-settles : (process : ℕ) (m : Control) → IsSettled m → HasProcessRoom m → IsSeat (workspace_of process)
     → Gives (Stays m) (enqueue process m)
 unfolding enqueue
 enqueue-settles process m s room seat =
@@ -128,18 +110,12 @@ others process ws = filter (λ w. not (w.process == process)) ws
 -- a process that waits is taken out
 settled_without : (process : ℕ) (m : Control) → IsSettled m → IsSettled (without_waiter process m)
 settled_without process m s =
-    record { listed = listed; running = s.running; few = omega (arith, s.few, filter-length process m.waiting) }
-  where
-    listed : IsListed m.links m.high m.low (others process m.waiting)
-    listed =
-        let t : IsListed m.links m.high m.low m.waiting = s.listed in
-        record {
-          links = t.links;
-          offered = All-filter (λ w. not (w.process == process)) (Offers m.links) m.waiting t.offered;
-          high = t.high;
-          low = t.low;
-          waiting = All-filter (λ w. not (w.process == process)) HasSeat m.waiting t.waiting;
-        }
+    let offered : All (Offers m.links) (others process m.waiting) =
+    All-filter (λ w. not (w.process == process)) (Offers m.links) m.waiting s.listed.offered in
+    let waiting : All HasSeat (others process m.waiting) =
+    All-filter (λ w. not (w.process == process)) HasSeat m.waiting s.listed.waiting in
+    let fewer : length (others process m.waiting) ≤ length m.waiting = filter-length process m.waiting in
+    search arith
 
 -- and with it its offer at a link
 settled_finished : (process l : ℕ) (e : LinkEnd) (m : Control) → IsSettled m
@@ -147,26 +123,20 @@ settled_finished : (process l : ℕ) (e : LinkEnd) (m : Control) → IsSettled m
     → ((v : ℕ) → (v ≡ process → ⊥) → (e.input ≡ (link_end m l).input) ⊎ (IsOfferOf v (link_end m l).input → ⊥))
     → IsSettled (without_waiter process (with_link l e m))
 settled_finished process l e m s h i =
-    record { listed = listed; running = s.running; few = omega (arith, s.few, filter-length process m.waiting) }
+    let size : length (set m.links l e) ≡ 4 = length-set m.links l e ∙ s.listed.links in
+    let offered : All (Offers (set m.links l e)) (others process m.waiting) =
+    λ k d b. each (get_or (others process m.waiting) k d)
+    (filter_passes (λ w. not (w.process == process)) m.waiting k d b)
+    (All-filter (λ w. not (w.process == process)) (Offers m.links) m.waiting s.listed.offered k d b) in
+    let waiting : All HasSeat (others process m.waiting) =
+    All-filter (λ w. not (w.process == process)) HasSeat m.waiting s.listed.waiting in
+    let fewer : length (others process m.waiting) ≤ length m.waiting = filter-length process m.waiting in
+    search arith
   where
     each : (w : Waiter) → not (w.process == process) ≡ true → Offers m.links w → Offers (set m.links l e) w
     each w other k =
         let v : w.process ≡ process → ⊥ = eqb-false w.process process (not-true (w.process == process) other) in
         links_stay m l e w.process (h w.process v) (i w.process v) w.reason k
-
-    listed : IsListed (set m.links l e) m.high m.low (others process m.waiting)
-    listed =
-        let t : IsListed m.links m.high m.low m.waiting = s.listed in
-        record {
-          links = length-set m.links l e ∙ t.links;
-          offered =
-              λ k d b. each (get_or (others process m.waiting) k d)
-              (filter_passes (λ w. not (w.process == process)) m.waiting k d b)
-              (All-filter (λ w. not (w.process == process)) (Offers m.links) m.waiting t.offered k d b);
-          high = t.high;
-          low = t.low;
-          waiting = All-filter (λ w. not (w.process == process)) HasSeat m.waiting t.waiting;
-        }
 
 -- a process that waits is queued
 pub release-settles : (process : ℕ) (m : Control) → IsSettled m → IsWaiting m process
@@ -180,10 +150,6 @@ release-settles process m s h =
 abbrev pub fresh : ℕ → ℕ → Registers → Registers
 fresh w iptr r = record r { a = 0; b = 0; c = 0; iptr = iptr; wptr = w }
 
-fresh-words : (w v : ℕ) (r : Registers) → IsSeat w → IsWord v → AreWords (fresh w v r)
-fresh-words w v r seat h =
-    record { a = omega arith; b = omega arith; c = omega arith; iptr = h; wptr = seat.0; aligned = seat.1 }
-
 high_runs : (k : Option Suspended) → IsBelow (Some 0) k
 high_runs None = tt
 high_runs (Some s) = λ e. cc
@@ -194,49 +160,27 @@ first_seat q w ws e h = All-head IsSeat w ws (rw e at h)
 other_seats : (q : List ℕ) (w : ℕ) (ws : List ℕ) → q ≡ w ∷ ws → All IsSeat q → All IsSeat ws
 other_seats q w ws e h = All-tail IsSeat w ws (rw e at h)
 
--- a process runs from its start, and another one is interrupted, or none
-started : (m : Control) (w v p : ℕ) (k : Option Suspended) → p < 2 → IsBelow (Some p) k
-    → IfSome k (λ s. s.count ≤ m.timeslice) → IfSome k (λ s. AreWords s.registers) → IsSeat w → IsWord v
-    → IsRunning (fresh w v m.registers) (Some p) 0 m.timeslice k
-started m w v p k h below counts words seat i =
-    record {
-      priority = h;
-      below = below;
-      count = omega arith;
-      kept_count = counts;
-      words =
-          fresh-words w v m.registers seat i;
-      kept_words = words;
-    }
-
 -- the first of the high queue runs
 pub settled_high : (m : Control) (w v : ℕ) (ws : List ℕ) → IsSettled m → m.current ≡ None → m.high ≡ w ∷ ws → IsWord v
     → IsSettled (record m { high = ws; registers = fresh w v m.registers; current = Some 0; count = 0 })
 settled_high m w v ws s e q h =
-    let t : IsListed m.links m.high m.low m.waiting = s.listed in
     let l : length m.high ≡ length ws + 1 = rw q (omega arith) in
     let n : ones m.current ≡ 0 = ap ones e in
-    record {
-      listed = with_queues m.links m.high m.low ws m.low m.waiting t (other_seats m.high w ws q t.high) t.low;
-      running = started m w v 0 m.interrupted (omega arith) (high_runs m.interrupted) s.running.kept_count
-          s.running.kept_words (first_seat m.high w ws q t.high) h;
-      few = omega (arith, s.few);
-    }
+    let seat : IsSeat w = first_seat m.high w ws q s.listed.high in
+    let seats : All IsSeat ws = other_seats m.high w ws q s.listed.high in
+    search (arith, high_runs)
 
 -- the first of the low queue runs
 pub settled_low : (m : Control) (w v : ℕ) (ws : List ℕ) → IsSettled m → m.current ≡ None → m.interrupted ≡ None
     → m.low ≡ w ∷ ws → IsWord v
     → IsSettled (record m { low = ws; registers = fresh w v m.registers; current = Some 1; count = 0 })
 settled_low m w v ws s e f q h =
-    let t : IsListed m.links m.high m.low m.waiting = s.listed in
     let l : length m.low ≡ length ws + 1 = rw q (omega arith) in
     let n : ones m.current ≡ 0 = ap ones e in
-    record {
-      listed = with_queues m.links m.high m.low m.high ws m.waiting t t.high (other_seats m.low w ws q t.low);
-      running = started m w v 1 m.interrupted (omega arith) (rw f tt) s.running.kept_count s.running.kept_words
-          (first_seat m.low w ws q t.low) h;
-      few = omega (arith, s.few);
-    }
+    let below : IsBelow (Some 1) m.interrupted = rw f tt in
+    let seat : IsSeat w = first_seat m.low w ws q s.listed.low in
+    let seats : All IsSeat ws = other_seats m.low w ws q s.listed.low in
+    search arith
 
 -- the first of the high queue interrupts a low process
 pub settled_preempted : (m : Control) (w v : ℕ) (ws : List ℕ) → IsSettled m → m.current ≡ Some 1 → m.high ≡ w ∷ ws
@@ -249,16 +193,11 @@ pub settled_preempted : (m : Control) (w v : ℕ) (ws : List ℕ) → IsSettled 
       count = 0;
     })
 settled_preempted m w v ws s e q h =
-    let t : IsListed m.links m.high m.low m.waiting = s.listed in
-    let k : Suspended = record { registers = m.registers; count = m.count } in
     let l : length m.high ≡ length ws + 1 = rw q (omega arith) in
     let n : ones m.current ≡ 1 = ap ones e in
-    record {
-      listed = with_queues m.links m.high m.low ws m.low m.waiting t (other_seats m.high w ws q t.high) t.low;
-      running = started m w v 0 (Some k) (omega arith) (high_runs (Some k)) s.running.count s.running.words
-          (first_seat m.high w ws q t.high) h;
-      few = omega (arith, s.few);
-    }
+    let seat : IsSeat w = first_seat m.high w ws q s.listed.high in
+    let seats : All IsSeat ws = other_seats m.high w ws q s.listed.high in
+    search (arith, high_runs)
 
 -- the interrupted process runs again
 pub settled_resumed : (m : Control) (k : Suspended) → IsSettled m → m.current ≡ None → m.interrupted ≡ Some k
@@ -266,18 +205,9 @@ pub settled_resumed : (m : Control) (k : Suspended) → IsSettled m → m.curren
 settled_resumed m k s e q =
     let n : ones m.current ≡ 0 = ap ones e in
     let o : ones m.interrupted ≡ 1 = ap ones q in
-    record {
-      listed = s.listed;
-      running = record {
-        priority = omega arith;
-        below = tt;
-        count = rw q at s.running.kept_count;
-        kept_count = tt;
-        words = rw q at s.running.kept_words;
-        kept_words = tt;
-      };
-      few = omega (arith, s.few);
-    }
+    let count : k.count ≤ m.timeslice = rw q at s.running.kept_count in
+    let words : AreWords k.registers = rw q at s.running.kept_words in
+    search arith
 
 -- the message of an offer is over: its process is queued
 pub finished-settles : (o : Offer) (l : ℕ) (e : LinkEnd) (m : Control) → IsSettled m → IsWaiting m o.wdesc

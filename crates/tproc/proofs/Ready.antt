@@ -4,13 +4,11 @@ use Rattle.std.proofs.Common.{[], ◌∷◌, ◌||◌, ◌==◌, Bool, true, fal
 use Rattle.std.proofs.Common.{get_or, arith}
 use Rattle.std.specs.Prelude.{IfSome, IfOk, IsSome, All, find, option_map, nat_le, unwrap_or}
 use Rattle.std.specs.List.{list_any}
-use Rattle.std.proofs.lemmas.Bool.{eqb-true, eq-eqb, or_right, leb-true, leb-false}
-use Rattle.tword.specs.declared.kind.Kind.{Kind}
+use Rattle.std.proofs.lemmas.Bool.{eq-eqb, or_right, leb-true, leb-false}
 use Rattle.tword.specs.declared.breaks.Break.{Break}
 use Rattle.tword.specs.Words.{most_neg}
 use Rattle.tword.specs.Stores.{Store, place, word_at, byte_at, with_word, with_cells, as_cells, cells}
 use Rattle.tword.specs.Claims.{Claims, overlap, saved_words, saving}
-use Rattle.tword.specs.Accesses.{no_claims}
 use Rattle.tword.specs.Touches.{Writes, is_inside, span_break, word_break, byte_span, deschedule_break, copy_break}
 use Rattle.tword.specs.Actions.{Action, answer, breaks, requiring, unmet, touching_word, touching_byte, touching}
 use Rattle.tword.specs.Actions.{writing_word, writing_byte, copying, descheduling, reading_saved, setting_saved, unless}
@@ -19,62 +17,33 @@ use Rattle.tword.proofs.Answering.{answering, run_from-answering}
 use Rattle.tword.proofs.SameClaims.{SameClaims, run_from-same}
 use Rattle.tcode.specs.declared.instruction.Instruction.{Instruction}
 use Rattle.tcode.specs.Decoding.{decode}
-use Rattle.tcpu.specs.declared.registers.Registers.{Registers}
 use Rattle.tproc.specs.declared.offer.Offer.{Offer}
 use Rattle.tproc.specs.declared.ran.Ran.{Ran}
 use Rattle.tproc.specs.declared.ran.Ran.TheVariants as ran
 use Rattle.tproc.specs.declared.waiter.LinkEnd.{LinkEnd}
 use Rattle.tproc.specs.declared.waiter.Reason.{Reason}
 use Rattle.tproc.specs.declared.waiter.Reason.TheVariants.{LinkInput, LinkOutput}
-use Rattle.tproc.specs.declared.waiter.Suspended.{Suspended}
 use Rattle.tproc.specs.declared.waiter.Waiter.{Waiter}
 use Rattle.tproc.specs.Machine.{Control, Machine, workspace_of, descheduled, claims_of}
 use Rattle.tproc.specs.ProcessStatus.{is_among, reason_of}
 use Rattle.tproc.specs.Queues.{iptr_word, admit, enqueue, add_process}
 use Rattle.tproc.specs.LinkChannels.{link_end, quiet_end}
-use Rattle.tproc.specs.Placement.{IsPlaced, AreWords, WaitsFor, IsBuffer}
+use Rattle.tproc.specs.Placement.{IsPlaced, WaitsFor, IsBuffer}
 use Rattle.tproc.specs.Steps.{step, control_step, step_left_by, step_answered, acted}
 use Rattle.tproc.specs.Resting.{IfRests}
 use Rattle.tproc.specs.Links.{act_or_unchanged, or_unchanged}
 use Rattle.tproc.specs.Messages.{output_of, input_of}
-use Rattle.tproc.specs.Opening.{Adds, added, only_machine, no_processes}
-use Rattle.tproc.specs.Agreement.{Agrees, IsPlain}
+use Rattle.tproc.specs.Opening.{Adds, added, only_machine}
+use Rattle.tproc.specs.Agreement.{Agrees}
 use Rattle.tproc.specs.declared.engine.Engine.{Engine}
 use Rattle.tproc.specs.Doing.{CameOf, Does, Stepped, as_step, adding, machine_of}
 use Rattle.tproc.proofs.ClaimState.{HasWaiter}
 use Rattle.tproc.proofs.Pending.{at_some}
+use Rattle.tproc.proofs.Occurs.{found}
 use Rattle.tproc.proofs.Opening.{added_keeps_placed, loaded_keeps_placed}
 use Rattle.tproc.proofs.Placed.{step_keeps_placed}
 use Rattle.tproc.proofs.Resting.{rest_changes_nothing}
 use Rattle.tproc.proofs.Storing.{buffer_inside}
-
-aligned_words : (r : Registers) → AreWords r → r.wptr % 4 ≡ 0
-aligned_words r h = eqb-true _ _ h.aligned
-
-kept_aligned : (o : Option Suspended) → IfSome o (λ s. AreWords s.registers) → IfSome o (λ s. s.registers.wptr % 4 ≡ 0)
-kept_aligned None h = tt
-kept_aligned (Some s) h = aligned_words s.registers h
-
--- the code's needs are met where the processes are placed
-pub plain_from : (n : Machine) → IsPlaced n → IsPlain n.control
-plain_from n p =
-    record {
-      words = aligned_words n.control.registers p.words;
-      kept = kept_aligned n.control.interrupted p.kept_words;
-      few = p.few;
-      links = p.claimed.links;
-      distinct = p.claimed.distinct;
-    }
-
--- a test that an element of a list passes
-found : (f : ℕ → Bool) (x : ℕ) (ys : List ℕ) → f x ≡ true → is_among x ys ≡ true → list_any f ys ≡ true
-found f x [] t h = cc
-found f x (y ∷ ys) t h = by (y == x) refl h (found f x ys t)
-  where
-    by : (b : Bool) → (y == x) ≡ b → (b || is_among x ys) ≡ true → (is_among x ys ≡ true → list_any f ys ≡ true)
-        → (f y || list_any f ys) ≡ true
-    by true e k rest = rw (eqb-true _ _ e, t) refl
-    by false e k rest = or_right (f y) _ (rest k)
 
 -- what some element passes, some element of a list with the same elements passes
 any_within : (f : ℕ → Bool) (xs ys : List ℕ) → ((w : ℕ) → is_among w xs ≡ true → is_among w ys ≡ true)
@@ -225,16 +194,6 @@ input_within n l p h = by (nat_le 4 l) refl
         past_the_end n.control.links l (omega (arith, p.claimed.links, leb-true 4 l e)) in
         absurd (bad (link_end n.control l).input (ap (λ (e : LinkEnd). e.input) f) h)
 
--- the byte of a pending message lies in the memory
-pub output_byte : (n : Machine) (l k : ℕ) (o : Offer) → IsPlaced n → output_of n l ≡ Some o → k < o.length
-    → (most_neg ≤ o.buffer + k) × (o.buffer + k - most_neg + 1 ≤ length n.store)
-output_byte n l k o p e h =
-    let w : WaitsFor n.control o.wdesc (LinkOutput l) × IsBuffer (length n.store) o =
-    at_some (link_end n.control l).output _ o e (p.claimed.outputs l) in
-    let b : (most_neg ≤ o.buffer) × (place o.buffer + o.length ≤ length n.store) =
-    buffer_inside (length n.store) o w.1 in
-    (omega (arith, b.0, h), omega (arith, b.0, b.1, h))
-
 pub input_byte : (n : Machine) (l k : ℕ) (o : Offer) → IsPlaced n → input_of n l ≡ Some o → k < o.length
     → (most_neg ≤ o.buffer + k) × (o.buffer + k - most_neg + 1 ≤ length n.store)
 input_byte n l k o p e h =
@@ -243,10 +202,6 @@ input_byte n l k o p e h =
     let b : (most_neg ≤ o.buffer) × (place o.buffer + o.length ≤ length n.store) =
     buffer_inside (length n.store) o w.1 in
     (omega (arith, b.0, h), omega (arith, b.0, b.1, h))
-
--- no claims are those of no process
-pub agrees_empty : (timeslice : ℕ) (kind : Kind) → Agrees no_claims (no_processes timeslice kind)
-agrees_empty timeslice kind = record { on = record { saved = λ w. refl; count = refl; inputs = refl; outputs = refl } }
 
 -- parts of an action may be joined in any way
 module _ {A B C : Type 0} (f : A → Action B) (g : B → Action C) where

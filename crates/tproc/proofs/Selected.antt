@@ -48,19 +48,7 @@ scheduled kind i r o e h = by i.function e
     by : (f : Function) → operation_of kind f i.operand ≡ Some o → effect_at kind f i.operand r after_it
         ≡ answer (r, Schedule o)
     by function.Opr e = rw (e, h _) refl
-    by function.J e = cc
-    by function.Ldlp e = cc
-    by function.Ldnl e = cc
-    by function.Ldc e = cc
-    by function.Ldnlp e = cc
-    by function.Ldl e = cc
-    by function.Adc e = cc
-    by function.Call e = cc
-    by function.Cj e = cc
-    by function.Ajw e = cc
-    by function.Eqc e = cc
-    by function.Stl e = cc
-    by function.Stnl e = cc
+    by _ e = cc
 
 -- the step of a processor whose next operation is known
 module _ (n n' : Machine) (x : Ran) (o : Operation) (left : (r : Registers) → operation_effect o r ≡ None) where

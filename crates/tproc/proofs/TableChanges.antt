@@ -43,15 +43,6 @@ even_in d (x ∷ xs) w h = by (even_in d xs w) x.reason refl (x.process % 2 == d
 
 -- one goes
 module _ (p : ℕ) where
-  -- the first of a table, which goes or stays
-  first_goes : (x : Entry) (xs : List Entry) (P : List Entry → Type 0) → (x.process ≡ p → P (gone p xs))
-      → ((x.process ≡ p → ⊥) → P (x ∷ gone p xs)) → P (gone p (x ∷ xs))
-  first_goes x xs P h k = by (x.process == p) refl
-    where
-      by : (b : Bool) → (x.process == p) ≡ b → P (gone p (x ∷ xs))
-      by true e = rw e (h (eqb-true _ _ e))
-      by false e = rw e (k (eqb-false _ _ e))
-
   -- those that wait, without it
   pub waiting_gone : (t : List Entry) → waiting_in (gone p t) ≡ without p (waiting_in t)
   waiting_gone [] = refl

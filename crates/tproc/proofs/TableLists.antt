@@ -232,10 +232,6 @@ pub front_of : (q : List ℕ) (w : ℕ) → Some w ≡ slice_get q 0 → q ≡ w
 front_of [] w e = cc
 front_of (x ∷ xs) w e = let f : w ≡ x = cc in rw f refl
 
--- the front of a queue is among all
-pub front_is_high : (l : Lists) (w : ℕ) (rest : List ℕ) → l.high ≡ w ∷ rest → is_among w (workspaces_in l) ≡ true
-front_is_high l w rest e = rw (e, eq-eqb w w refl) refl
-
 pub front_is_low : (l : Lists) (w : ℕ) (rest : List ℕ) → l.low ≡ w ∷ rest → is_among w (workspaces_in l) ≡ true
 front_is_low l w rest e =
     occurs-found w (workspaces_in l)

@@ -1,12 +1,12 @@
 -- What the checks of a touch tell of the calls of the memory that follow.
-use Rattle.std.proofs.Common.{◌≡◌, ◌∙◌, ℕ, ◌+◌, ◌-◌, ◌≤◌, ◌<◌, ◌%◌, ◌^◌, Bool, true, false, not, ◌||◌, cond, Option}
-use Rattle.std.proofs.Common.{Some, None, Result, Ok, Err, refl, sym, [], arith}
+use Rattle.std.proofs.Common.{◌≡◌, ℕ, ◌+◌, ◌-◌, ◌≤◌, ◌<◌, ◌%◌, ◌^◌, Bool, true, false, not, ◌||◌, cond, Option}
+use Rattle.std.proofs.Common.{Some, None, Result, Ok, Err, refl, sym, ◌∙◌, [], arith}
 use Rattle.std.specs.Prelude.{◌==◌}
-use Rattle.std.proofs.lemmas.Bool.{and_parts, leb-true, le-leb, eqb-true, or_right}
+use Rattle.std.proofs.lemmas.Bool.{leb-true, le-leb, eqb-true, or_right}
 use Rattle.tword.specs.declared.breaks.Break.{Break}
 use Rattle.tword.specs.declared.breaks.Break.TheVariants.{BadAddress, Reserved, Unaligned, InTransit, SavedWord}
 use Rattle.tword.specs.declared.span.Span.{Span}
-use Rattle.tword.specs.Accesses.{IsClaimableWorkspace, Frees}
+use Rattle.tword.specs.Accesses.{IsClaimableWorkspace}
 use Rattle.tword.specs.Claims.{Claims, is_saved, overlap, saved_words, has_saved, saving}
 use Rattle.tword.specs.Touches.{Mode, Reads, Writes, is_inside, is_open, is_in_transit, is_aligned, span_break}
 use Rattle.tword.specs.Touches.{word_break, word_span, deschedule_break, copy_break, claim_break, first_break}
@@ -16,6 +16,8 @@ use Rattle.tword.proofs.Passing.{Passes, span_break-none, word_break-aligned, wo
 use Rattle.tword.proofs.Passing.{deschedule-words}
 use Rattle.tword.proofs.Descheduling.{inside_within, inside_within, deschedule-passes, saved_word-clear}
 use Rattle.tword.proofs.Blind.{Clear}
+use Rattle.tproc.proofs.ClaimState.{overlap_self}
+use Rattle.tproc.proofs.Occurs.{found}
 
 -- a touch beside one more workspace whose words are saved, which is the last that is looked at
 choices : (i o t x s : Bool)
@@ -114,6 +116,19 @@ unclaimed n w c small h =
     let p : Passes n c Writes (saved_words w) = deschedule-passes n c w (omega arith) h in
     rw (p.still, p.unsaved) refl
 
+-- so its words were not saved
+pub unsaved : (n w : ℕ) (c : Claims) → n ≤ 16777216 → deschedule_break n c w ≡ None → has_saved c w ≡ false
+unsaved n w c small h = by (has_saved c w) refl
+  where
+    by : (b : Bool) → has_saved c w ≡ b → b ≡ false
+    by false e = refl
+    by true e =
+        sym (found (λ v. overlap (saved_words w) (saved_words v)) w c.saved (overlap_self w) e)
+        ∙ (deschedule-passes n c w (omega arith) h).unsaved
+
+-- what is needed of a workspace to save its words, and what is then known of it
+pub ruleset descheduled_workspace = (claimable, unclaimed, unsaved)
+
 pub saved_inside : (n w : ℕ) (c : Claims) → n ≤ 16777216 → deschedule_break n c w ≡ None
     → is_inside n (saved_words w) ≡ true
 saved_inside n w c small h = (deschedule-passes n c w (omega arith) h).inside
@@ -134,11 +149,6 @@ all_inside_saving n w c h i v e = by (w == v) refl e
     by : (b : Bool) → (w == v) ≡ b → (b || has_saved c v) ≡ true → is_inside n (saved_words v) ≡ true
     by true k e = rw (← eqb-true w v k) i
     by false k e = h v e
-
-pub all_inside_freed : (n w : ℕ) (c d : Claims) → ((v : ℕ) → has_saved c v ≡ true → is_inside n (saved_words v) ≡ true)
-    → Frees w c d
-    → (v : ℕ) → has_saved d v ≡ true → is_inside n (saved_words v) ≡ true
-all_inside_freed n w c d h f v e = h v (and_parts (not (v == w)) (has_saved c v) (sym (f v) ∙ e)).1
 
 -- and there is an address behind it
 pub behind_saved : (n w : ℕ) → n ≤ 16777216 → w < 4294967296 → is_inside n (saved_words w) ≡ true → w + 1 < 4294967296

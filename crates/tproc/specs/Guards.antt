@@ -12,7 +12,6 @@ use Rattle.tproc.specs.Queues.{not_process, state_word}
 use Rattle.tproc.specs.Channels.{StepAction, goes_on}
 use Rattle.tproc.specs.LinkChannels.{link_end, with_link}
 use Rattle.tproc.specs.Doing.{Begins, onward, with_control}
-use Rattle.tproc.specs.Agreement.{IsPlain}
 use Rattle.tproc.specs.Requests.{MayWriteWord}
 use Rattle.tproc.specs.declared.claimed_memory.ClaimedMemory.{ClaimedMemory}
 use Rattle.tproc.specs.declared.engine.Engine.{Engine}
@@ -42,9 +41,8 @@ MayDisable claimed (Enabled channel) = MayWriteWord claimed channel
 MayDisable claimed _ = Unit {0}
 
 -- a channel may be enabled: the state word of the process that runs may be written
-pub record MayEnable (engine : Engine) : Type 0 where
-  pub plain : IsPlain engine.state
-  pub touched : MayWriteWord engine.claimed (word_below engine.state.registers.wptr state_word)
+abbrev pub MayEnable : Engine → Type 0
+MayEnable engine = MayWriteWord engine.claimed (word_below engine.state.registers.wptr state_word)
 
 -- a channel is enabled with which a step goes on, or the break is named and nothing is changed
 pub record Enables (x : Action Control) (old : Engine) (result : Result (Unit {0}) Break) (new : Engine) : Type 0 where

@@ -4,7 +4,7 @@ ghost use Rattle.std.specs.Prelude.{◌≡◌, ◌==◌, if◌then◌else◌, tr
 ghost use Rattle.tword.specs.Actions.{answer};
 ghost use Rattle.tproc.specs.Alternatives.{awaits_choice, begins_choice, enable, enable_internal, enables_channel};
 ghost use Rattle.tproc.specs.Alternatives.{enables_skip, ends_choice};
-ghost use Rattle.tproc.specs.Agreement.{IsOwn, IsPlain};
+ghost use Rattle.tproc.specs.Agreement.{IsOwn};
 ghost use Rattle.tproc.specs.Doing.{Does};
 ghost use Rattle.tproc.specs.Guards.{Enables, MayEnable, kept_after};
 ghost use Rattle.tproc.specs.LinkChannels as spec;
@@ -119,7 +119,6 @@ impl Engine {
 
     /// A guard on a channel is enabled, and kept.
     pub fn enable_channel(&mut self, process: Word) -> Result<Ran, Break>
-        requires plain { IsPlain self.old.state }
         ensures { Does (enables_channel process self.old.state) self.old result self.new }
     {
         let chosen = self.claimed.take_word(self.state.wptr().below(STATE_WORD))?;

@@ -1,6 +1,6 @@
 //! Messages on internal channels: each is one step, at the arrival of the second process.
 
-ghost use Rattle.std.specs.Prelude.{◌≡◌, ◌<◌, IfErr, Ok, OnOk, length, true, ℕ};
+ghost use Rattle.std.specs.Prelude.{◌≡◌, ◌<◌, IfErr, Ok, OnOk, false, length, true, ℕ};
 ghost use Rattle.tword.specs.Claims.{has_saved, saving};
 ghost use Rattle.tproc.specs.Channels.{mode_of, own_side, reason_for, waits_on_channel};
 ghost use Rattle.tproc.specs.Doing.{DoesActionFrom, DoesLaid, Refuses, laid};
@@ -111,6 +111,7 @@ pub fn leave(state: &State, claimed: &mut ClaimedMemory, q: &Request)
     requires room { length claimed.old.marks.saved < most_processes }
     ensures done { DoesActionFrom (own_side (request q.now) state.now) claimed.old (laid q.now.first
         state.now.registers.wptr claimed.old.memory.bytes) (Ok tt) claimed.new }
+    ensures fresh { has_saved claimed.old.marks state.now.registers.wptr ≡ false }
     ensures claims { claimed.new.marks ≡ saving state.now.registers.wptr claimed.old.marks }
     ensures keeps { (v : ℕ) → has_saved claimed.old.marks v ≡ true → has_saved claimed.new.marks v ≡ true }
     ensures shape { KeepsShape claimed.old.memory claimed.new.memory }

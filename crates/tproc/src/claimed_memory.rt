@@ -1,7 +1,7 @@
 //! The bytes of a node's memory with the claims on it.
 
 ghost use Rattle.std.specs.Prelude.{ℕ, [], ◌∷◌, ◌≡◌, ◌<◌, ◌≤◌, ◌+◌, ◌↔◌, length, not, true, None, IfErr, IfOk, OnOk, Some};
-ghost use Rattle.std.specs.Prelude.{is_some, replicate, IsErrOf};
+ghost use Rattle.std.specs.Prelude.{false, is_some, replicate, IsErrOf};
 ghost use Rattle.tword.specs.Accesses.{Changing, Frees, IsMemorySize, no_claims, with_output, with_input};
 ghost use Rattle.tword.specs.Accesses.{without_output, without_input};
 ghost use Rattle.tword.specs.declared.breaks.Break.TheVariants.{SavedWord};
@@ -194,11 +194,12 @@ impl ClaimedMemory {
     }
 
     /// Saves the words of a workspace that may be descheduled.
-    #[tactic(auto, using(crate::proofs::Touching::claimable, crate::proofs::Touching::unclaimed))]
+    #[tactic(auto, using(crate::proofs::Touching::descheduled_workspace))]
     pub fn deschedule(&mut self, workspace: Word)
         requires free { deschedule_break (length self.old.memory.bytes) self.old.marks workspace ≡ None }
         requires room { length self.old.marks.saved < most_processes }
         ensures memory { self.new.memory ≡ self.old.memory }
+        ensures fresh { has_saved self.old.marks workspace ≡ false }
         ensures claims { self.new.marks ≡ saving workspace self.old.marks }
     {
         self.marks.claim_saved_known(workspace);

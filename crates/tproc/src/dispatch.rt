@@ -1,13 +1,11 @@
 //! Which process runs next.
 
-ghost use Rattle.std.specs.Prelude.{◌≡◌, ◌∷◌, [], Ok, false};
+ghost use Rattle.std.specs.Prelude.{◌≡◌, ◌∷◌, [], Ok};
 ghost use Rattle.tword.specs.Actions.{run};
 ghost use Rattle.tproc.specs.Priorities.{number};
-ghost use Rattle.tproc.specs.Machine.{descheduled};
-ghost use Rattle.tproc.specs.ProcessStatus.{is_among};
 ghost use Rattle.tproc.specs.Queues.{started};
 ghost use Rattle.tproc.specs.Steps.{dispatch};
-ghost use Rattle.tproc.specs.Agreement.{Agrees, AgreesWith, IsPlain};
+ghost use Rattle.tproc.specs.Agreement.{Agrees, AgreesWith};
 ghost use Rattle.tproc.specs.Doing.{Does, machine_of};
 ghost use Rattle.tproc.specs.SavedWords.{AreThreaded};
 
@@ -27,8 +25,7 @@ pub fn start_queued(
     workspace: Word,
     priority: Priority,
 )
-    requires agrees { AgreesWith (workspace ∷ []) claimed.old.marks state.old }
-    requires fresh { is_among workspace (descheduled state.old) ≡ false }
+    requires { AgreesWith (workspace ∷ []) claimed.old.marks state.old }
     ensures agrees { Agrees claimed.new.marks state.new }
     ensures done { run (started workspace (number priority) state.old) claimed.old.memory.bytes claimed.old.marks
         ≡ Ok (state.new, claimed.new.memory.bytes) }
@@ -42,8 +39,7 @@ pub fn start_queued(
 impl Engine {
     /// The first process that may run is dispatched: a high one, the interrupted one, a low one.
     pub fn dispatch(&mut self) -> Ran
-        requires plain { IsPlain self.old.state }
-        requires threaded { AreThreaded (machine_of self.old) }
+        requires { AreThreaded (machine_of self.old) }
         ensures { Does (dispatch self.old.state.high self.old.state) self.old (Ok result) self.new }
     {
         if let Some(workspace) = self.state.take_high(&self.claimed) {

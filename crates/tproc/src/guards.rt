@@ -5,7 +5,6 @@ ghost use Rattle.tword.specs.Actions.{answer};
 ghost use Rattle.tword.specs.Stores.{with_word};
 ghost use Rattle.tproc.specs.Checks.{KeepsShape};
 ghost use Rattle.tproc.specs.Alternatives.{disable, disable_internal, disables_channel, disables_skip, selects};
-ghost use Rattle.tproc.specs.Agreement.{IsPlain};
 ghost use Rattle.tproc.specs.Doing.{Does, DoesFrom};
 ghost use Rattle.tproc.specs.Guards.{Disables, MayDisable, control_after, ready_as, store_after};
 ghost use Rattle.tproc.specs.Requests.{MayWriteWord};
@@ -61,8 +60,7 @@ fn store_if(test: bool, claimed: &mut ClaimedMemory, address: Word, value: Word)
 impl Engine {
     /// The guard of a link channel.
     fn link_guard(&self, channel: Word) -> Result<Guard, Break>
-        requires link { spec.is_link channel ≡ true }
-        requires plain { IsPlain self.now.state }
+        requires { spec.is_link channel ≡ true }
         ensures done { Disables (disable channel self.now.state) self.now result }
         ensures may { IfOk result (λ g. MayDisable self.now.claimed g) }
     {
@@ -73,7 +71,6 @@ impl Engine {
 
     /// The guard of an internal channel.
     fn internal_guard(&self, channel: Word) -> Result<Guard, Break>
-        requires plain { IsPlain self.now.state }
         ensures done { Disables (disable_internal channel self.now.state) self.now result }
         ensures may { IfOk result (λ g. MayDisable self.now.claimed g) }
     {
@@ -93,7 +90,6 @@ impl Engine {
 
     /// The guard of a channel.
     fn channel_guard(&self, channel: Word) -> Result<Guard, Break>
-        requires plain { IsPlain self.now.state }
         ensures done { Disables (disable channel self.now.state) self.now result }
         ensures may { IfOk result (λ g. MayDisable self.now.claimed g) }
     {
@@ -106,7 +102,6 @@ impl Engine {
 
     /// The guard that `disc` names: one that is false is not ready.
     fn guard_of(&self) -> Result<Guard, Break>
-        requires plain { IsPlain self.now.state }
         ensures done { Disables (if self.now.state.registers.b == 0 then answer (self.now.state, false) else disable
             self.now.state.registers.c self.now.state) self.now result }
         ensures may { IfOk result (λ g. MayDisable self.now.claimed g) }
@@ -163,7 +158,6 @@ impl Engine {
 
     /// A guard on a channel is disabled.
     pub fn disable_channel(&mut self) -> Result<Ran, Break>
-        requires plain { IsPlain self.old.state }
         ensures { Does (disables_channel self.old.state) self.old result self.new }
     {
         let guard = self.guard_of()?;

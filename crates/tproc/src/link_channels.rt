@@ -4,7 +4,7 @@ ghost use Rattle.std.specs.Prelude.{◌≡◌, ◌<◌, ◌∷◌, [], IfOk, Non
 ghost use Rattle.tword.specs.Actions.{or_break};
 ghost use Rattle.tproc.specs.Machine.{workspace_of};
 ghost use Rattle.tproc.specs.LinkChannels.{is_free, link_end, link_message, link_of, offered, ran_link, with_link};
-ghost use Rattle.tproc.specs.Agreement.{Agrees, AgreesWith, HasPlace, IsPlain};
+ghost use Rattle.tproc.specs.Agreement.{Agrees, AgreesWith, HasPlace};
 ghost use Rattle.tproc.specs.Doing.{DoesLaid};
 ghost use Rattle.tproc.specs.Checks.{end_break};
 ghost use Rattle.tproc.specs.Requests.{IsRequest, request};
@@ -125,8 +125,7 @@ fn wait_on_link(state: &mut State, claimed: &mut ClaimedMemory, q: &Request, lin
 impl Engine {
     /// Whether a half of a link is free for the process that runs.
     pub fn is_free(&self, side: Side, link: u8) -> bool
-        requires link { link < 4 }
-        requires plain { IsPlain self.now.state }
+        requires { link < 4 }
         ensures { result ≡ is_free side (link_end self.now.state link) self.now.state }
     {
         let end = self.state.link(link);

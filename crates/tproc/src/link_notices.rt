@@ -5,7 +5,6 @@ ghost use Rattle.tproc.specs.ProcessStatus.{is_queued, reason_of, status};
 ghost use Rattle.tproc.specs.LinkChannels.{ended_at, link_end, pending_at, with_link, without_buffer};
 ghost use Rattle.tproc.specs.Links.{act_or_unchanged, finished, notice, notify_at, readies_queued, readies_running};
 ghost use Rattle.tproc.specs.Links.{wakes};
-ghost use Rattle.tproc.specs.Agreement.{IsPlain};
 ghost use Rattle.tproc.specs.Doing.{Does, as_step, machine_of};
 
 use crate::channels::{ENABLING, READY, Side};
@@ -63,8 +62,7 @@ impl Engine {
     /// A process that waits for its alternative is told that it is ready.
     #[tactic(auto, using(crate::proofs::Saved::are_saved, crate::proofs::Saved::waiter_saved))]
     fn wake(&mut self, process: Word) -> Ran
-        requires plain { IsPlain self.old.state }
-        requires waits { IsSome (reason_of self.old.state process) }
+        requires { IsSome (reason_of self.old.state process) }
         ensures { Does (as_step (wakes process self.old.state)) self.old (Ok result) self.new }
     {
         self.claimed
@@ -100,8 +98,7 @@ impl Engine {
 
     /// A process that waits for its alternative is told, and queued.
     fn tell_waiting(&mut self, process: Word)
-        requires plain { IsPlain self.old.state }
-        requires waits { IsSome (reason_of self.old.state process) }
+        requires { IsSome (reason_of self.old.state process) }
         ensures { machine_of self.new
             ≡ act_or_unchanged (wakes process) (machine_of self.old) }
     {
@@ -127,7 +124,6 @@ impl Engine {
 
     /// The process that enabled a link is told that a byte waits there.
     fn tell(&mut self, process: Word)
-        requires plain { IsPlain self.old.state }
         ensures { machine_of self.new
             ≡ notify_at (status self.old.state process) process
             (machine_of self.old) }
@@ -149,8 +145,7 @@ impl Engine {
     /// A byte waits at a link and no input is pending.
     #[tactic(auto, unfolding(crate::specs::Links::notice))]
     pub fn notice(&mut self, link: u8)
-        requires link { link < 4 }
-        requires plain { IsPlain self.old.state }
+        requires { link < 4 }
         ensures { machine_of self.new
             ≡ notice link (machine_of self.old) }
     {
@@ -171,7 +166,6 @@ impl Engine {
     /// The message that is pending at a half of a link is over: its process is queued.
     pub fn finish(&mut self, side: Side, link: u8) -> Ran
         requires link { link < 4 }
-        requires plain { IsPlain self.old.state }
         requires pending { IsSome (pending_at side (link_end self.old.state link)) }
         requires waits { IfSome (pending_at side (link_end self.old.state link))
             (λ o. IsSome (reason_of self.old.state o.wdesc)) }

@@ -3,7 +3,7 @@
 ghost use Rattle.std.specs.Prelude.{◌≡◌, false, true};
 ghost use Rattle.tproc.specs.ProcessStatus.{is_live, is_queued, not_waiting, reason_of, status};
 ghost use Rattle.tproc.specs.LinkChannels.{is_running};
-ghost use Rattle.tproc.specs.Agreement.{Agrees, IsPlain, IsReady};
+ghost use Rattle.tproc.specs.Agreement.{Agrees, IsReady};
 ghost use Rattle.tproc.specs.Requests.{IfQueued, reason_in};
 ghost use Rattle.tproc.specs.Entries.{entry_in, lists_in};
 
@@ -32,8 +32,7 @@ pub enum ProcessStatus {
 impl State {
     /// Whether the workspace belongs to a live process.
     pub fn is_live(&self, claimed: &ClaimedMemory, workspace: Word) -> bool
-        requires plain { IsPlain self.now }
-        requires agrees { Agrees claimed.now.marks self.now }
+        requires ready { IsReady claimed.now.marks self.now }
         ensures { result ≡ is_live self.now workspace }
     {
         claimed.has_saved(workspace)
@@ -47,7 +46,7 @@ impl State {
     /// The entry of a process, if it is queued or waits.
     #[inline]
     fn find(&self, claimed: &ClaimedMemory, process: Word) -> Option<Entry>
-        requires ready { IsReady claimed.now.marks self.now }
+        requires agrees { Agrees claimed.now.marks self.now }
         ensures { result ≡ entry_in (lists_in self.now) process }
     {
         self.descheduled.find(claimed, process)
@@ -55,17 +54,17 @@ impl State {
 
     /// Where a descriptor is found that is neither queued nor waits.
     fn status_elsewhere(&self, process: Word) -> ProcessStatus
-        requires plain { IsPlain self.now }
-        requires unqueued { is_queued self.now process ≡ false }
+        requires { is_queued self.now process ≡ false }
         ensures { result ≡ not_waiting self.now process }
     {
+        let sought = u64::from(process.get());
         if let Some(priority) = self.current
-            && self.registers.wptr.get() + u32::from(priority.number()) == process.get()
+            && u64::from(self.registers.wptr.get()) + u64::from(priority.number()) == sought
         {
             return ProcessStatus::Runs;
         }
         match self.interrupted {
-            Some(kept) if kept.registers.wptr.get() + 1 == process.get() =>
+            Some(kept) if u64::from(kept.registers.wptr.get()) + 1 == sought =>
                 ProcessStatus::Interrupted,
             _ => ProcessStatus::Unknown,
         }
@@ -76,7 +75,6 @@ impl Engine {
     /// What a process waits for.
     #[inline]
     pub fn reason(&self, process: Word) -> Option<Reason>
-        requires plain { IsPlain self.now.state }
         ensures { result ≡ reason_of self.now.state process }
     {
         self.state.find(&self.claimed, process)?.reason
@@ -84,7 +82,6 @@ impl Engine {
 
     /// Where a descriptor is found.
     pub fn status(&self, process: Word) -> ProcessStatus
-        requires plain { IsPlain self.now.state }
         ensures stands { result ≡ status self.now.state process }
         ensures waits { reason_of self.now.state process ≡ reason_in result }
         ensures queued { IfQueued result (is_queued self.now.state process ≡ true) }
@@ -100,7 +97,6 @@ impl Engine {
 
     /// Whether a descriptor is found as the process that runs.
     pub fn runs(&self, process: Word) -> bool
-        requires plain { IsPlain self.now.state }
         ensures { result ≡ is_running (status self.now.state process) }
     {
         match &self.status(process) {

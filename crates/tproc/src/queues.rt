@@ -1,18 +1,17 @@
 //! Queueing and admission.
 
 ghost use Rattle.std.specs.Prelude.{◌≡◌, ◌+◌, ◌∷◌, ◌++◌, [], IfNone, IfOk, IfSome, IsSome, Ok, OnErr, length};
-ghost use Rattle.std.specs.Prelude.{option_to_list, true};
+ghost use Rattle.std.specs.Prelude.{◌≢◌, AllPairs, option_to_list, true};
 ghost use Rattle.tproc.specs.Checks.{KeepsShape};
-ghost use Rattle.tproc.specs.Machine.{priority_of, workspace_of as spec_workspace_of};
+ghost use Rattle.tproc.specs.Machine.{descheduled, priority_of, workspace_of as spec_workspace_of};
 ghost use Rattle.tword.specs.Actions.{or_break, unmet};
 ghost use Rattle.tword.specs.Claims.{has_saved};
 ghost use Rattle.tproc.specs.ProcessStatus.{has_room, queue, reason_of};
 ghost use Rattle.tproc.specs.Queues.{appended, last_of, waiting_for, without_waiter};
-ghost use Rattle.tproc.specs.Agreement.{Agrees, AgreesWith, AreSaved, HasPlace, IsPlain, IsReady, Leaves, Settles};
+ghost use Rattle.tproc.specs.Agreement.{Agrees, AgreesWith, AreSaved, HasPlace, IsPlain, IsReady, Settles};
 ghost use Rattle.tproc.specs.Agreement.{StillAgrees, StillSaved, Unsettles, descheduled_count};
-ghost use Rattle.tproc.specs.Doing.{Does, DoesAction, adding, machine_of};
+ghost use Rattle.tproc.specs.Doing.{Does, DoesAction, adding};
 ghost use Rattle.tproc.specs.SavedWords.{IsThreaded};
-ghost use Rattle.tproc.specs.Opening.{Adds, added};
 ghost use Rattle.tproc.specs.Queues as spec;
 
 use crate::claimed_memory::ClaimedMemory;
@@ -63,12 +62,11 @@ impl State {
     /// The first of the high queue leaves it.
     #[inline]
     pub fn take_high(&mut self, claimed: &ClaimedMemory) -> Option<Word>
-        requires plain { IsPlain self.old }
-        requires saved { AreSaved claimed.now.marks self.old }
+        requires agrees { Agrees claimed.now.marks self.old }
         requires threaded { IsThreaded claimed.now.memory.bytes self.old.high }
         ensures first { self.old.high ≡ option_to_list result ++ self.new.high }
         ensures none { IfNone result ((self.old.high ≡ []) × (self.new ≡ self.old)) }
-        ensures leaves { IfSome result (λ w. Leaves w self.old self.new) }
+        ensures unsettles { IfSome result (λ w. Unsettles w self.old self.new) }
         ensures rest { self.new ≡ record self.old { high = self.new.high } }
     {
         self.descheduled.take_high(claimed)
@@ -77,12 +75,11 @@ impl State {
     /// The first of the low queue leaves it.
     #[inline]
     pub fn take_low(&mut self, claimed: &ClaimedMemory) -> Option<Word>
-        requires plain { IsPlain self.old }
-        requires saved { AreSaved claimed.now.marks self.old }
+        requires agrees { Agrees claimed.now.marks self.old }
         requires threaded { IsThreaded claimed.now.memory.bytes self.old.low }
         ensures first { self.old.low ≡ option_to_list result ++ self.new.low }
         ensures none { IfNone result ((self.old.low ≡ []) × (self.new ≡ self.old)) }
-        ensures leaves { IfSome result (λ w. Leaves w self.old self.new) }
+        ensures unsettles { IfSome result (λ w. Unsettles w self.old self.new) }
         ensures rest { self.new ≡ record self.old { low = self.new.low } }
     {
         self.descheduled.take_low(claimed)
@@ -106,7 +103,6 @@ impl State {
     }
 
     /// A process whose words are saved waits from now on, and none runs.
-    #[tactic(auto, using(crate::proofs::Agreeing::settles_waiting))]
     fn begin_waiting(&mut self, process: Word, reason: Reason)
         requires place { HasPlace self.old }
         ensures done { self.new ≡ waiting_for process reason self.old }
@@ -118,7 +114,7 @@ impl State {
 
     /// A process waits no longer.
     fn forget(&mut self, process: Word)
-        requires plain { IsPlain self.old }
+        requires apart { AllPairs (λ v w. v ≢ w) (descheduled self.old) }
         requires waits { IsSome (reason_of self.old process) }
         ensures done { self.new ≡ without_waiter process self.old }
         ensures place { HasPlace self.new }
@@ -126,6 +122,8 @@ impl State {
         ensures fewer { descheduled_count self.new + 1 ≡ descheduled_count self.old }
         ensures saved { StillSaved self.old self.new }
     {
+        // To count them is to know that there are no more than may live.
+        let _count = self.descheduled.len();
         self.descheduled.forget(process);
     }
 }
@@ -184,7 +182,7 @@ pub fn wait(state: &mut State, claimed: &ClaimedMemory, process: Word, reason: R
 /// A process that waits is queued.
 #[tactic(auto, unfolding(crate::specs::Queues::release))]
 pub fn release(state: &mut State, claimed: &mut ClaimedMemory, process: Word)
-    requires plain { IsPlain state.old }
+    requires apart { AllPairs (λ v w. v ≢ w) (descheduled state.old) }
     requires waits { IsSome (reason_of state.old process) }
     requires saved { AreSaved claimed.old.marks state.old }
     ensures done { DoesAction (spec.release process state.old) claimed.old (Ok state.new) claimed.new }
@@ -199,9 +197,9 @@ pub fn release(state: &mut State, claimed: &mut ClaimedMemory, process: Word)
 }
 
 impl Engine {
-    /// A process from outside is let in, with its first address.
+    /// A process from outside is let in, with its first address, behind the others of its queue.
     #[tactic(auto, using(crate::proofs::Saved::itself_saved, crate::proofs::Saved::are_saved))]
-    fn add(&mut self, process: Word, iptr: Word) -> Result<Ran, Break>
+    pub fn add(&mut self, process: Word, iptr: Word) -> Result<Ran, Break>
         requires plain { IsPlain self.old.state }
         ensures { Does (adding process iptr self.old.state) self.old result self.new }
     {
@@ -210,16 +208,5 @@ impl Engine {
             .set_saved_word(workspace_of(process), IPTR_WORD, iptr);
         enqueue(&mut self.state, &mut self.claimed, process);
         Ok(Ran::Instruction)
-    }
-
-    /// A process from outside is added, behind the others of its queue.
-    pub fn add_process(&mut self, process: Word, iptr: Word) -> Result<(), Break>
-        requires plain { IsPlain self.old.state }
-        ensures { Adds (added process iptr (machine_of self.old))
-            (machine_of self.old) result
-            (machine_of self.new) }
-    {
-        self.add(process, iptr)?;
-        Ok(())
     }
 }

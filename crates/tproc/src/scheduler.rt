@@ -74,7 +74,7 @@ impl Engine {
     /// A new process starts, at an address relative to the next instruction.
     #[tactic(auto, using(crate::proofs::Descheduling::started_process))]
     pub fn start(&mut self, priority: Priority) -> Result<Ran, Break>
-        requires plain { IsPlain self.old.state }
+        requires runs { RunsAt (number priority) self.old.state }
         ensures { Does (starts (number priority) self.old.state) self.old result self.new }
     {
         let r = self.state.registers();

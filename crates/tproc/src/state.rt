@@ -9,7 +9,7 @@ ghost use Rattle.tproc.specs.Queues.{at_rest, suspended, resumed};
 ghost use Rattle.tproc.specs.Scheduler.{counted, counted_by};
 ghost use Rattle.tproc.specs.Opening.{no_processes};
 ghost use Rattle.tproc.specs.Resting.{is_idle};
-ghost use Rattle.tproc.specs.Agreement.{IsOwn, IsPlain, RunsAt, StillAgrees, is_over};
+ghost use Rattle.tproc.specs.Agreement.{IsOwn, RunsAt, StillAgrees, is_over};
 ghost use Rattle.tproc.specs.Runs.{RunsAlone};
 
 use crate::descheduled::Descheduled;
@@ -215,7 +215,7 @@ impl State {
     }
 
     /// The descriptor of the process that runs.
-    #[tactic(auto, using(crate::proofs::Agreeing::own_workspace))]
+    #[tactic(auto, using(crate::proofs::Agreeing::own_workspace, crate::proofs::Places::place_running))]
     #[inline]
     pub fn own(&self, priority: Priority) -> Word
         requires { RunsAt (number priority) self.now }
@@ -319,29 +319,17 @@ impl State {
     /// The pending output of a link, if the link is there and has one.
     #[inline]
     pub fn output(&self, link: u8) -> Option<Offer>
-        requires plain { IsPlain self.now }
         ensures { result ≡ (link_end self.now link).output }
     {
-        let link = usize::from(link);
-        if link < 4 {
-            self.links[link].output
-        } else {
-            None
-        }
+        self.links.get(usize::from(link))?.output
     }
 
     /// The pending input of a link, if the link is there and has one.
     #[inline]
     pub fn input(&self, link: u8) -> Option<Offer>
-        requires plain { IsPlain self.now }
         ensures { result ≡ (link_end self.now link).input }
     {
-        let link = usize::from(link);
-        if link < 4 {
-            self.links[link].input
-        } else {
-            None
-        }
+        self.links.get(usize::from(link))?.input
     }
 
     /// Whether a process runs or can be dispatched, and the processor has not halted.
@@ -398,7 +386,6 @@ impl State {
     /// where no process runs.
     #[inline]
     pub fn stretch(&self) -> (Priority, u32)
-        requires plain { IsPlain self.now }
         ensures { 0 < result.1 → RunsAlone (number result.0) result.1 self.now }
     {
         if self.halted {

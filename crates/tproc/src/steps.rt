@@ -196,7 +196,7 @@ impl Engine {
     #[inline(always)]
     pub fn instruction_alone(&mut self, priority: Priority) -> Option<Result<Ran, Break>>
         requires alone { RunsAlone (number priority) 1 self.old.state }
-        requires plain { IsPlain self.old.state }
+        requires runs { RunsAt (number priority) self.old.state }
         ensures done { Does (instruction_step (number priority) self.old.state) self.old (answer_of result) self.new }
         ensures goes_on { IfNone result (self.new.state
             ≡ counted (number priority) (record self.old.state { registers = self.new.state.registers })) }

@@ -20,7 +20,7 @@ use Rattle.tnet.specs.declared.inbox.Inbox.{Inbox}
 use Rattle.tnet.specs.declared.station.Done.{Done}
 use Rattle.tnet.specs.Stations.{box_at, with_carried, asked, input_of, done_of}
 use Rattle.tnet.specs.FarEnds.{far_in_row}
-use Rattle.tnet.specs.Answers.{KeepsInput, HasRoom}
+use Rattle.tnet.specs.Answers.{KeepsInput, HasMessageRoom}
 use Rattle.tnet.proofs.AnswerKinds.{run_emits_none, due_stands}
 use Rattle.trounds.specs.Parts.{act_link, sending_to, sendings}
 use Rattle.trounds.specs.RoundNodes.{sendings_of}
@@ -72,7 +72,7 @@ pub room_for : {A : Type 0} (f : A → ℕ) (a : Act) (boxes : List Inbox) (e : 
     (k : ℕ) (d : A)
     → asked a boxes ≡ Some e → k ≡ act_link a → k < length vs
     → ((l : ℕ) → a ≡ Take l → IfSome (due_at node l) (λ (o : Offer). o.length ≤ get_or (map f vs) l 0))
-    → HasRoom (input_of e node) (f (get_or vs k d))
+    → HasMessageRoom (input_of e node) (f (get_or vs k d))
 room_for f Run boxes e node vs k d is link lt fits = let q : at_node.Run ≡ e = same_Some _ _ is in rw (← q) tt
 room_for f (Send m) boxes e node vs k d is link lt fits =
     let q : at_node.Send m ≡ e = same_Some _ _ is in rw (← q) tt

@@ -1,5 +1,5 @@
 -- Room for messages, and runs one after another.
-use Rattle.std.proofs.Common.{◌≡◌, ◌≢◌, ℕ, zero, suc, ◌+◌, ◌-◌, ◌<◌, ◌≤◌, refl, sym, ap, ◌∙◌, List, length, get_or, set}
+use Rattle.std.proofs.Common.{◌≡◌, ◌≢◌, ℕ, zero, suc, ◌-◌, ◌<◌, ◌≤◌, refl, ap, ◌∙◌, List, length, get_or, set}
 use Rattle.std.proofs.Common.{map, Option, Some, Result, Ok, Err, IfSome, OnOk, ◌⊎◌, inl, inr, arith}
 use Rattle.std.proofs.lemmas.Bool.{cases_eq}
 use Rattle.std.proofs.lemmas.List.{map-set, get_or-set_same, get_or-set_other, get_or-map, length-map}
@@ -40,18 +40,7 @@ pub on_ok : {T E : Type 0} (r : Result T E) (P Q : Type 0) → (P → Q) → OnO
 on_ok (Ok x) P Q f h = f h
 on_ok (Err e) P Q f h = h
 
--- one run more
-pub run_on : (s k : ℕ) (p p' q : Part) → k < s → p' ≡ part_does act.Run p → part_runs (s - k) p ≡ q
-    → part_runs (s - (k + 1)) p' ≡ q
-run_on s k p p' q below is h =
-    let n : s - k ≡ suc (s - (k + 1)) = omega arith in
-    ap (part_runs (s - (k + 1))) is ∙ (ap (λ m. part_runs m p) (sym n) ∙ h)
-
 -- no run more
 pub run_rests : (k : ℕ) (p : Part) → part_does act.Run p ≡ p → part_runs k p ≡ p
 run_rests zero p h = refl
 run_rests (suc k) p h = ap (part_runs k) h ∙ run_rests k p h
-
-pub run_stops : (s k : ℕ) (p p' q : Part) → k < s → p' ≡ part_does act.Run p → part_does act.Run p' ≡ p'
-    → part_runs (s - k) p ≡ q → p' ≡ q
-run_stops s k p p' q below is rests h = sym (run_rests (s - (k + 1)) p' rests) ∙ run_on s k p p' q below is h

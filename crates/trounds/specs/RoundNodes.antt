@@ -1,7 +1,7 @@
 -- Round nodes, each with its inboxes and its outbox: the station of one, its part of a round so far, and its room.
 -- Source: own choice, how rounds are shared out.
 use Rattle.std.specs.Prelude.{◌≡◌, ℕ, ◌+◌, ◌<◌, ◌≤◌, ◌++◌, length, List, [], map, vec_len, vec_capacity, slice_index_or}
-use Rattle.std.specs.Prelude.{IfSome, false}
+use Rattle.std.specs.Prelude.{IfSome, false, All, ◌*◌, ◌^◌}
 use Rattle.tnet.specs.Answers.{KeepsInput}
 use Rattle.tword.specs.Limits.{most_nodes}
 use Rattle.tproc.specs.declared.offer.Offer.{Offer}
@@ -19,7 +19,7 @@ use Rattle.tplan.specs.declared.event.Hold.{Hold}
 use Rattle.tnet.specs.declared.parts.NetParts.{NetParts}
 use Rattle.tnet.specs.Net.{NetState}
 use Rattle.trounds.specs.Parts.{Station, Part, fresh, act_link, part_does, part_of_round, parts, stations_after, net_of}
-use Rattle.trounds.specs.Parts.{ArePlaced}
+use Rattle.trounds.specs.Parts.{AreNumbered, ArePlaced}
 
 -- the station of a round node
 abbrev pub station_of : RoundNode → Station
@@ -103,6 +103,12 @@ pub record IsReady (slice : ℕ) (r : RoundNode) : Type 0 where
   pub room : r.rests ≡ false → HasListRoom (slice + 16) 17 16 r
   pub bytes : r.rests ≡ false → HasBytes 0 r
   pub is_fresh : part_so_far r ≡ fresh (station_of r)
+
+-- round nodes from the first one of a worker on are ready for a round: each worker has `size` of them
+pub record IsReadyFrom (worker size slice : ℕ) (round_nodes : List RoundNode) : Type 0 where
+  pub workers : worker + length round_nodes < 2 ^ 64
+  pub numbered : AreNumbered (worker * size) (stations_of round_nodes)
+  pub ready : All (IsReady slice) round_nodes
 
 -- a round is done: the parts by themselves, then their sendings; what was done and told is behind what was before
 pub record Advances (holds : List Hold) (slice r : ℕ) (stations : List Station) (events : List Event)

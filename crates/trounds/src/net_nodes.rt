@@ -1,6 +1,6 @@
 //! The nodes of a net, taken out of its pieces as round nodes, and put back.
 
-ghost use Rattle.std.specs.Prelude.{◌≡◌, ◌≤◌, vec_len, IfOk, IfErr};
+ghost use Rattle.std.specs.Prelude.{◌≡◌, vec_len, IfOk, IfErr};
 ghost use Rattle.trounds.specs.Parts.{net_of};
 ghost use Rattle.tnet.specs.Sound.{IsSound};
 ghost use Rattle.trounds.specs.RoundNodes.{stations_of, AreTakenOut, HasPlaces};

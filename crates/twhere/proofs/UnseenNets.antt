@@ -1,11 +1,11 @@
 -- The text of a net is the same where the buffers of pending inputs are hidden.
-use Rattle.std.proofs.Common.{◌≡◌, ℕ, zero, suc, ◌+◌, ◌-◌, ◌%◌, ◌<◌, refl, sym, ap, ap₂, ◌∙◌, List, [], ◌∷◌, ◌++◌}
+use Rattle.std.proofs.Common.{◌≡◌, ℕ, zero, suc, ◌+◌, ◌%◌, ◌<◌, refl, sym, ap, ap₂, ◌∙◌, List, [], ◌∷◌, ◌++◌}
 use Rattle.std.proofs.Common.{length, get_or, true, Option, Some, None, Result, arith, subst, drop, take, length-append}
 use Rattle.std.specs.Prelude.{All, codes, fold, map, ◌==◌}
 use Rattle.std.specs.List.{list_any, position_or_len}
 use Rattle.std.specs.Prelude.{nat_le}
 use Rattle.std.proofs.lemmas.Bool.{eq-eqb, eqb-true}
-use Rattle.std.proofs.lemmas.List.{get_or_append_left, get_or-append_right, get_or-map, length-map}
+use Rattle.std.proofs.lemmas.List.{get_or_append_left, get_or-append-add, get_or-map, length-map}
 use Rattle.std.proofs.lemmas.List.Elements.{All-append, All-cons, All-drop, All-map, All-nil, All-tail, All-take}
 use Rattle.std.proofs.lemmas.List.Folds.{list_any_at}
 use Rattle.tword.specs.declared.breaks.Break.{Break}
@@ -44,10 +44,7 @@ all_left P xs ys h = λ k d l. subst P (get_or_append_left xs ys d k l) (h k d (
 
 all_right : (P : ℕ → Type 0) (xs ys : List ℕ) → All P (xs ++ ys) → All P ys
 all_right P xs ys h = λ k d l.
-    let e : length xs + k - length xs ≡ k = omega arith in
-    let at : get_or (xs ++ ys) (length xs + k) d ≡ get_or ys k d =
-    get_or-append_right xs ys (length xs) (length xs + k) d refl (omega arith) ∙ ap (λ (i : ℕ). get_or ys i d) e in
-    subst P at (h (length xs + k) d (omega (arith, l, length-append xs ys)))
+    subst P (get_or-append-add xs ys k d) (h (length xs + k) d (omega (arith, l, length-append xs ys)))
 
 -- the words of the process are saved
 abbrev IsSaved : Machine → ℕ → Type 0

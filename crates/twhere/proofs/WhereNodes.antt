@@ -1,5 +1,5 @@
 -- The text of the nodes of a net, one after another.
-use Rattle.std.proofs.Common.{◌≡◌, ℕ, ◌+◌, ◌<◌, ◌≤◌, sym, ap, ◌∙◌, List, [], ◌++◌, length, get_or, drop, add-one}
+use Rattle.std.proofs.Common.{◌≡◌, ℕ, ◌+◌, ◌<◌, ◌≤◌, ap, ◌∙◌, List, [], ◌++◌, length, get_or, drop, add-one}
 use Rattle.std.proofs.Common.{drop-cons}
 use Rattle.std.specs.Prelude.{map}
 use Rattle.std.proofs.Math.ListN.{drop_of_length-le}
@@ -14,8 +14,7 @@ pub where_next : (net : NetState) (k : ℕ) (nodes : List NodeState) (d : NodeSt
     → where_from net k (drop k nodes)
     ≡ node_where net k (get_or nodes k d) ++ where_from net (k + 1) (drop (k + 1) nodes)
 where_next net k nodes d l =
-    ap (λ (ns : List NodeState). where_from net k ns) (drop-cons nodes k d l)
-    ∙ ap (λ (i : ℕ). node_where net k (get_or nodes k d) ++ where_from net i (drop i nodes)) (sym (add-one k))
+    rw (add-one k) (ap (λ (ns : List NodeState). where_from net k ns) (drop-cons nodes k d l))
 
 -- behind the last there is none
 pub where_end : (net : NetState) (k : ℕ) (nodes : List NodeState) → length nodes ≤ k

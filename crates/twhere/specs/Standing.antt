@@ -79,19 +79,11 @@ abbrev pub priority_text : ℕ → List ℕ
 priority_text zero = codes " high"
 priority_text (suc p) = codes " low"
 
--- the flag Error, where it is set
-abbrev pub error_fact : Bool → List ℕ
-error_fact true = line (codes "    Error       set")
-error_fact false = []
-
--- the flag HaltOnError, where it is set
-abbrev pub halt_on_error_fact : Bool → List ℕ
-halt_on_error_fact true = line (codes "    HaltOnError set")
-halt_on_error_fact false = []
-
 -- the flags that are set
 abbrev pub flag_facts : Registers → List ℕ
-flag_facts r = error_fact r.error ++ halt_on_error_fact r.halt_on_error
+flag_facts r =
+    (if r.error then line (codes "    Error       set") else [])
+    ++ (if r.halt_on_error then line (codes "    HaltOnError set") else [])
 
 -- Iptr, with the instruction there
 abbrev pub iptr_fact : Machine → ℕ → List ℕ

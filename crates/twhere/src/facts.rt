@@ -1,6 +1,6 @@
 //! Small parts of the text: words, instructions, and where a process that does not run stands.
 
-ghost use Rattle.std.specs.Prelude.{◌≡◌, ◌++◌};
+ghost use Rattle.std.specs.Prelude.{◌≡◌, if◌then◌else◌, []};
 ghost use Rattle.tfiles.specs.Outputs.{Tells};
 ghost use Rattle.twhere.specs.Standing as spec;
 
@@ -28,6 +28,15 @@ pub(crate) fn put_word_fact<W: CountedWrite>(out: &mut Output<'_, W>, name: &[u8
     out.put(name);
     put_word(out, word);
     out.put(b"\n");
+}
+
+/// A text, where a condition holds.
+pub(crate) fn put_if<W: CountedWrite>(out: &mut Output<'_, W>, condition: bool, text: &[u8])
+    ensures { Tells W.contents W.failures out.old out.new (if condition then text.now else []) }
+{
+    if condition {
+        out.put(text);
+    }
 }
 
 /// What a fetch answers: an instruction, or the name of its break.

@@ -1,6 +1,6 @@
 //! The links of a node that are not at rest.
 
-ghost use Rattle.std.specs.Prelude.{◌≡◌, ◌<◌, ◌++◌, codes, decimal, if◌then◌else◌, [], is_some};
+ghost use Rattle.std.specs.Prelude.{◌≡◌, ◌<◌, is_some};
 ghost use Rattle.tproc.specs.LinkChannels.{link_end};
 ghost use Rattle.tlink.specs.Node.{input_at, output_at};
 ghost use Rattle.tlink.specs.Whole.{IsWhole};
@@ -9,7 +9,7 @@ ghost use Rattle.tnet.specs.Wires.{end_at};
 ghost use Rattle.tfiles.specs.Outputs.{Tells};
 ghost use Rattle.twhere.specs.Standing as spec;
 
-use crate::facts::put_word;
+use crate::facts::{put_if, put_word};
 use tfiles::CountedWrite;
 use tfiles::writing::output::Output;
 use tfiles::writing::text::{put_byte, put_decimal};
@@ -139,17 +139,8 @@ fn put_arrival<W: CountedWrite>(
         put_name(out, link);
         out.put(name);
         put_byte(out, arrival.byte);
-        put_mark(out, arrival.last);
+        put_if(out, arrival.last, b" last");
         out.put(b"\n");
-    }
-}
-
-/// Whether a byte is marked as the last.
-fn put_mark<W: CountedWrite>(out: &mut Output<'_, W>, last: bool)
-    ensures { Tells W.contents W.failures out.old out.new (if last then codes " last" else []) }
-{
-    if last {
-        out.put(b" last");
     }
 }
 

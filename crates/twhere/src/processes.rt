@@ -1,10 +1,10 @@
 //! The process that runs, the one that was interrupted, and those that are queued.
 
-ghost use Rattle.std.specs.Prelude.{◌≡◌, ◌<◌, ◌%◌, ◌^◌, IfSome};
+ghost use Rattle.std.specs.Prelude.{◌≡◌, ◌<◌, ◌%◌, ◌^◌};
 ghost use Rattle.tfiles.specs.Outputs.{Tells};
 ghost use Rattle.twhere.specs.Standing as spec;
 
-use crate::facts::{put_fetched, put_place, put_word, put_word_fact};
+use crate::facts::{put_fetched, put_if, put_place, put_word, put_word_fact};
 use tcpu::Registers;
 use tfiles::CountedWrite;
 use tfiles::writing::output::Output;
@@ -106,26 +106,8 @@ fn put_registers<W: CountedWrite>(out: &mut Output<'_, W>, registers: &Registers
 fn put_flags<W: CountedWrite>(out: &mut Output<'_, W>, registers: &Registers)
     ensures { Tells W.contents W.failures out.old out.new (spec.flag_facts registers.now) }
 {
-    put_error(out, registers.error);
-    put_halt_on_error(out, registers.halt_on_error);
-}
-
-/// The flag Error, where it is set.
-fn put_error<W: CountedWrite>(out: &mut Output<'_, W>, flag: bool)
-    ensures { Tells W.contents W.failures out.old out.new (spec.error_fact flag) }
-{
-    if flag {
-        out.put(b"    Error       set\n");
-    }
-}
-
-/// The flag HaltOnError, where it is set.
-fn put_halt_on_error<W: CountedWrite>(out: &mut Output<'_, W>, flag: bool)
-    ensures { Tells W.contents W.failures out.old out.new (spec.halt_on_error_fact flag) }
-{
-    if flag {
-        out.put(b"    HaltOnError set\n");
-    }
+    put_if(out, registers.error, b"    Error       set\n");
+    put_if(out, registers.halt_on_error, b"    HaltOnError set\n");
 }
 
 /// The processes of a queue, each on a line behind its name.

@@ -1,6 +1,5 @@
 //! The processes that wait, and for what.
 
-ghost use Rattle.tlink.specs.Node.{counts_at, input_at, output_at};
 ghost use Rattle.tfiles.specs.Outputs.{Tells};
 ghost use Rattle.twhere.specs.Standing as spec;
 

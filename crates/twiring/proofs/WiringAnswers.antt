@@ -4,37 +4,22 @@ use Rattle.std.proofs.Common.{[], ◌∷◌, ◌++◌, length, Some, Ok, Err, St
 use Rattle.std.proofs.lemmas.Option.{same_Some}
 use Rattle.std.specs.List.{list_any}
 use Rattle.std.specs.Map.{keys_of}
-use Rattle.toml.specs.Data.{Data, string, integer, float, boolean, datetime, array, table, Items, Members, as_array}
+use Rattle.toml.specs.Data.{Data, array, Items, Members, as_array}
 use Rattle.toml.specs.View.{view, items_view, members_view}
 use Rattle.toml.specs.declared.value.Value.{Value}
 use Rattle.tplan.specs.declared.wiring.WiringFault.{WiringFault}
-use Rattle.tplan.specs.declared.wiring.WiringFault.TheVariants.{OutOfMemory, Syntax, UnknownKey, MissingKey, WrongType}
-use Rattle.tplan.specs.declared.wiring.WiringFault.TheVariants.{BadVersion, BadNumber, BadMessage, BadKind}
+use Rattle.tplan.specs.declared.wiring.WiringFault.TheVariants.{OutOfMemory, UnknownKey, WrongType}
 use Rattle.twiring.specs.Wirings.{Names, is_one_of, has_unknown, IsWiringAnswer}
 use Rattle.twiring.specs.WiringParts.{Reading, lower, both, made, known, one_more, more_in, end_in}
 
 -- want of memory is the lowest fault
 lower-memory : (f : WiringFault) → lower OutOfMemory f ≡ OutOfMemory
 lower-memory OutOfMemory = refl
-lower-memory Syntax = refl
-lower-memory UnknownKey = refl
-lower-memory MissingKey = refl
-lower-memory WrongType = refl
-lower-memory BadVersion = refl
-lower-memory BadNumber = refl
-lower-memory BadMessage = refl
-lower-memory BadKind = refl
+lower-memory _ = refl
 
 memory-lower : (f : WiringFault) → lower f OutOfMemory ≡ OutOfMemory
 memory-lower OutOfMemory = refl
-memory-lower Syntax = refl
-memory-lower UnknownKey = refl
-memory-lower MissingKey = refl
-memory-lower WrongType = refl
-memory-lower BadVersion = refl
-memory-lower BadNumber = refl
-memory-lower BadMessage = refl
-memory-lower BadKind = refl
+memory-lower _ = refl
 
 both-memory : {A B : Type 0} (a : Reading A) → both {B = B} a (Err OutOfMemory) ≡ Err OutOfMemory
 both-memory (Ok a) = refl
@@ -114,13 +99,6 @@ pub end_in-other : (d : Data) (vs : List Value) → as_array d ≡ Some (items_v
 end_in-other (array items) vs e h = by vs h ∙ ap (λ (i : Items). end_in (array i)) (sym (same_Some _ _ e))
   where
     by : (vs : List Value) → (length vs < 2) ⊎ (3 ≤ length vs) → Err WrongType ≡ end_in (array (items_view vs))
-    by [] h = refl
-    by (v ∷ []) h = refl
     by (v ∷ w ∷ []) h = absurd (omega arith)
-    by (v ∷ w ∷ x ∷ vs) h = refl
-end_in-other (string s) vs e h = refl
-end_in-other (integer z) vs e h = refl
-end_in-other (float x) vs e h = refl
-end_in-other (boolean b) vs e h = refl
-end_in-other (datetime t) vs e h = refl
-end_in-other (table t) vs e h = refl
+    by _ h = refl
+end_in-other _ vs e h = refl

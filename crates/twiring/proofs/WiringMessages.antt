@@ -1,7 +1,6 @@
 -- What a message stands for, by what the library decodes.
-use Rattle.std.proofs.Common.{◌≡◌, ◌⊎◌, inl, inr, ℕ, ◌+◌, ◌*◌, ◌%◌, refl, sym, ap, ◌∙◌}
-use Rattle.std.proofs.Common.{List, [], ◌∷◌, length, Option, Some, None, Result, Ok, Err}
-use Rattle.std.proofs.Common.{arith}
+use Rattle.std.proofs.Common.{◌≡◌, ◌⊎◌, inl, inr, ℕ, ◌+◌, ◌*◌, ◌%◌, refl, sym, ap, ◌∙◌, List, [], ◌∷◌, length, Option}
+use Rattle.std.proofs.Common.{Some, None, Result, Ok, Err, arith}
 use Rattle.std.proofs.lemmas.Bool.{cases_eq}
 use Rattle.hex.specs.Hex.{decode_of, decode_pairs, digit_or_error, hex_digit_value, ◌>>=◌}
 use Rattle.hex.specs.declared.error.FromHexError.{FromHexError}
@@ -23,9 +22,7 @@ one_pair : (i a b : ℕ) (h l : Option ℕ) (r : Result (List ℕ) FromHexError)
     ((digit_or_error a i h >>= (λ high. digit_or_error b (i + 1) l >>= (λ low. Ok (high * 16 + low))))
     >>= (λ byte. r >>= (λ bytes. Ok (byte ∷ bytes))))
 one_pair i a b (Some h) (Some l) (Ok bytes) = refl
-one_pair i a b (Some h) (Some l) (Err e) = refl
-one_pair i a b (Some h) None r = refl
-one_pair i a b None l r = refl
+one_pair i a b _ _ _ = refl
 
 -- pairs of digits
 pairs : (i : ℕ) (s : List ℕ) → bytes_of s ≡ decoded (decode_pairs i s)

@@ -4,8 +4,7 @@ use Rattle.std.proofs.Common.{◌||◌, ◌&&◌, List, [], ◌∷◌, ◌++◌,
 use Rattle.std.proofs.Common.{codes, bytes_eq, append_assoc, append-nil, if◌then◌else◌}
 use Rattle.std.specs.List.{list_any, list_all}
 use mathlib.Core.Bool.{or_assoc, or-false, or-true}
-use Rattle.toml.specs.Data.{Data, string, integer, float, boolean, datetime, array, table, Items, no_items, item}
-use Rattle.toml.specs.Data.{Members}
+use Rattle.toml.specs.Data.{Data, string, integer, array, table, Items, no_items, item, Members}
 use Rattle.tplan.specs.declared.plan.End.{End}
 use Rattle.tplan.specs.declared.event.PacketKind.TheVariants as kind
 use Rattle.tplan.specs.declared.wiring.WiringFault.TheVariants.{UnknownKey, MissingKey, WrongType, BadVersion}
@@ -68,70 +67,15 @@ judged t x = judge t.unknown t.missing t.wrong t.version t.number t.message t.ki
 both-judge : {A B : Type 0} (u m w v n g i p q r s t k j : Bool) (x : A) (y : B)
     → both (judge u m w v n g i x) (judge p q r s t k j y)
     ≡ judge (u || p) (m || q) (w || r) (v || s) (n || t) (g || k) (i || j) (x, y)
-both-judge true m w v n g i true q r s t k j x y = refl
-both-judge true m w v n g i false true r s t k j x y = refl
-both-judge true m w v n g i false false true s t k j x y = refl
-both-judge true m w v n g i false false false true t k j x y = refl
-both-judge true m w v n g i false false false false true k j x y = refl
-both-judge true m w v n g i false false false false false true j x y = refl
-both-judge true m w v n g i false false false false false false true x y = refl
 both-judge true m w v n g i false false false false false false false x y = refl
-both-judge false true w v n g i true q r s t k j x y = refl
-both-judge false true w v n g i false true r s t k j x y = refl
-both-judge false true w v n g i false false true s t k j x y = refl
-both-judge false true w v n g i false false false true t k j x y = refl
-both-judge false true w v n g i false false false false true k j x y = refl
-both-judge false true w v n g i false false false false false true j x y = refl
-both-judge false true w v n g i false false false false false false true x y = refl
 both-judge false true w v n g i false false false false false false false x y = refl
-both-judge false false true v n g i true q r s t k j x y = refl
-both-judge false false true v n g i false true r s t k j x y = refl
-both-judge false false true v n g i false false true s t k j x y = refl
-both-judge false false true v n g i false false false true t k j x y = refl
-both-judge false false true v n g i false false false false true k j x y = refl
-both-judge false false true v n g i false false false false false true j x y = refl
-both-judge false false true v n g i false false false false false false true x y = refl
 both-judge false false true v n g i false false false false false false false x y = refl
-both-judge false false false true n g i true q r s t k j x y = refl
-both-judge false false false true n g i false true r s t k j x y = refl
-both-judge false false false true n g i false false true s t k j x y = refl
-both-judge false false false true n g i false false false true t k j x y = refl
-both-judge false false false true n g i false false false false true k j x y = refl
-both-judge false false false true n g i false false false false false true j x y = refl
-both-judge false false false true n g i false false false false false false true x y = refl
 both-judge false false false true n g i false false false false false false false x y = refl
-both-judge false false false false true g i true q r s t k j x y = refl
-both-judge false false false false true g i false true r s t k j x y = refl
-both-judge false false false false true g i false false true s t k j x y = refl
-both-judge false false false false true g i false false false true t k j x y = refl
-both-judge false false false false true g i false false false false true k j x y = refl
-both-judge false false false false true g i false false false false false true j x y = refl
-both-judge false false false false true g i false false false false false false true x y = refl
 both-judge false false false false true g i false false false false false false false x y = refl
-both-judge false false false false false true i true q r s t k j x y = refl
-both-judge false false false false false true i false true r s t k j x y = refl
-both-judge false false false false false true i false false true s t k j x y = refl
-both-judge false false false false false true i false false false true t k j x y = refl
-both-judge false false false false false true i false false false false true k j x y = refl
-both-judge false false false false false true i false false false false false true j x y = refl
-both-judge false false false false false true i false false false false false false true x y = refl
 both-judge false false false false false true i false false false false false false false x y = refl
-both-judge false false false false false false true true q r s t k j x y = refl
-both-judge false false false false false false true false true r s t k j x y = refl
-both-judge false false false false false false true false false true s t k j x y = refl
-both-judge false false false false false false true false false false true t k j x y = refl
-both-judge false false false false false false true false false false false true k j x y = refl
-both-judge false false false false false false true false false false false false true j x y = refl
-both-judge false false false false false false true false false false false false false true x y = refl
 both-judge false false false false false false true false false false false false false false x y = refl
-both-judge false false false false false false false true q r s t k j x y = refl
-both-judge false false false false false false false false true r s t k j x y = refl
-both-judge false false false false false false false false false true s t k j x y = refl
-both-judge false false false false false false false false false false true t k j x y = refl
-both-judge false false false false false false false false false false false true k j x y = refl
-both-judge false false false false false false false false false false false false true j x y = refl
-both-judge false false false false false false false false false false false false false true x y = refl
 both-judge false false false false false false false false false false false false false false x y = refl
+both-judge _ _ _ _ _ _ _ _ _ _ _ _ _ _ x y = refl
 
 pub both-judged : {A B : Type 0} (s t : Tests) (x : A) (y : B)
     → both (judged s x) (judged t y) ≡ judged (either s t) (x, y)
@@ -142,14 +86,8 @@ both-judged s t x y =
 
 made-judge : {A B : Type 0} (f : A → B) (u m w v n g i : Bool) (x : A)
     → made f (judge u m w v n g i x) ≡ judge u m w v n g i (f x)
-made-judge f true m w v n g i x = refl
-made-judge f false true w v n g i x = refl
-made-judge f false false true v n g i x = refl
-made-judge f false false false true n g i x = refl
-made-judge f false false false false true g i x = refl
-made-judge f false false false false false true i x = refl
-made-judge f false false false false false false true x = refl
 made-judge f false false false false false false false x = refl
+made-judge f _ _ _ _ _ _ _ x = refl
 
 pub made-judged : {A B : Type 0} (f : A → B) (t : Tests) (x : A) → made f (judged t x) ≡ judged t (f x)
 unfolding judged
@@ -217,12 +155,7 @@ pub number_in-judged : (otherwise : ℕ) (d : Data)
 unfolding judged
 number_in-judged k (integer (pos n)) = number-judged (nat_lt n (2 ^ 32)) n
 number_in-judged k (integer (negsuc n)) = refl
-number_in-judged k (string s) = refl
-number_in-judged k (float x) = refl
-number_in-judged k (boolean b) = refl
-number_in-judged k (datetime t) = refl
-number_in-judged k (array a) = refl
-number_in-judged k (table t) = refl
+number_in-judged k _ = refl
 
 pub timeslice-judged : (k : ℕ) (o : Option Data)
     → value_or (Ok k) number_in o
@@ -236,32 +169,21 @@ pub text_in-judged : (d : Data)
     → text_in d ≡ judged (record passed { wrong = not (is_text d) }) (text_of (Some d))
 unfolding judged
 text_in-judged (string s) = refl
-text_in-judged (integer z) = refl
-text_in-judged (float x) = refl
-text_in-judged (boolean b) = refl
-text_in-judged (datetime t) = refl
-text_in-judged (array a) = refl
-text_in-judged (table t) = refl
+text_in-judged _ = refl
 
 -- kinds of packets
 kind-judged : (b ack : Bool) → (if ack then Ok kind.Ack else if b then Ok kind.Data else Err WrongType)
     ≡ judged (record passed { wrong = not (b || ack) }) (if ack then kind.Ack else kind.Data)
 unfolding judged
 kind-judged true true = refl
-kind-judged false true = refl
-kind-judged true false = refl
 kind-judged false false = refl
+kind-judged _ _ = refl
 
 pub kind_in-judged : (d : Data)
     → kind_in d ≡ judged (record passed { wrong = not (is_kind d) }) (kind_of (Some d))
 unfolding judged
 kind_in-judged (string s) = kind-judged (bytes_eq s (codes "data")) (bytes_eq s (codes "ack"))
-kind_in-judged (integer z) = refl
-kind_in-judged (float x) = refl
-kind_in-judged (boolean b) = refl
-kind_in-judged (datetime t) = refl
-kind_in-judged (array a) = refl
-kind_in-judged (table t) = refl
+kind_in-judged _ = refl
 
 -- kinds of nodes
 node_kind-listed : (two one : Bool)
@@ -269,9 +191,8 @@ node_kind-listed : (two one : Bool)
     ≡ judged (record passed { kind = not (one || two) }) (if two then Two else One)
 unfolding judged
 node_kind-listed true true = refl
-node_kind-listed true false = refl
-node_kind-listed false true = refl
 node_kind-listed false false = refl
+node_kind-listed _ _ = refl
 
 node_kind-judged : (b : Bool) (n : ℕ)
     → node_kind (if b then Ok n else Err BadNumber)
@@ -291,12 +212,7 @@ node_kind_in-judged : (d : Data)
 unfolding judged
 node_kind_in-judged (integer (pos n)) = node_kind-judged (nat_lt n (2 ^ 32)) n
 node_kind_in-judged (integer (negsuc n)) = refl
-node_kind_in-judged (string s) = refl
-node_kind_in-judged (float x) = refl
-node_kind_in-judged (boolean b) = refl
-node_kind_in-judged (datetime t) = refl
-node_kind_in-judged (array a) = refl
-node_kind_in-judged (table t) = refl
+node_kind_in-judged _ = refl
 
 pub node_kind_or_one-judged : (o : Option Data)
     → value_or (Ok One) node_kind_in o
@@ -321,12 +237,7 @@ pub version_in-judged : (d : Data)
 unfolding judged
 version_in-judged (integer (pos n)) = version-judged (n == 1 || n == 2) tt
 version_in-judged (integer (negsuc n)) = refl
-version_in-judged (string s) = refl
-version_in-judged (float x) = refl
-version_in-judged (boolean b) = refl
-version_in-judged (datetime t) = refl
-version_in-judged (array a) = refl
-version_in-judged (table t) = refl
+version_in-judged _ = refl
 
 -- ends
 abbrev end_from : ℕ × ℕ → End
@@ -351,8 +262,7 @@ pos_pair : (b c : Bool) (e : End)
     ≡ judged (record passed { number = not (not (not b || not c)) }) e
 unfolding judged
 pos_pair true true e = refl
-pos_pair true false e = refl
-pos_pair false c e = refl
+pos_pair _ _ e = refl
 
 pos_other : (b : Bool) (e f : End)
     → judged (record passed { number = not (not (not b)) || true }) e
@@ -366,44 +276,17 @@ unfolding judged
 pair-tests (integer (pos n)) (integer (pos l)) = pos_pair (nat_lt n (2 ^ 32)) (nat_lt l (2 ^ 32)) (end_from (n, l))
 pair-tests (integer (pos n)) (integer (negsuc l)) = pos_other (nat_lt n (2 ^ 32)) (end_from (n, 0)) (end_from (0, 0))
 pair-tests (integer (negsuc n)) (integer l) = refl
-pair-tests (integer n) (string s) = refl
-pair-tests (integer n) (float x) = refl
-pair-tests (integer n) (boolean b) = refl
-pair-tests (integer n) (datetime t) = refl
-pair-tests (integer n) (array a) = refl
-pair-tests (integer n) (table t) = refl
-pair-tests (string s) l = refl
-pair-tests (float x) l = refl
-pair-tests (boolean b) l = refl
-pair-tests (datetime t) l = refl
-pair-tests (array a) l = refl
-pair-tests (table t) l = refl
+pair-tests _ _ = refl
 
 one-tests : (n : Data) → Err WrongType ≡ end_tests (array (item n no_items))
 unfolding judged
 one-tests (integer z) = refl
-one-tests (string s) = refl
-one-tests (float x) = refl
-one-tests (boolean b) = refl
-one-tests (datetime t) = refl
-one-tests (array a) = refl
-one-tests (table t) = refl
+one-tests _ = refl
 
 many-tests : (n l d : Data) (rest : Items) → Err WrongType ≡ end_tests (array (item n (item l (item d rest))))
 unfolding judged
 many-tests (integer z) (integer y) d rest = refl
-many-tests (integer z) (string s) d rest = refl
-many-tests (integer z) (float x) d rest = refl
-many-tests (integer z) (boolean b) d rest = refl
-many-tests (integer z) (datetime t) d rest = refl
-many-tests (integer z) (array a) d rest = refl
-many-tests (integer z) (table t) d rest = refl
-many-tests (string s) l d rest = refl
-many-tests (float x) l d rest = refl
-many-tests (boolean b) l d rest = refl
-many-tests (datetime t) l d rest = refl
-many-tests (array a) l d rest = refl
-many-tests (table t) l d rest = refl
+many-tests _ _ d rest = refl
 
 pair-judged : (n l : Data) → end_in (pair_of n l) ≡ end_tests (pair_of n l)
 pair-judged n l =
@@ -413,15 +296,9 @@ pair-judged n l =
 pub end_in-judged : (d : Data) → end_in d ≡ end_tests d
 unfolding judged
 end_in-judged (array (item n (item l no_items))) = pair-judged n l
-end_in-judged (array no_items) = refl
 end_in-judged (array (item n no_items)) = one-tests n
 end_in-judged (array (item n (item l (item d rest)))) = many-tests n l d rest
-end_in-judged (string s) = refl
-end_in-judged (integer z) = refl
-end_in-judged (float x) = refl
-end_in-judged (boolean b) = refl
-end_in-judged (datetime t) = refl
-end_in-judged (table t) = refl
+end_in-judged _ = refl
 
 -- messages
 message-judged : (m : Option (List ℕ))
@@ -434,12 +311,7 @@ pub message_in-judged : (d : Data)
     → message_in d ≡ judged (record passed { wrong = not (is_text d); message = is_no_message d }) (message_at d)
 unfolding judged
 message_in-judged (string s) = message-judged (message_of s)
-message_in-judged (integer z) = refl
-message_in-judged (float x) = refl
-message_in-judged (boolean b) = refl
-message_in-judged (datetime t) = refl
-message_in-judged (array a) = refl
-message_in-judged (table t) = refl
+message_in-judged _ = refl
 
 more-messages : (w g : Bool) (xs : List (List ℕ)) (items : Items)
     → more_in message_in (judged (record passed { wrong = w; message = g }) xs) items
@@ -461,9 +333,8 @@ more-messages w g xs (item d rest) =
     ∙ ap (judged _) (append_assoc xs (message_at d ∷ []) (map message_at (items_in rest)))
   where
     wrong_text : (w a b : Bool) → ((w || not a) || not b) ≡ (w || not (a && b))
-    wrong_text true a b = refl
     wrong_text false true b = refl
-    wrong_text false false b = refl
+    wrong_text _ _ b = refl
 
 pub messages_in-judged : (d : Data)
     → array_in message_in d
@@ -471,12 +342,7 @@ pub messages_in-judged : (d : Data)
     (map message_at (items_of (Some d)))
 unfolding judged
 messages_in-judged (array items) = more-messages false false [] items
-messages_in-judged (string s) = refl
-messages_in-judged (integer z) = refl
-messages_in-judged (float x) = refl
-messages_in-judged (boolean b) = refl
-messages_in-judged (datetime t) = refl
-messages_in-judged (table t) = refl
+messages_in-judged _ = refl
 
 -- the tests of a part without a version
 abbrev pub tested : Bool → Bool → Bool → Bool → Bool → Bool → Tests
@@ -522,19 +388,12 @@ module _ {A : Type 0} (part : Members → Reading A) (unknown missing wrong numb
   no_table : (u m w n g k : Bool) (xs : List A)
       → one_more (judged (tested u m w n g k) xs) (Err WrongType) ≡ judged (tested u m true n g k) xs
   unfolding judged
-  no_table true m w n g k xs = refl
-  no_table false true w n g k xs = refl
-  no_table false false true n g k xs = refl
-  no_table false false false true g k xs = refl
-  no_table false false false false true k xs = refl
-  no_table false false false false false true xs = refl
   no_table false false false false false false xs = refl
+  no_table _ _ _ _ _ _ xs = refl
 
   wrong_more : (a b c d : Bool) → ((a || b) || (c || d)) ≡ (a || (c || (b || d)))
-  wrong_more true b c d = refl
   wrong_more false true true d = refl
-  wrong_more false true false d = refl
-  wrong_more false false c d = refl
+  wrong_more _ _ _ d = refl
 
   other-judged : (u m w n g k : Bool) (xs : List A) (rest : Items)
       → more_in (table_in part) (judged (tested u m true n g k) xs) rest ≡ more_tests u m true n g k xs rest
@@ -562,17 +421,7 @@ module _ {A : Type 0} (part : Members → Reading A) (unknown missing wrong numb
       (or_assoc n (number t) (seen number rest)) (or_assoc g (message t) (seen message rest))
       (or_assoc k (kind t) (seen kind rest))
       ∙ ap (judged _) (append_assoc xs (value t ∷ []) (map value (tables_in rest)))
-  more-judged u m w n g k xs (item (string s) rest) =
-      other-judged u m w n g k xs rest (more-judged u m true n g k xs rest)
-  more-judged u m w n g k xs (item (integer z) rest) =
-      other-judged u m w n g k xs rest (more-judged u m true n g k xs rest)
-  more-judged u m w n g k xs (item (float x) rest) =
-      other-judged u m w n g k xs rest (more-judged u m true n g k xs rest)
-  more-judged u m w n g k xs (item (boolean b) rest) =
-      other-judged u m w n g k xs rest (more-judged u m true n g k xs rest)
-  more-judged u m w n g k xs (item (datetime t) rest) =
-      other-judged u m w n g k xs rest (more-judged u m true n g k xs rest)
-  more-judged u m w n g k xs (item (array a) rest) =
+  more-judged u m w n g k xs (item _ rest) =
       other-judged u m w n g k xs rest (more-judged u m true n g k xs rest)
 
   -- the tables at a key
@@ -583,11 +432,5 @@ module _ {A : Type 0} (part : Members → Reading A) (unknown missing wrong numb
       (list_any message (tables_of o)) (list_any kind (tables_of o)))
       (map value (tables_of o))
   unfolding judged
-  array-judged None = refl
   array-judged (Some (array items)) = more-judged false false false false false false [] items
-  array-judged (Some (string s)) = refl
-  array-judged (Some (integer z)) = refl
-  array-judged (Some (float x)) = refl
-  array-judged (Some (boolean b)) = refl
-  array-judged (Some (datetime t)) = refl
-  array-judged (Some (table t)) = refl
+  array-judged _ = refl

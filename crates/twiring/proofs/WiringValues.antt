@@ -24,9 +24,8 @@ use Rattle.twiring.specs.WiringParts.{message_in, version_in, node_in, wire_in, 
 use Rattle.twiring.specs.WiringParts.{array_in, array_at, head_in, ends_in, Arrays, arrays_in, wiring_in}
 use Rattle.twiring.proofs.WiringTests.{Tests, passed, either, tested, judged, same_judged, both-judged, made-judged}
 use Rattle.twiring.proofs.WiringTests.{known-judged, required-judged, timeslice-judged, never, is_good_number}
-use Rattle.twiring.proofs.WiringTests.{node_kind_or_one-judged}
-use Rattle.twiring.proofs.WiringTests.{number_in-judged, text_in-judged, end_in-judged, kind_in-judged}
-use Rattle.twiring.proofs.WiringTests.{messages_in-judged, version_in-judged, array-judged}
+use Rattle.twiring.proofs.WiringTests.{node_kind_or_one-judged, number_in-judged, text_in-judged, end_in-judged}
+use Rattle.twiring.proofs.WiringTests.{kind_in-judged, messages_in-judged, version_in-judged, array-judged}
 
 -- a number, a text, an end, a kind, messages and a version that have to be there
 number-judged : (key : List ℕ) (t : Members)
@@ -335,19 +334,13 @@ arrays_in-judged t =
 
 -- the order of the tests
 one_by_one : (r n w s k h : Bool) → (r || ((n || w) || ((s || k) || h))) ≡ (r || n || w || s || k || h)
-one_by_one true n w s k h = refl
-one_by_one false true w s k h = refl
-one_by_one false false true s k h = refl
-one_by_one false false false true k h = refl
-one_by_one false false false false true h = refl
 one_by_one false false false false false h = refl
+one_by_one _ _ _ _ _ h = refl
 
 -- kinds first
 kinds_first : (a x b y : Bool) → ((a || x) || (b || y)) ≡ ((a || b) || (x || y))
-kinds_first true x b y = refl
 kinds_first false true true y = refl
-kinds_first false true false y = refl
-kinds_first false false b y = refl
+kinds_first _ _ _ y = refl
 
 wrong_by_kind : (r a x b y c z d p e q : Bool)
     → (r || (((a || x) || (b || y)) || (((c || z) || (d || p)) || (e || q))))

@@ -1,25 +1,16 @@
 -- A memory's bytes as the cells of a store.
 use Rattle.std.proofs.Common.{◌≡◌, ℕ, ◌+◌, ◌-◌, ◌<◌, ◌≤◌, refl, sym, ap, ◌∙◌, List, [], ◌∷◌, ◌++◌, length, take, drop}
-use Rattle.std.proofs.Common.{replicate, zero, suc, Some, true, ◌⊎◌, inl, inr, set, length-take, length-drop}
-use Rattle.std.proofs.Common.{append_assoc, arith}
+use Rattle.std.proofs.Common.{replicate, zero, suc, Some, set, length-take, length-drop, append_assoc, arith}
 use Rattle.std.specs.Prelude.{slice_range}
 use Rattle.std.specs.Int.{w32, from_le_bytes}
 use Rattle.std.proofs.lemmas.List.{length-map, take-map, drop-map, take-append-drop, take-set, drop-set}
 use Rattle.std.specs.List.{copy_within}
-use Rattle.tword.specs.declared.span.Span.{Span}
-use Rattle.tword.specs.Touches.{is_inside}
-use Rattle.tword.proofs.Passing.{inside_bounds}
-use Rattle.tword.specs.Words.{most_neg}
 use Rattle.tword.specs.Stores.{Store, as_cells, shown, place, cells, with_cells, word_at}
 
 -- bytes that become cells are shown again
 pub shown-as_cells : (bytes : List ℕ) → shown (as_cells bytes) ≡ bytes
 shown-as_cells [] = refl
 shown-as_cells (b ∷ bytes) = ap (λ (bs : List ℕ). b ∷ bs) (shown-as_cells bytes)
-
--- so equal cells have equal bytes
-pub as_cells-same : (bytes others : List ℕ) → as_cells bytes ≡ as_cells others → bytes ≡ others
-as_cells-same bytes others e = sym (shown-as_cells bytes) ∙ ap (λ (s : Store). shown s) e ∙ shown-as_cells others
 
 pub as_cells-replicate : (n b : ℕ) → as_cells (replicate n b) ≡ replicate n (Some b)
 as_cells-replicate zero b = refl
@@ -55,16 +46,6 @@ pub word_at-as_cells : (bytes : List ℕ) (a : ℕ)
 word_at-as_cells bytes a =
     ap (λ (bs : List ℕ). from_le_bytes w32 bs) (ap (λ (s : Store). shown s) (cells-as_cells bytes a 4)
     ∙ shown-as_cells (slice_range bytes (place a) (place a + 4)))
-
--- where a span of one byte or more lies that is in the memory
-pub bounds : (n : ℕ) (span : Span) → is_inside n span ≡ true → 0 < span.size → (most_neg ≤ span.start)
-    × (place span.start + span.size ≤ n)
-bounds n span h some = by (inside_bounds n span h)
-  where
-    by : (span.size ≡ 0) ⊎ ((most_neg ≤ span.start) × (span.start - most_neg + span.size ≤ n)) → (most_neg ≤ span.start)
-        × (place span.start + span.size ≤ n)
-    by (inl none) = absurd (omega arith)
-    by (inr both) = both
 
 -- a word that is read from bytes
 pub word_read : (bytes : List ℕ) (store : Store) (a at r : ℕ) → as_cells bytes ≡ store → at ≡ place a

@@ -1,8 +1,7 @@
 -- The table of claims: what an empty word tells, and how the counts follow the claims.
-use Rattle.std.proofs.Common.{◌≡◌, ◌≢◌, ℕ, ◌+◌, ◌-◌, ◌/◌, ◌<◌, ◌≤◌, Bool, true, false, min, eqb, ◌⊎◌}
-use Rattle.std.proofs.Common.{inl, inr, List, [], ◌∷◌, length, get_or, set, take, drop, replicate, refl, sym, ap, ◌∙◌}
+use Rattle.std.proofs.Common.{◌≡◌, ◌≢◌, ℕ, ◌+◌, ◌-◌, ◌/◌, ◌<◌, ◌≤◌, Bool, true, false, eqb, ◌⊎◌, inl, inr, List, []}
+use Rattle.std.proofs.Common.{◌∷◌, length, get_or, set, take, drop, replicate, refl, sym, ap, ◌∙◌, Option, Some, None}
 use Rattle.std.proofs.Common.{arith}
-use Rattle.std.proofs.Common.{Option, Some, None}
 use Rattle.std.proofs.lemmas.Bool.{le-ltb, lt-ltb, ltb-true, ne_eqb, cases_eq, cases_lt, and_parts}
 use Rattle.std.proofs.lemmas.Grind.{get_or-set_at}
 use Rattle.std.proofs.lemmas.List.{get_or-drop, get_or-set_other, get_or-take, length-drop, length-set, length-take-le}
@@ -13,8 +12,8 @@ use Rattle.tword.specs.declared.span.Span.{Span}
 use Rattle.tword.specs.Words.{word_below}
 use Rattle.tword.specs.Claims.{overlap, overlaps_claim, saved_words}
 use Rattle.tword.specs.Limits.{most_processes}
-use Rattle.tword.specs.Slots.{lowest_word, word_at, is_among, behind_words, has_word, claims_word, saves_word}
-use Rattle.tword.specs.Slots.{claims_in, saved_in, AreEmpty, Counts, HasRoom, IsEmpty, IsExchanged, IsTally}
+use Rattle.tword.specs.Slots.{lowest_word, word_at, is_among, behind_words, has_word, claims_word, saves_word, claims_in}
+use Rattle.tword.specs.Slots.{saved_in, AreEmpty, Counts, CountsHaveRoom, IsEmpty, IsExchanged, IsTally}
 
 -- a number among some, below them, and above them
 among_in : (first behind number : ℕ) → first ≤ number → number < behind → is_among first behind number ≡ 1
@@ -158,8 +157,9 @@ all_apart ins outs ws counts start size is empty =
     here k p q = none_in ins outs ws counts k is (empty k p q)
 
 -- no count is the largest one
-pub has_room : (ins outs : List (Option Span)) (ws counts : List ℕ) → IsTally ins outs ws counts → HasRoom counts
-has_room ins outs ws counts is = λ slot lt.
+pub counts_have_room : (ins outs : List (Option Span)) (ws counts : List ℕ) → IsTally ins outs ws counts
+    → CountsHaveRoom counts
+counts_have_room ins outs ws counts is = λ slot lt.
     let word = word_at slot in
     let a = sum_by-le (claims_word word) 1 ins (λ k d _. claims_word-le word (get_or ins k d)) in
     let b = sum_by-le (claims_word word) 1 outs (λ k d _. claims_word-le word (get_or outs k d)) in
@@ -195,22 +195,21 @@ tally_input ins outs ws counts new i before claim is lt e changed = record {
   saved = is.saved;
 }
 
+-- inputs and outputs count alike
+swapped : (ins outs : List (Option Span)) (ws counts : List ℕ) → IsTally ins outs ws counts → IsTally outs ins ws counts
+swapped ins outs ws counts is = record {
+  counted = λ slot within. omega (arith, is.counted slot within);
+  inputs = is.outputs;
+  outputs = is.inputs;
+  saved = is.saved;
+}
+
 pub tally_output : (ins outs : List (Option Span)) (ws counts new : List ℕ) (i : ℕ) (before claim : Option Span)
     → IsTally ins outs ws counts → i < 4 → before ≡ get_or outs i None → IsExchanged before claim counts new
     → IsTally ins (set outs i claim) ws new
-tally_output ins outs ws counts new i before claim is lt e changed = record {
-  counted = λ slot within.
-      let old : slot < length counts = omega (arith, within, changed.size) in
-      let total = is.counted slot old in
-      let step = changed.counted slot old in
-      let sums = sum_by-set (claims_word (word_at slot)) outs i claim None (omega (arith, is.outputs)) in
-      let same : claims_word (word_at slot) before ≡ claims_word (word_at slot) (get_or outs i None) =
-      ap (claims_word (word_at slot)) e in
-      omega (arith, total, step, sums, same);
-  inputs = is.inputs;
-  outputs = length-set outs i claim ∙ is.outputs;
-  saved = is.saved;
-}
+tally_output ins outs ws counts new i before claim is lt e changed =
+    swapped (set outs i claim) ins ws new
+    (tally_input outs ins ws counts new i before claim (swapped ins outs ws counts is) lt e changed)
 
 -- what a link claims is counted
 pub enough_input : (ins outs : List (Option Span)) (ws counts : List ℕ) (i : ℕ) (before : Option Span)
@@ -226,12 +225,8 @@ enough_input ins outs ws counts i before is lt e slot within =
 pub enough_output : (ins outs : List (Option Span)) (ws counts : List ℕ) (i : ℕ) (before : Option Span)
     → IsTally ins outs ws counts → i < 4 → before ≡ get_or outs i None
     → (slot : ℕ) → slot < length counts → claims_word (word_at slot) before ≤ get_or counts slot 0
-enough_output ins outs ws counts i before is lt e slot within =
-    let total = is.counted slot within in
-    let one = get_or-le-sum_by (claims_word (word_at slot)) outs i None (omega (arith, is.outputs)) in
-    let same : claims_word (word_at slot) before ≡ claims_word (word_at slot) (get_or outs i None) =
-    ap (claims_word (word_at slot)) e in
-    omega (arith, total, one, same)
+enough_output ins outs ws counts i before is lt e =
+    enough_input outs ins ws counts i before (swapped ins outs ws counts is) lt e
 
 -- the table with the words of one more workspace
 pub tally_push : (ins outs : List (Option Span)) (ws counts new : List ℕ) (w : ℕ) → IsTally ins outs ws counts
@@ -281,14 +276,6 @@ absent_by_count ws w empty =
     let one = get_or-le-sum_by (saves_word word) ws i d lt in
     let same : saves_word word (get_or ws i d) ≡ saves_word word w = ap (saves_word word) e in
     omega (arith, one, same, empty, word_in word (saved_words w) (omega arith) (omega arith) (omega arith))))
-
--- the words of a span, by their slots
-pub clipped : (s : Span) (slot slots first behind : ℕ) → 0 < s.size → slot < slots
-    → first ≡ min slots (s.start / 4 - lowest_word) → behind ≡ min slots ((s.start + s.size + 3) / 4 - lowest_word)
-    → has_word (word_at slot) s ≡ is_among first behind slot
-clipped s slot slots first behind some lt p q =
-    rw (behind_some s some) (among_moved (s.start / 4) ((s.start + s.size + 3) / 4) first behind (word_at slot) slot
-    (λ a. omega arith) (λ a. omega arith) (λ a. omega arith) (λ a. omega arith))
 
 -- the next number is among one more, and each other as before
 next_one : (first behind : ℕ) → first ≤ behind → (is_among first behind behind ≡ 0)
@@ -340,15 +327,6 @@ down_more cs start first k behind lt size p q enough so_far slot within =
           let kept = get_or-set_other cs k slot (get_or cs k 0 - 1) 0 n in
           omega (arith, kept, elsewhere first k slot n, so_far slot within)
     ]
-
--- a slot that is yet to be counted down has a count
-pub still_some : (cs start : List ℕ) (first k behind : ℕ) → k < length start → first ≤ k → k < behind
-    → ((slot : ℕ) → slot < length start → is_among first behind slot ≤ get_or start slot 0)
-    → ((slot : ℕ) → slot < length start → get_or cs slot 0 + is_among first k slot ≡ get_or start slot 0)
-    → 0 < get_or cs k 0
-still_some cs start first k behind lt p q enough so_far =
-    let t = next_one first k p in
-    omega (arith, t, among_in first behind k p q, enough k lt, so_far k lt)
 
 -- where some counts in a row come to nothing, each of them is nothing
 pub none_summed : (cs : List ℕ) (first behind i : ℕ) → first ≤ behind → behind ≤ length cs

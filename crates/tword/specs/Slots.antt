@@ -1,6 +1,6 @@
 -- How many claims have each word of a memory.
 -- Source: own choice, what the code keeps beside the claims.
-use Rattle.std.specs.Prelude.{◌≡◌, ℕ, ◌+◌, ◌-◌, ◌/◌, ◌%◌, ◌<◌, ◌≤◌, ◌==◌, List, Option, Some, None, length, slice_index}
+use Rattle.std.specs.Prelude.{◌≡◌, ℕ, ◌+◌, ◌-◌, ◌/◌, ◌<◌, ◌≤◌, ◌==◌, List, Option, Some, None, length, slice_index}
 use Rattle.std.specs.Prelude.{reverse, nat_lt, if◌then◌else◌}
 use Rattle.std.specs.List.{sum_by, count_by}
 use Rattle.tword.specs.declared.span.Span.{Span}
@@ -73,8 +73,8 @@ pub record IsTally (ins outs : List (Option Span)) (workspaces counts : List ℕ
   pub saved : length workspaces ≤ most_processes
 
 -- no count is the largest one
-abbrev pub HasRoom : List ℕ → Type 0
-HasRoom counts = (slot : ℕ) → slot < length counts → slice_index counts slot < 65535
+abbrev pub CountsHaveRoom : List ℕ → Type 0
+CountsHaveRoom counts = (slot : ℕ) → slot < length counts → slice_index counts slot < 65535
 
 -- the counts where one thing is claimed in the place of another
 pub record IsExchanged (before claim : Option Span) (old new : List ℕ) : Type 0 where

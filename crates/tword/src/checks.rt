@@ -1,6 +1,6 @@
 //! The checks of touches, without an access: for a row that makes several before its first change.
 
-ghost use Rattle.std.specs.Prelude.{◌≡◌, OnOk, None, length, true};
+ghost use Rattle.std.specs.Prelude.{◌≡◌, OnOk, length, true};
 ghost use Rattle.tword.specs.Actions.{or_break};
 ghost use Rattle.tword.specs.Touches.{Reads, Writes, place_break, word_place_break, span_break, word_break};
 ghost use Rattle.tword.specs.Touches.{copy_break, deschedule_break, is_inside, word_span};

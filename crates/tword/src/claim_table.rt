@@ -1,10 +1,10 @@
 //! How many claims have each word of a memory.
 
 ghost use Rattle.std.specs.Prelude.{◌≡◌, ◌+◌, ◌-◌, ◌%◌, ◌/◌, ◌*◌, ◌<◌, ◌≤◌, IfOk, IfSome, ℕ, length, slice_index};
-ghost use Rattle.std.specs.Prelude.{None, Some, replicate, sum, true};
+ghost use Rattle.std.specs.Prelude.{None, Some, sum, true};
 ghost use Rattle.tword.specs.Slots.{word_at, lowest_word, is_among, has_word};
 ghost use Rattle.tword.specs.Slots as spec;
-ghost use Rattle.tword.specs.Slots.{AreEmpty, Counts, HasRoom, IsEmpty, IsExchanged};
+ghost use Rattle.tword.specs.Slots.{AreEmpty, Counts, CountsHaveRoom, IsEmpty, IsExchanged};
 
 use crate::limits::MOST_NEG;
 use crate::span::Span;
@@ -110,7 +110,7 @@ impl ClaimTable {
     /// Counts one more claim, of a span.
     #[inline]
     pub fn raise(&mut self, span: &Span)
-        requires room { HasRoom self.old }
+        requires room { CountsHaveRoom self.old }
         ensures { IsExchanged None (Some span.now) self.old self.new }
     {
         let counts = self.counts.as_mut_slice();
@@ -144,7 +144,7 @@ impl ClaimTable {
     pub fn exchange(&mut self, before: &Option<Span>, claim: &Option<Span>)
         requires some { (slot : ℕ) → slot < length self.old
             → spec.claims_word (word_at slot) before.now ≤ slice_index self.old slot }
-        requires room { HasRoom self.old }
+        requires room { CountsHaveRoom self.old }
         ensures { IsExchanged before.now claim.now self.old self.new }
     {
         if let Some(span) = before {
@@ -219,7 +219,7 @@ fn has_three_in_a_row(span: &Span, first: usize, slots: usize) -> bool
 #[inline(always)]
 fn count_three_up(counts: &mut [u16], first: usize)
     requires within { first + 3 ≤ length counts.old }
-    requires room { HasRoom counts.old }
+    requires room { CountsHaveRoom counts.old }
     ensures { (slot : ℕ) → slot < length counts.old
         → slice_index counts.new slot ≡ slice_index counts.old slot + is_among first (first + 3) slot }
 {
@@ -247,7 +247,7 @@ fn count_three_down(counts: &mut [u16], first: usize)
 fn count_up(counts: &mut [u16], first: usize, behind: usize)
     requires order { first ≤ behind }
     requires within { behind ≤ length counts.old }
-    requires room { HasRoom counts.old }
+    requires room { CountsHaveRoom counts.old }
     ensures { (slot : ℕ) → slot < length counts.old
         → slice_index counts.new slot ≡ slice_index counts.old slot + is_among first behind slot }
 {

@@ -1,6 +1,6 @@
 //! The buffers of pending link messages.
 
-ghost use Rattle.std.specs.Prelude.{◌≡◌, ◌+◌, ◌<◌, ◌≤◌, ◌^◌, None, Some, replicate, slice_set, slice_index_or};
+ghost use Rattle.std.specs.Prelude.{◌≡◌, ◌+◌, ◌<◌, ◌≤◌, None, Some, replicate, slice_set, slice_index_or};
 ghost use Rattle.std.specs.Prelude.{length, true, false};
 ghost use Rattle.std.specs.List.{list_any};
 ghost use Rattle.tword.specs.Claims.{overlaps_claim};

@@ -9,7 +9,6 @@ ghost use Rattle.tword.specs.Claims.{saving, saved_words, has_saved, is_saved};
 ghost use Rattle.tword.specs.Limits.{most_processes};
 ghost use Rattle.tword.specs.Slots.{IsPlaceIn, saved_in};
 ghost use Rattle.tword.specs.Touches.{Reads, Writes, claim_break};
-ghost use Rattle.tword.specs.Words.{word_below};
 
 use crate::breaks::{Break, MemoryFault};
 use crate::claim_table::ClaimTable;

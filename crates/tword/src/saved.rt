@@ -1,7 +1,7 @@
 //! The workspaces whose words are saved.
 
 ghost use Rattle.std.specs.Prelude.{◌≡◌, ◌+◌, ◌<◌, ◌≤◌, ◌==◌, ◌∷◌, ◌&&◌, not, IfOk, IfSome, length};
-ghost use Rattle.std.specs.Prelude.{true, false, None, vec_len, slice_index, reverse, ℕ, []};
+ghost use Rattle.std.specs.Prelude.{false, None, slice_index, reverse, ℕ, []};
 ghost use Rattle.std.specs.List.{list_any};
 ghost use Rattle.tword.specs.Claims.{overlap, saved_words};
 ghost use Rattle.tword.specs.Limits.{most_processes};

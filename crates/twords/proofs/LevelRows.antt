@@ -89,9 +89,8 @@ default_kept id rows a e = go (has_row a.id rows) a.defaults
   where
     go : (b : Bool) (values : List Text)
         → has_row id (cond b rows (default_rows a.id (reading_by a) values rows)) ≡ true
-    go true values = e
-    go false [] = e
     go false (v ∷ vs) = row_kept id a.id (reading_by a) DefaultValue (v ∷ vs) rows e
+    go _ _ = e
 
 default_made : (rows : List Row) (a : Rule) → 0 < length a.defaults → has_row a.id (with_default rows a) ≡ true
 default_made rows a lt = go (has_row a.id rows) refl a.defaults lt
@@ -130,13 +129,12 @@ default_passes c rows a first e h = go (has_row a.id rows) a.defaults refl e
     go : (b : Bool) (values : List Text) → a.defaults ≡ values
         → cond (b || is_empty values) [] (given_default_fault a values) ≡ []
         → Rows c (cond b rows (default_rows a.id (reading_by a) values rows))
-    go true values is f = h
-    go false [] is f = h
     go false (v ∷ vs) is f =
         let some : is_empty (v ∷ vs) ≡ false = ne_eqb (suc (length vs)) 0 (λ n. omega arith) in
         let own : given_default_fault a (v ∷ vs) ≡ [] = rw some at f in
         with_values_passes c a DefaultValue (v ∷ vs) rows first (omega arith)
         (neither (request_kinds (action_of a)) (values_fault a (v ∷ vs)) own).1 h
+    go _ _ is f = h
 
 defaults_pass : (c rules : List Rule) (rows : List Row) → Each (IsFit c) rules → defaults_fault rows rules ≡ []
     → Rows c rows → Rows c (fold with_default rows rules)
@@ -151,10 +149,8 @@ defaults_pass c (a ∷ rest) rows fits e h =
 -- none of the last checks fails
 checks : (help command argument : Bool) → check_kinds help command argument ≡ [] → (command ≡ false)
     × (argument ≡ false)
-checks true command argument e = cc
-checks false true argument e = cc
-checks false false true e = cc
 checks false false false e = (refl, refl)
+checks _ _ _ e = cc
 
 none_any : {X : Type 0} (test : X → Bool) (xs : List X) → list_any test xs ≡ false → Each (λ x. test x ≡ false) xs
 none_any test [] e = tt

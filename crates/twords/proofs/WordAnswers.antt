@@ -2,7 +2,7 @@
 use Rattle.std.proofs.Common.{◌≡◌, ◌∙◌, ◌<◌, ℕ, Bool, cond, true, false, refl, sym, ap, ap₂, subst, arith, List, []}
 use Rattle.std.proofs.Common.{◌∷◌, length, Option, Some, None, is_some, inl, inr, true≢false}
 use Rattle.std.specs.Prelude.{option_map, option_and_then, slice_get, unwrap_or, IsSomeAnd}
-use Rattle.std.proofs.Common.{suc, rules, ◌++◌, map, pos, negsuc}
+use Rattle.std.proofs.Common.{suc, rules, ◌++◌, map, pos}
 use Rattle.std.proofs.lemmas.Bool.{ne_eqb}
 use Rattle.std.specs.List.{find}
 use Rattle.std.specs.Option.{option_map_or}
@@ -89,7 +89,7 @@ abbrev IsListed : Which → Type 0
 IsListed which = RulesFit (built_of (shape_of which)) × (named (name_of which) ≡ Some which)
 
 all_listed : Each IsListed commands
-all_listed = search (rules, one_value, asks_help, refl)
+all_listed = search (rules, one_value, asks_help)
 
 top_fits : RulesFit (built program).top
 top_fits = (asks_help _ _ refl refl, tt)
@@ -117,21 +117,9 @@ parsed i a rows f = go a.parser refl
     left_out = parser_for (action_of (with_missing_value (with_default_value (with_action a))))
 
     go : (p : Option ValueParser) → a.parser ≡ p → HasParsed p a.id rows
-    go None is = text_found (as_built i a) rows f
-    go (Some vp.String) is = text_found (as_built i a) rows f
-    go (Some vp.NonEmptyString) is = text_found (as_built i a) rows f
-    go (Some vp.Bool) is = text_found (as_built i a) rows f
-    go (Some vp.Boolish) is = text_found (as_built i a) rows f
-    go (Some vp.Falsey) is = text_found (as_built i a) rows f
     go (Some (vp.Signed (pos least) (pos most))) is =
         number_found least most (as_built i a) rows (ap (λ (o : Option ValueParser). Some (unwrap_or o left_out)) is) f
-    go (Some (vp.Signed (pos least) (negsuc most))) is = text_found (as_built i a) rows f
-    go (Some (vp.Signed (negsuc least) most)) is = text_found (as_built i a) rows f
-    go (Some (vp.Unsigned least most)) is = text_found (as_built i a) rows f
-    go (Some vp.Float) is = text_found (as_built i a) rows f
-    go (Some vp.Char) is = text_found (as_built i a) rows f
-    go (Some (vp.Names names)) is = text_found (as_built i a) rows f
-    go (Some (vp.Values values)) is = text_found (as_built i a) rows f
+    go _ is = text_found (as_built i a) rows f
 
 -- a default stays, as the rule is built
 some_default : (i : ℕ) (a : Rule) (d : Text) (ds : List Text) → a.defaults ≡ d ∷ ds

@@ -10,7 +10,7 @@ use Rattle.clap.specs.Words.{AddsArg, AddsSubcommand, App, Rule, Shape, app_of, 
 use Rattle.clap.specs.declared.builder.arg.Arg.{Arg}
 use Rattle.clap.specs.declared.builder.command.Command.{Command as Parser}
 use Rattle.twords.specs.Table.{name_of}
-use Rattle.twords.specs.CommandLines.{HasShape, IsLocal, rule_of_row, shape_of, with_rows}
+use Rattle.twords.specs.CommandLines.{HasShape, IsLocal, rule_of_row, shape_of}
 use Rattle.twords.specs.declared.table.Argument.{Argument}
 use Rattle.twords.specs.declared.table.Which.{Which}
 
@@ -26,10 +26,6 @@ adds s old a rule new added is local shape = (
 -- a parser that lacks the rules of these rows, which are the last, to have a shape
 abbrev pub Lacks : Shape → List Argument → Parser → Type 0
 Lacks s rest c = (old : List Rule) × HasShape (record s { rules = old }) c × (old ++ map rule_of_row rest ≡ s.rules)
-
--- at first it lacks all
-pub lacks_all : (s : Shape) (rest : List Argument) (c : Parser) → HasShape s c → Lacks (with_rows s rest) rest c
-lacks_all s rest c h = (s.rules, h, refl)
 
 -- it gets the first of them
 pub lacks_less : (s : Shape) (row : Argument) (rest : List Argument) (old : Parser) (a : Arg) (new : Parser)

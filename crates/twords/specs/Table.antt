@@ -1,6 +1,6 @@
 -- The table of the commands: their names, the words that they take with their ranges and defaults, and what they ask for.
 -- Source: own choice.
-use Rattle.std.specs.Prelude.{ℕ, ◌≤◌, List, [], ◌∷◌, ◌++◌, ◌==◌, Option, Some, None, option_map, codes, bytes_eq}
+use Rattle.std.specs.Prelude.{◌≤◌, List, [], ◌∷◌, ◌++◌, ◌==◌, Option, Some, None, option_map, codes, bytes_eq}
 use Rattle.std.specs.Prelude.{if◌then◌else◌}
 use Rattle.clap.specs.Words.{Text, Rule, Row, first_of}
 use Rattle.tplan.specs.declared.options.Options.{Options}

@@ -5,7 +5,7 @@ ghost use Rattle.std.specs.List.{list_any, list_all, flat_map};
 ghost use Rattle.tword.specs.Claims.{overlaps_claim};
 ghost use Rattle.tword.specs.Stores.{as_cells, hiding, hiding_from};
 ghost use Rattle.tfiles.specs.Texts as spec;
-ghost use Rattle.tfiles.specs.Texts.{node_line, node_text, dump_of, dump_line, lines_of, cell_text};
+ghost use Rattle.tfiles.specs.Texts.{node_line, node_text, dump_of, dump_line, dump_lines, lines_of, cell_text};
 ghost use Rattle.tfiles.specs.Texts.{is_zero, is_pending};
 ghost use Rattle.tfiles.specs.Outputs.{Tells};
 
@@ -18,6 +18,9 @@ use tword::{Break, Span, Word};
 
 /// How many bytes a line shows.
 const LINE_BYTES: usize = 16;
+
+/// How many bytes are passed over at once where they are all zero.
+const BLOCK_BYTES: usize = 256;
 
 /// The dump of a node (own choice of format): a line `node 3 ok`, `node 3 halted` or `node 3 frozen NAME`, and then
 /// a line for each sixteen bytes that are not all zero, as `800000f0: 00 00 .. 80`. A byte that a pending link
@@ -79,10 +82,33 @@ fn put_lines<W: CountedWrite>(out: &mut Output<'_, W>, bytes: &[u8], pending: &[
     ensures { Tells W.contents W.failures out.old out.new
         (lines_of (hiding (is_pending pending.now) (as_cells bytes.now))) }
 {
+    for block in 0..bytes.len().div_ceil(BLOCK_BYTES) {
+        let start = BLOCK_BYTES * block;
+        let end = bytes.len().min(start + BLOCK_BYTES);
+        put_block(out, MOST_NEG + start as u32, &bytes[start..end], pending);
+    }
+}
+
+/// Writes the lines of a block of bytes. One of zeros, of which no pending input has a byte, has none, and its lines
+/// are not looked at.
+fn put_block<W: CountedWrite>(
+    out: &mut Output<'_, W>,
+    address: u32,
+    bytes: &[u8],
+    pending: &[Option<Span>],
+)
+    requires within { address + length bytes.now < 2 ^ 32 }
+    requires block { length bytes.now ≤ 256 }
+    ensures { Tells W.contents W.failures out.old out.new
+        (dump_lines (length bytes.now) address (hiding_from (is_pending pending.now) address (as_cells bytes.now))) }
+{
+    if !has_pending(pending, address, bytes.len() as u32) && sum_of(bytes) == 0 {
+        return;
+    }
     for line in 0..bytes.len().div_ceil(LINE_BYTES) {
         let start = LINE_BYTES * line;
         let end = bytes.len().min(start + LINE_BYTES);
-        put_line(out, MOST_NEG + start as u32, &bytes[start..end], pending);
+        put_line(out, address + start as u32, &bytes[start..end], pending);
     }
 }
 
@@ -169,10 +195,10 @@ fn put_seen<W: CountedWrite>(out: &mut Output<'_, W>, byte: u8)
     put_byte(out, byte);
 }
 
-/// The sum of the bytes of a line, without a look at each, so that several are added at a time.
+/// The sum of the bytes of a line or a block, without a look at each, so that several are added at a time.
 #[inline]
 fn sum_of(bytes: &[u8]) -> u16
-    requires { length bytes.now ≤ 16 }
+    requires { length bytes.now ≤ 256 }
     ensures { result ≡ sum bytes.now }
 {
     bytes.iter().map(|byte| u16::from(*byte)).sum()

@@ -1,6 +1,6 @@
 //! A text on its way to a writer, through a buffer on the stack.
 
-ghost use Rattle.std.specs.Prelude.{◌≡◌, ◌≤◌, ◌+◌, ◌⊎◌, List, [], ℕ, length, nat_lt, take};
+ghost use Rattle.std.specs.Prelude.{◌≡◌, ◌≤◌, ◌+◌, ◌⊎◌, [], length, nat_lt, take};
 ghost use Rattle.std.specs.Io.KnownBytes.{Appends};
 ghost use Rattle.tfiles.specs.Failures.{Counts};
 ghost use Rattle.tfiles.specs.Outputs.{HandsOn, IsEnd, IsFresh, Tells};

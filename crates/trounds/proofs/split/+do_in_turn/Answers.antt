@@ -1,19 +1,25 @@
-use Rattle.std.proofs.Common.{◌+◌, ◌*◌, rules, arith}
-use Rattle.trounds.specs.Parts.{AreNumbered}
-use Rattle.trounds.specs.RoundNodes.{stations_of}
+use Rattle.std.proofs.Common.{◌*◌, rules, arith}
 use Rattle.trounds.proofs.PartNumbers.{behind_shares, numbered_front}
 use Rattle.trounds.proofs.split.+do_in_turn.Goals as goal
 
-pub enter_share-requires-2-clause-own : goal.enter_share-requires-2-clause-own
-enter_share-requires-2-clause-own g t c =
-    numbered_front (c.args.worker * c.args.shared.now.size) c.args.shared.now.size c.args.share.now c.requires.own _
-    c.split_at_mut-front.ensures.front
+pub enter_share-requires-2 : goal.enter_share-requires-2
+enter_share-requires-2 g t c = record {
+  workers = search rules;
+  numbered = numbered_front (c.args.worker * c.args.shared.now.size) c.args.shared.now.size c.args.share.now
+      c.requires.numbered _ c.split_at_mut-front.ensures.front;
+  ready = search rules;
+}
 
 pub do_in_turn-requires : goal.do_in_turn-requires
-do_in_turn-requires g t c κs within =
-    let own : AreNumbered ((c.args.worker + 1) * c.args.shared.now.size) (stations_of
-    c.split_at_mut-front.result.1.now) =
-    behind_shares c.args.worker 1 c.args.shared.now.size c.args.shared.now.size c.args.share.now _ c.requires.own
-    (omega arith)
-    c.split_at_mut-front.ensures.back in
-    search rules
+do_in_turn-requires g t c κs within = (
+  search rules,
+  (
+    search rules,
+    record {
+      workers = search rules;
+      numbered = behind_shares c.args.worker 1 c.args.shared.now.size c.args.shared.now.size c.args.share.now _
+          c.requires.numbered (omega arith) c.split_at_mut-front.ensures.back;
+      ready = search rules;
+    },
+  ),
+)

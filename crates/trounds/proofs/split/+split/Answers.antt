@@ -1,14 +1,19 @@
-use Rattle.std.proofs.Common.{◌*◌, refl}
+use Rattle.std.proofs.Common.{◌*◌, refl, rules}
 use Rattle.trounds.proofs.PartNumbers.{behind_shares, numbered_front}
 use Rattle.trounds.proofs.split.+split.Goals as goal
 
-pub do_shares-do_both-requires-clause-own_front : goal.do_shares-do_both-requires-clause-own_front
-do_shares-do_both-requires-clause-own_front g t c κs within =
-    numbered_front (c.args.worker * c.args.shared.now.size) (c.half_of-half.result * c.args.shared.now.size)
-    c.args.share.now c.requires.own _
-    c.split_at_mut-front.ensures.front
+pub do_shares-do_both-requires-clause-front : goal.do_shares-do_both-requires-clause-front
+do_shares-do_both-requires-clause-front g t c κs within = record {
+  workers = search rules;
+  numbered = numbered_front (c.args.worker * c.args.shared.now.size) (c.half_of-half.result * c.args.shared.now.size)
+      c.args.share.now c.requires.numbered _ c.split_at_mut-front.ensures.front;
+  ready = search rules;
+}
 
-pub do_shares-do_both-requires-clause-own_back : goal.do_shares-do_both-requires-clause-own_back
-do_shares-do_both-requires-clause-own_back g t c κs within =
-    behind_shares c.args.worker c.half_of-half.result c.args.shared.now.size _ c.args.share.now _ c.requires.own refl
-    c.split_at_mut-front.ensures.back
+pub do_shares-do_both-requires-clause-back : goal.do_shares-do_both-requires-clause-back
+do_shares-do_both-requires-clause-back g t c κs within = record {
+  workers = search rules;
+  numbered = behind_shares c.args.worker c.half_of-half.result c.args.shared.now.size _ c.args.share.now _
+      c.requires.numbered refl c.split_at_mut-front.ensures.back;
+  ready = search rules;
+}

@@ -7,7 +7,7 @@ pub part_of_round-requires : goal.part_of_round-requires
 part_of_round-requires g c =
     subst (IsReady c.args.shared.now.rule.slice)
     (sym (same_at c.loop-place.share c.args.share.now c.loop-place.place c.index-share-place.result
-    c.loop-place.invariant.left)) (c.requires.ready c.loop-place.place c.index-share-place.result (omega arith))
+    c.loop-place.invariant.left)) (c.requires.ready.ready c.loop-place.place c.index-share-place.result (omega arith))
 
 pub loop-place-preserved : goal.loop-place-preserved
 loop-place-preserved g c =

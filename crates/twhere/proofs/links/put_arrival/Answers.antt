@@ -7,7 +7,7 @@ pub returns-in-Some : goal.returns-in-Some
 returns-in-Some g c =
     tells_as
     (tells_then c.put_name.ensures
-    (tells_then (tells_then c.put.ensures (tells_then c.put_byte.ensures c.put_mark.ensures)) c.put-in-Some.ensures))
+    (tells_then (tells_then c.put.ensures (tells_then c.put_byte.ensures c.put_if.ensures)) c.put-in-Some.ensures))
     (ap (byte_fact c.args.link c.args.name.now) (sym c.in-Some.is))
 
 pub returns-in_default : goal.returns-in_default

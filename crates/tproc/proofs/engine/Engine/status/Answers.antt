@@ -2,8 +2,8 @@ use Rattle.std.proofs.Common.{◌∙◌, sym, refl}
 use Rattle.tproc.proofs.StateLists.{no_reason, not_found, not_queued, queued_so, waits_so}
 use Rattle.tproc.proofs.engine.Engine.status.Goals as goal
 
-pub status_elsewhere-requires-clause-unqueued : goal.status_elsewhere-requires-clause-unqueued
-status_elsewhere-requires-clause-unqueued c =
+pub status_elsewhere-requires : goal.status_elsewhere-requires
+status_elsewhere-requires c =
     (not_found c.args.self.now.state c.args.process c.in-None.ensures).1
 
 pub returns-in-Some-reason-clause-stands : goal.returns-in-Some-reason-clause-stands

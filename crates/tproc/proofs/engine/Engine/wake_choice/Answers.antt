@@ -12,4 +12,4 @@ pub wait-requires-clause-agrees : goal.wait-requires-clause-agrees
 wait-requires-clause-agrees c =
     rw (c.requires.asks.own.workspace, c.release.ensures.claims, c.set_saved_word.ensures.claims)
     (c.release.ensures.agrees (c.args.self.now.state.registers.wptr ∷ []) _
-    (agrees_but _ [] _ _ _ c.args.self.now.agrees c.leave.ensures.claims))
+    (agrees_but _ [] _ _ _ c.args.self.now.agrees c.leave.ensures.fresh c.leave.ensures.claims))

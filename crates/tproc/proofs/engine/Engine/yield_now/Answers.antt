@@ -7,4 +7,5 @@ invariant_of-self-clause-agrees c =
     rw (c.enqueue.ensures.claims, c.set_saved_word.ensures.claims)
     (c.enqueue.ensures.settles [] _
     (rw (c.own-process.ensures.own.workspace, ← c.registers-r.ensures)
-    (c.rest.ensures.agrees (_ ∷ []) _ (agrees_but _ [] _ _ _ c.args.self.now.agrees c.deschedule.ensures.claims))))
+    (c.rest.ensures.agrees (_ ∷ []) _ (agrees_but _ [] _ _ _ c.args.self.now.agrees c.deschedule.ensures.fresh
+    c.deschedule.ensures.claims))))

@@ -1,9 +1,9 @@
 use Rattle.std.proofs.Common.{Some, arith}
-use Rattle.tword.proofs.ClaimTally.{has_room, enough_input, tally_input}
+use Rattle.tword.proofs.ClaimTally.{counts_have_room, enough_input, tally_input}
 use Rattle.tword.proofs.marks.Marks.claim_in_known.Goals as goal
 
 pub exchange-requires-clause-room : goal.exchange-requires-clause-room
-exchange-requires-clause-room c = has_room _ _ _ _ c.self.invariant
+exchange-requires-clause-room c = counts_have_room _ _ _ _ c.self.invariant
 
 pub exchange-requires-clause-some : goal.exchange-requires-clause-some
 exchange-requires-clause-some c =

@@ -1,11 +1,11 @@
 use Rattle.std.proofs.Common.{◌<◌, length, ap, arith}
 use Rattle.tword.specs.Claims.{Claims}
 use Rattle.tword.specs.Limits.{most_processes}
-use Rattle.tword.proofs.ClaimTally.{has_room, tally_push}
+use Rattle.tword.proofs.ClaimTally.{counts_have_room, tally_push}
 use Rattle.tword.proofs.marks.Marks.claim_saved_known.Goals as goal
 
 pub raise-requires : goal.raise-requires
-raise-requires c = record { room = has_room _ _ _ _ c.self.invariant }
+raise-requires c = record { room = counts_have_room _ _ _ _ c.self.invariant }
 
 pub invariant_of-self : goal.invariant_of-self
 invariant_of-self c =
