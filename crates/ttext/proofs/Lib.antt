@@ -1,5 +1,4 @@
 pub mod OpenedFiles
-pub mod DueFaults
 pub mod SmallNets
 mod LoggedReplays
 mod GatheredWorkers
