@@ -1,6 +1,6 @@
 pub mod OpenedFiles
-pub mod DueFaults
 pub mod SmallNets
+mod LoggedReplays
 mod GatheredWorkers
 pub mod NodeLists
 pub mod ToldOnce

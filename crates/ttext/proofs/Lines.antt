@@ -1,9 +1,9 @@
 -- The lines of a text, cut off one after another, and beside those of another text.
-use Rattle.std.proofs.Common.{◌≡◌, ◌<◌, ◌==◌, ◌-◌, ◌&&◌, ℕ, zero, suc, refl, ap, ap₂, sym, ◌∙◌, subst, Bool, cond, true}
+use Rattle.std.proofs.Common.{◌≡◌, ◌<◌, ◌==◌, ◌-◌, ℕ, suc, refl, ap, ap₂, sym, ◌∙◌, subst, Bool, cond, true}
 use Rattle.std.proofs.Common.{false, arith, List, [], ◌∷◌, ◌++◌, length, take, drop}
 use Rattle.std.proofs.lemmas.List.{take_all, length-drop}
 use Rattle.std.proofs.lemmas.Bool.{eqb-false, eqb-true, ne_eqb}
-use Rattle.ttext.specs.Differences.{agree_elsewhere, agree_or_differ_in_memory, change_text, differing, heading_behind}
+use Rattle.ttext.specs.Differences.{agree_elsewhere, change_text, differing, heading_behind}
 use Rattle.ttext.specs.Differences.{line_length, onto_line, text_lines}
 
 -- ---- of one text
@@ -22,13 +22,15 @@ cut (b ∷ bs) lt = by (b == 10) bs (cut bs)
     by false [] h = refl
     by false (c ∷ cs) h = ap (onto_line b) (h (omega arith))
 
+-- all that is left is kept
+behind : (t : List ℕ) (n : ℕ) → take (length t - n) (drop n t) ≡ drop n t
+behind t n = take_all (length t - n) (drop n t) (omega (arith, length-drop n t))
+
 pub cut_at : (t : List ℕ) (n : ℕ) → 0 < length t → n ≡ line_length t
     → text_lines t ≡ take n t ∷ text_lines (take (length t - n) (drop n t))
 cut_at t n lt is =
-    let behind : take (length t - n) (drop n t) ≡ drop n t =
-    take_all (length t - n) (drop n t) (omega (arith, length-drop n t)) in
     subst (λ m. text_lines t ≡ take m t ∷ text_lines (drop m t)) (sym is) (cut t lt)
-    ∙ ap (λ u. take n t ∷ text_lines u) (sym behind)
+    ∙ ap (λ u. take n t ∷ text_lines u) (sym (behind t n))
 
 -- the first line is not empty
 some : (t : List ℕ) → 0 < length t → 0 < line_length t
@@ -42,25 +44,10 @@ some (b ∷ bs) lt = by (b == 10)
 pub shorter : (t : List ℕ) (n : ℕ) → 0 < length t → n ≡ line_length t
     → length (take (length t - n) (drop n t)) < length t
 shorter t n lt is =
-    let behind : take (length t - n) (drop n t) ≡ drop n t =
-    take_all (length t - n) (drop n t) (omega (arith, length-drop n t)) in
     let first = some t lt in
-    omega (arith, ap length behind, length-drop n t, first, is)
+    omega (arith, ap length (behind t n), length-drop n t, first, is)
 
 -- ---- of two
-
--- neither is at its end
-pub agree_next : (t u : List ℕ) (a b : List ℕ) (ls ms : List (List ℕ)) (whole : Bool) → text_lines t ≡ a ∷ ls
-    → text_lines u ≡ b ∷ ms → agree_or_differ_in_memory a b ≡ true
-    → agree_elsewhere (text_lines t) (text_lines u) ≡ whole → agree_elsewhere ls ms ≡ whole
-agree_next t u a b ls ms whole p q e h =
-    sym (ap₂ agree_elsewhere p q ∙ ap (λ c. c && agree_elsewhere ls ms) e) ∙ h
-
-pub agree_not : (t u : List ℕ) (a b : List ℕ) (ls ms : List (List ℕ)) (whole : Bool) → text_lines t ≡ a ∷ ls
-    → text_lines u ≡ b ∷ ms → agree_or_differ_in_memory a b ≡ false
-    → agree_elsewhere (text_lines t) (text_lines u) ≡ whole → false ≡ whole
-agree_not t u a b ls ms whole p q e h =
-    sym (ap₂ agree_elsewhere p q ∙ ap (λ c. c && agree_elsewhere ls ms) e) ∙ h
 
 -- the other one is at its end
 pub agree_over : (t u : List ℕ) (whole : Bool) → 0 < length t → length u ≡ 0
@@ -84,12 +71,6 @@ pub differing_next : (heading : List ℕ) (t u : List ℕ) (a b : List ℕ) (ls 
     ≡ change_text heading a b ++ differing (heading_behind heading a b) ls ms
 differing_next heading t u a b ls ms p q = ap₂ (differing heading) p q
 
--- nothing is, where one of them is at its end
-pub differing_end : (heading : List ℕ) (t u : List ℕ) → length t ≡ 0
-    → differing heading (text_lines t) (text_lines u) ≡ []
-differing_end heading (b ∷ bs) u none = absurd (omega arith)
-differing_end heading [] u none = refl
-
 pub differing_over : (heading : List ℕ) (t u : List ℕ) → 0 < length t → length u ≡ 0
     → differing heading (text_lines t) (text_lines u) ≡ []
 differing_over heading [] u lt none = absurd (omega arith)
@@ -99,11 +80,7 @@ differing_over heading (b ∷ bs) [] lt none = ap (λ ls. differing heading ls [
 -- ---- what tests say
 
 pub is_nonempty : (b : Bool) (t : List ℕ) → b ≡ (length t == 0) → b ≡ false → 0 < length t
-is_nonempty b t is e = let some_byte = eqb-false (length t) 0 (sym is ∙ e) in by (length t) some_byte
-  where
-    by : (n : ℕ) → (n ≡ 0 → ⊥) → 0 < n
-    by zero h = absurd (h refl)
-    by (suc n) h = omega arith
+is_nonempty b t is e = let some_byte = eqb-false (length t) 0 (sym is ∙ e) in omega (arith, some_byte)
 
 pub is_nothing : (b : Bool) (t : List ℕ) → b ≡ (length t == 0) → b ≡ true → length t ≡ 0
 is_nothing b t is e = eqb-true (length t) 0 (sym is ∙ e)

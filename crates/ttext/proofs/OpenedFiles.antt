@@ -1,7 +1,7 @@
 -- Files that are read as images one after another, and the plan of them.
 use Rattle.std.proofs.Common.{◌≡◌, ◌<◌, ℕ, suc, refl, sym, ap, ◌∙◌, List, [], ◌∷◌, ◌++◌, length, length-append, drop}
 use Rattle.std.proofs.Common.{get_or, Result, Ok, Err, append_assoc, append-nil, add-one, zip, map, arith, ◌+◌, ◌≤◌}
-use Rattle.std.proofs.lemmas.List.{at_drop_more, at_drop_all, length-map, map-append}
+use Rattle.std.proofs.lemmas.List.{at_drop_more, at_drop_all, length-map}
 use Rattle.std.proofs.lemmas.Slice.Zip.{length-zip}
 use Rattle.tplan.specs.declared.plan.Image.{Image}
 use Rattle.tplan.specs.declared.plan.NodePlan.{NodePlan}
@@ -90,20 +90,12 @@ zip-none [] = refl
 zip-none (n ∷ ns) = refl
 
 -- one more image has its node
-pub zip-more : {A B : Type 0} (ns : List A) (ys : List B) (y : B) (n : A) → length ys < length ns
-    → zip ns (ys ++ y ∷ []) ≡ zip ns ys ++ (get_or ns (length ys) n, y) ∷ []
-zip-more [] ys y n l = absurd (omega (arith, l))
-zip-more {A} {B} (a ∷ ns) [] y n l = ap (λ (rest : List (A × B)). (a, y) ∷ rest) (zip-none ns)
-zip-more {A} {B} (a ∷ ns) (b ∷ ys) y n l =
-    ap (λ (rest : List (A × B)). (a, b) ∷ rest) (zip-more ns ys y n (omega (arith, l)))
-
--- one more node is planned
-pub plans-more : (ns : List WiringNode) (ys : List Image) (y : Image) (n : WiringNode) (d : WiringNode)
-    → length ys < length ns → n ≡ get_or ns (length ys) d
-    → map node_of (zip ns (ys ++ y ∷ [])) ≡ map node_of (zip ns ys) ++ node_of (n, y) ∷ []
-plans-more ns ys y n d l e =
-    ap (map node_of) (zip-more ns ys y d l) ∙ map-append node_of (zip ns ys) _
-    ∙ ap (λ (m : WiringNode). map node_of (zip ns ys) ++ node_of (m, y) ∷ []) (sym e)
+pub plans-more : (ns : List WiringNode) (ys : List Image) (y : Image) (d : WiringNode) → length ys < length ns
+    → map node_of (zip ns (ys ++ y ∷ [])) ≡ map node_of (zip ns ys) ++ node_of (get_or ns (length ys) d, y) ∷ []
+plans-more [] ys y d l = absurd (omega (arith, l))
+plans-more (n ∷ ns) [] y d l = ap (λ (rest : List (WiringNode × Image)). node_of (n, y) ∷ map node_of rest) (zip-none ns)
+plans-more (n ∷ ns) (x ∷ ys) y d l =
+    ap (λ (rest : List NodePlan). node_of (n, x) ∷ rest) (plans-more ns ys y d (omega (arith, l)))
 
 -- the nodes so far, with their images
 pub record ArePlannedSoFar (nodes : List WiringNode) (files : List (List ℕ)) (place : ℕ) (plans : List NodePlan) : Type
@@ -137,8 +129,8 @@ one_planned nodes files place plans more image n d h e l read pushed =
       ahead_of = next_image files place h.images image d l h.ahead_of read;
       planned =
           pushed ∙ ap (λ (ps : List NodePlan). ps ++ node_of (get_or nodes place n, image) ∷ []) h.planned
-          ∙ sym (plans-more nodes h.images image (get_or nodes place n) n (omega (arith, l, e, h.as_many))
-          (ap (λ (k : ℕ). get_or nodes k n) (sym h.as_many)));
+          ∙ (ap (λ (k : ℕ). map node_of (zip nodes h.images) ++ node_of (get_or nodes k n, image) ∷ []) (sym h.as_many)
+          ∙ sym (plans-more nodes h.images image n (omega (arith, l, e, h.as_many))));
       as_many = length-append h.images (image ∷ []) ∙ ap (λ (k : ℕ). k + 1) h.as_many;
     }
 

@@ -9,7 +9,7 @@ use Rattle.tnet.specs.Net.{NetState}
 use Rattle.tnet.specs.Packets.{after_event, after_events, then_after}
 use Rattle.tnet.proofs.NamedEvents.{count_stays, nets_are_small}
 use Rattle.ttext.specs.declared.fault.Fault.{Fault}
-use Rattle.ttext.specs.Outcomes.{as_opened, images_of, opened_of, opened_with, IsOpening}
+use Rattle.ttext.specs.Outcomes.{as_opened, images_of, opened_of, opened_with}
 use Rattle.ttext.specs.Plans.{net_of, plan_of}
 
 -- events leave as many nodes as there were
@@ -44,10 +44,3 @@ few_opened w files net h = by (images_of files) h
     by : (r : Result (List Image) Fault) → opened_with w r ≡ Ok net → length net.nodes ≤ 64
     by (Err f) e = cc
     by (Ok images) e = built_so images (net_of w images) refl e
-
--- and so has one that events leave
-pub few_left : (w : Wiring) (files : List (List ℕ)) (events : List Event) (opened left : NetState)
-    → IsOpening w files opened → after_events events opened ≡ Some left → length left.nodes ≤ 64
-few_left w files events opened left opening all_done =
-    let few : length opened.nodes ≤ 64 = nets_are_small (plan_of w opening.images) opened opening.made in
-    omega (arith, few, count_left events opened left all_done)

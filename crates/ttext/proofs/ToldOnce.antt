@@ -4,7 +4,10 @@ use Rattle.std.proofs.Common.{List, [], ◌∷◌, ◌++◌, Option, Some, None,
 use Rattle.std.proofs.Common.{◌<◌, get_or, length}
 use Rattle.std.specs.Prelude.{map, fold, AllPairs, Contains, slice_get}
 use Rattle.std.specs.List.{list_any}
-use Rattle.std.proofs.lemmas.List.Elements.{Contains-append_left, Contains-push, Contains-push_cases}
+use Rattle.std.proofs.lemmas.List.{get_or-map, length-map}
+use Rattle.std.proofs.lemmas.List.Elements.{All-contains, All-map, Contains-append_left, Contains-get_or, Contains-push}
+use Rattle.std.proofs.lemmas.List.Elements.{Contains-push_cases}
+use Rattle.std.proofs.lemmas.List.Folds.{list_any_at}
 use Rattle.std.proofs.lemmas.List.Quantifiers.{all_pairs_push}
 use Rattle.std.proofs.lemmas.Slice.Eq.{bytes_eq-Decides}
 use Rattle.tword.specs.declared.breaks.Break.{Break}
@@ -26,14 +29,6 @@ contains_first x ys = (0, omega arith, refl)
 pub contains_later : {A : Type 0} (x y : A) (ys : List A) → Contains ys x → Contains (y ∷ ys) x
 contains_later x y ys (k, within, is) = (suc k, omega (arith, within), is)
 
-or_left : (a b : Bool) → (a || b) ≡ false → a ≡ false
-or_left true b e = e
-or_left false b e = refl
-
-or_right : (a b : Bool) → (a || b) ≡ false → b ≡ false
-or_right true b e = absurd (true≢false e)
-or_right false b e = e
-
 -- one of a list has something
 found : {A : Type 0} (test : A → Bool) (xs : List A) → list_any test xs ≡ true → (x : A) × Contains xs x × (test x ≡ true)
 found test [] e = absurd (true≢false (sym e))
@@ -46,18 +41,14 @@ found {A = A} test (x ∷ xs) e = by (test x) refl e (found test xs)
     by false is h later = let y = later h in (y.0, contains_later y.0 x xs y.1, y.2)
 
 pub mapped : {A B : Type 0} (f : A → B) (xs : List A) (x : A) → Contains xs x → Contains (map f xs) (f x)
-mapped f [] x (k, within, is) = absurd (omega (arith, within))
-mapped f (y ∷ ys) x h = elim (contained x y ys h) [
-  | inl is ↦ subst (λ z. Contains (f y ∷ map f ys) (f z)) is (contains_first (f y) (map f ys))
-  | inr later ↦ contains_later (f x) (f y) (map f ys) (mapped f ys x later)
-]
+mapped f xs x (k, within, is) =
+    (k, omega (arith, within, length-map xs f), get_or-map f xs k x (f x) within ∙ ap f is)
 
 of_map : {A B : Type 0} (f : A → B) (xs : List A) (y : B) → Contains (map f xs) y → (x : A) × Contains xs x × (y ≡ f x)
-of_map f [] y (k, within, is) = absurd (omega (arith, within))
-of_map f (x ∷ xs) y h = elim (contained y (f x) (map f xs) h) [
-  | inl is ↦ (x, contains_first x xs, sym is)
-  | inr later ↦ let z = of_map f xs y later in (z.0, contains_later z.0 x xs z.1, z.2)
-]
+of_map {A = A} {B = B} f xs y =
+    All-contains (λ (z : B). (x : A) × Contains xs x × (z ≡ f x)) (map f xs) y
+    (All-map (λ (z : B). (x : A) × Contains xs x × (z ≡ f x)) f xs
+    (λ k d within. (get_or xs k d, Contains-get_or xs k d within, refl)))
 
 -- ---- two are one
 
@@ -164,10 +155,11 @@ told_of shown t h = elim (from_all (map telling shown) [] t h) [
 -- none of a list has something
 none_has : {A : Type 0} (test : A → Bool) (xs : List A) → list_any test xs ≡ false → (k : ℕ) (d : A) → k < length xs
     → test (get_or xs k d) ≡ false
-none_has test [] e k d within = absurd (omega (arith, within))
-none_has test (x ∷ xs) e zero d within = or_left (test x) (list_any test xs) e
-none_has test (x ∷ xs) e (suc k) d within =
-    none_has test xs (or_right (test x) (list_any test xs) e) k d (omega (arith, within))
+none_has test xs e k d within = by (test (get_or xs k d)) (list_any_at test xs k d within)
+  where
+    by : (b : Bool) → (b ≡ true → list_any test xs ≡ true) → b ≡ false
+    by true has = sym (has refl) ∙ e
+    by false has = refl
 
 abbrev pub AreApart : List Telling → Type 0
 AreApart ts = AllPairs (λ earlier later. is_one earlier later ≡ false) ts

@@ -1,6 +1,6 @@
 //! Free workers, and what is printed of what they did: trace, dumps and last line.
 
-ghost use Rattle.std.specs.Prelude.{◌≡◌, Ok, IfOk, IfErr, IsOk, MatchResult, length, map, true, OnOk};
+ghost use Rattle.std.specs.Prelude.{◌≡◌, Ok, IfOk, IfErr, MatchResult, length, map, true, OnOk};
 ghost use Rattle.std.specs.Io.KnownBytes.{Appends};
 ghost use Rattle.tnet.specs.Notes.{notes};
 ghost use Rattle.tnet.specs.Quiet.{is_quiet};
