@@ -4,3 +4,5 @@ pub mod SignedWords
 pub mod Normal
 -- local effects deschedule nobody
 pub mod Quiet
+-- instructions after which their process goes on
+pub mod Stretches

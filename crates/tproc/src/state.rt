@@ -10,7 +10,7 @@ ghost use Rattle.tproc.specs.Scheduler.{counted, counted_by};
 ghost use Rattle.tproc.specs.Opening.{no_processes};
 ghost use Rattle.tproc.specs.Resting.{is_idle};
 ghost use Rattle.tproc.specs.Agreement.{IsOwn, RunsAt, StillAgrees, is_over};
-ghost use Rattle.tproc.specs.Runs.{RunsAlone};
+ghost use Rattle.tproc.specs.Runs.{RunsAlone, alone_for};
 
 use crate::descheduled::Descheduled;
 use crate::offer::Offer;
@@ -366,18 +366,18 @@ impl State {
         }
     }
 
-    /// The count of a process whose timeslice goes on rises, if it is low.
-    #[inline(always)]
-    pub fn count_alone(&mut self, priority: Priority)
-        requires { RunsAlone (number priority) 1 self.old }
-        ensures done { self.new ≡ counted (number priority) self.old }
+    /// So many instructions of a process that runs alone are counted, if it is low.
+    #[inline]
+    pub fn count_alone(&mut self, priority: Priority, count: u32)
+        requires { RunsAlone (number priority) count self.old }
+        ensures done { self.new ≡ alone_for (number priority) count self.old }
         ensures agrees { StillAgrees self.old self.new }
     {
         match priority {
             Priority::High => {}
             Priority::Low => {
-                prove!(self.count < self.timeslice);
-                self.count += 1;
+                prove!(u64::from(self.count) + u64::from(count) < u64::from(self.timeslice));
+                self.count += count;
             }
         }
     }

@@ -1,6 +1,6 @@
 //! One step of a processor.
 
-ghost use Rattle.std.specs.Prelude.{◌≡◌, Err, IfErr, IfNone, IfOk, Ok, OnErr, true};
+ghost use Rattle.std.specs.Prelude.{◌≡◌, ◌≤◌, Err, IfErr, IfNone, IfOk, Ok, OnErr, Some, true};
 ghost use Rattle.tword.specs.Actions.{run, value_of};
 ghost use Rattle.tcpu.specs.Effects.{effect};
 ghost use Rattle.tcpu.specs.Local.{StandsWhereLeft, StaysWhereJumped, would_jump};
@@ -9,7 +9,8 @@ ghost use Rattle.tproc.specs.Checks.{KeepsShape};
 ghost use Rattle.tproc.specs.Scheduler.{counted, counted_by, operation_step};
 ghost use Rattle.tproc.specs.Steps.{control_step, instruction_step};
 ghost use Rattle.tproc.specs.Agreement.{IsPlain, RunsAt, StillAgrees, is_over};
-ghost use Rattle.tproc.specs.Runs.{RunsAlone, answer_of};
+ghost use Rattle.tcpu.specs.Stretches.{gone_on};
+ghost use Rattle.tproc.specs.Runs.{RunsAlone, alone_for, answer_of};
 ghost use Rattle.tproc.specs.SavedWords.{AreThreaded};
 ghost use Rattle.tproc.specs.Doing.{Begins, Does, Foresees, jumps_as, machine_of, moved_on, rest_of, with_registers};
 ghost use Rattle.tproc.specs.Requests.{MayDeschedule};
@@ -79,6 +80,24 @@ fn perform(state: &mut State, claimed: &mut ClaimedMemory, i: &Instruction) -> R
         &mut claimed.memory,
         &claimed.marks,
         *i,
+    )
+}
+
+/// Instructions of the current process in a row, on registers that are worked on in place: how many were done.
+fn go_on(state: &mut State, claimed: &mut ClaimedMemory, most: u32) -> u32
+    ensures gone { gone_on result claimed.old.memory.kind claimed.old.marks state.old.registers claimed.old.memory.bytes
+        ≡ Some (state.new.registers, claimed.new.memory.bytes) }
+    ensures rest { state.new ≡ record state.old { registers = state.new.registers } }
+    ensures agrees { StillAgrees state.old state.new }
+    ensures shape { KeepsShape claimed.old.memory claimed.new.memory }
+    ensures claims { claimed.new.marks ≡ claimed.old.marks }
+    ensures within { result ≤ most }
+{
+    tcpu::go_on(
+        &mut state.registers,
+        &mut claimed.memory,
+        &claimed.marks,
+        most,
     )
 }
 
@@ -190,6 +209,22 @@ impl Engine {
         }
     }
 
+    /// Instructions of the current process in a row, at most so many, while no other has a say and as long as each is one
+    /// of the most common ones and the process goes on behind it: how many were done.
+    pub fn go_on_alone(&mut self, priority: Priority, most: u32) -> u32
+        requires { RunsAlone (number priority) most self.old.state }
+        ensures gone { gone_on result self.old.claimed.memory.kind self.old.claimed.marks self.old.state.registers
+            self.old.claimed.memory.bytes ≡ Some (self.new.state.registers, self.new.claimed.memory.bytes) }
+        ensures state { self.new.state ≡ alone_for (number priority) result (record self.old.state {
+          registers = self.new.state.registers;
+        }) }
+        ensures within { result ≤ most }
+    {
+        let count = go_on(&mut self.state, &mut self.claimed, most);
+        self.state.count_alone(priority, count);
+        count
+    }
+
     /// One instruction of the current process, while no other has a say. `None` where the process goes on, and nothing
     /// is changed but its registers, its count and the memory; else the answer of the step.
     #[tactic(auto, unfolding(crate::specs::Steps::instruction_step))]
@@ -207,12 +242,12 @@ impl Engine {
         };
         match perform(&mut self.state, &mut self.claimed, &i) {
             Ok(Next::Go | Next::Jumped) => {
-                self.state.count_alone(priority);
+                self.state.count_one(priority);
                 None
             }
             Ok(Next::Schedule(o)) => Some(self.scheduled(o, priority, i.length)),
             Ok(Next::Halt) => {
-                self.state.count_alone(priority);
+                self.state.count_one(priority);
                 self.state.halt();
                 Some(Ok(Ran::Halting))
             }

@@ -1,0 +1,15 @@
+use Rattle.std.proofs.Common.{◌≡◌, ◌≤◌, ◌-◌, Some, length}
+use Rattle.tcpu.specs.Stretches.{gone_on}
+use Rattle.tcpu.proofs.stretch.gone_from.Given as goal
+
+abbrev pub invariant-loop-done : goal.invariant-loop-done
+invariant-loop-done l = record {
+  done :
+      gone_on l.done l.fn.memory.kind l.fn.marks l.fn.registers l.fn.memory.bytes ≡ Some (l.now, l.memory.bytes);
+  within : l.done ≤ l.most;
+  sized : length l.memory.bytes ≡ length l.fn.memory.bytes;
+  kind : l.memory.kind ≡ l.fn.memory.kind;
+}
+
+abbrev pub decreases-loop-done : goal.decreases-loop-done
+decreases-loop-done l = l.most - l.done
