@@ -1,7 +1,7 @@
 -- Instructions after which their process goes on.
 use Rattle.std.proofs.Common.{◌≡◌, ◌+◌, ℕ, suc, arith, refl, Option, Some, None, Result, Ok, Err}
 use Rattle.std.proofs.Common.{Bool, true, false}
-use Rattle.std.specs.Prelude.{IfNone, IfSome}
+use Rattle.std.specs.Prelude.{OnErr}
 use Rattle.tword.specs.declared.breaks.Break.{Break}
 use Rattle.tword.specs.Stores.{Store}
 use Rattle.tword.specs.Claims.{Claims}
@@ -14,28 +14,30 @@ use Rattle.tcpu.specs.Outcomes.{Outcome}
 use Rattle.tcpu.specs.Effects.{local_or_left}
 use Rattle.tcpu.specs.Operations.{looped}
 use Rattle.tword.specs.declared.kind.Kind.{Kind}
-use Rattle.tcpu.specs.Stretches.{going, gone, gone_on, gone_one}
+use Rattle.tcpu.specs.Local.{outcome_of}
+use Rattle.tcpu.specs.Stretches.{goes, gone, gone_on, gone_one}
 use Rattle.tcpu.proofs.Quiet.{IsQuiet, quiet_run}
 
 -- what an instruction came to tells whether the process goes on
-pub went : (x : Result (Outcome × Store) Break) (r : Registers) (next : Next) (s : Store) (result : Option Registers)
-    → x ≡ Ok ((r, next), s) → result ≡ going next r → IfSome result (λ r'. gone x ≡ Some (r', s))
-went x r Go s result e f = rw (e, f) refl
-went x r Jumped s result e f = rw (e, f) refl
-went x r (Schedule o) s result e f = rw f tt
-went x r Halt s result e f = rw f tt
+pub went : (x : Result (Outcome × Store) Break) (r : Registers) (step : Result Next Break) (s : Store) (b : Bool)
+    → x ≡ outcome_of step r s → b ≡ goes step → b ≡ true → gone x ≡ Some (r, s)
+went x r (Ok Go) s b e f t = rw e refl
+went x r (Ok Jumped) s b e f t = rw e refl
+went x r (Ok (Schedule o)) s b e f t = cc
+went x r (Ok Halt) s b e f t = cc
+went x r (Err k) s b e f t = cc
 
 -- so of one that only answers
-pub answers : (x : Action Outcome) (r : Registers) (next : Next) (s : Store) (c : Claims) (result : Option Registers)
-    → x ≡ answer (r, next) → result ≡ going next r → IfSome result (λ r'. gone (run x s c) ≡ Some (r', s))
-answers x r next s c result e f = went (run x s c) r next s result (rw e refl) f
+pub answers : (x : Action Outcome) (r : Registers) (next : Next) (s : Store) (c : Claims) (b : Bool)
+    → x ≡ answer (r, next) → b ≡ goes (Ok next) → b ≡ true → gone (run x s c) ≡ Some (r, s)
+answers x r next s c b e f t = went (run x s c) r (Ok next) s b (rw e refl) f t
 
 -- so of an operation that only answers
 pub operation_answers : (x : Option (Action Outcome)) (o : Operation) (before r : Registers) (next : Next) (s : Store)
-    (c : Claims) (result : Option Registers) → x ≡ Some (answer (r, next)) → result ≡ going next r
-    → IfSome result (λ r'. gone (run (local_or_left x o before) s c) ≡ Some (r', s))
-operation_answers x o before r next s c result e f =
-    answers (local_or_left x o before) r next s c result (rw e refl) f
+    (c : Claims) (b : Bool) → x ≡ Some (answer (r, next)) → b ≡ goes (Ok next) → b ≡ true
+    → gone (run (local_or_left x o before) s c) ≡ Some (r, s)
+operation_answers x o before r next s c b e f t =
+    answers (local_or_left x o before) r next s c b (rw e refl) f t
 
 -- the process goes on
 abbrev pub IsGoing : Outcome → Type 0
@@ -44,16 +46,17 @@ IsGoing (r, Jumped) = Unit {0}
 IsGoing (r, _) = ⊥
 
 -- where each answer lets the process go on, no case is left in which it does not
-pub stored : (x : Action Outcome) (r : Registers) (next : Next) (s s' m m' : Store) (c : Claims)
-    (result : Option Registers) → IsQuiet IsGoing x → run x s c ≡ Ok ((r, next), s') → result ≡ going next r
-    → IfNone result (m ≡ m')
-stored x r next s s' m m' c result q e f = by next (quiet_run IsGoing x s s c (r, next) s' q e) f
+pub stored : (x : Action Outcome) (r : Registers) (step : Result Next Break) (s s' : Store) (c : Claims) (b : Bool)
+    → IsQuiet IsGoing x → run x s c ≡ outcome_of step r s' → OnErr step (s' ≡ s) → b ≡ goes step → b ≡ false
+    → s' ≡ s
+stored x r (Ok next) s s' c b q e kept f t = by next (quiet_run IsGoing x s s c (r, next) s' q e) f
   where
-    by : (next : Next) → IsGoing (r, next) → result ≡ going next r → IfNone result (m ≡ m')
-    by Go g f = rw f tt
-    by Jumped g f = rw f tt
+    by : (next : Next) → IsGoing (r, next) → b ≡ goes (Ok next) → s' ≡ s
+    by Go g f = cc
+    by Jumped g f = cc
     by (Schedule o) g f = absurd g
     by Halt g f = absurd g
+stored x r (Err k) s s' c b q e kept f t = kept
 
 -- a loop goes round or ends
 pub loop_goes : (left index : ℕ) (t : Bool) (r : Registers) → IsQuiet IsGoing (looped left index t r)

@@ -48,11 +48,6 @@ pub record RunsAlone (priority count : ℕ) (m : Control) : Type 0 where
   pub running : m.current ≡ Some priority
   pub alone : (priority ≡ 0) ⊎ ((priority ≡ 1) × (m.high ≡ []) × (m.count + count < m.timeslice))
 
--- a control after so many instructions of a process of this priority that runs alone: a low one counts them
-abbrev pub alone_for : (priority count : ℕ) → Control → Control
-alone_for zero k m = m
-alone_for (suc p) k m = record m { count = m.count + k }
-
 -- the answer of an instruction, where none says that the process goes on
 abbrev pub answer_of : Option (Result Ran Break) → Result Ran Break
 answer_of answer = unwrap_or answer (Ok ran.Instruction)

@@ -10,7 +10,8 @@ ghost use Rattle.tproc.specs.Scheduler.{counted, counted_by};
 ghost use Rattle.tproc.specs.Opening.{no_processes};
 ghost use Rattle.tproc.specs.Resting.{is_idle};
 ghost use Rattle.tproc.specs.Agreement.{IsOwn, RunsAt, StillAgrees, is_over};
-ghost use Rattle.tproc.specs.Runs.{RunsAlone, alone_for};
+ghost use Rattle.tproc.specs.Runs.{RunsAlone};
+ghost use Rattle.tproc.specs.Stretches.{alone_for};
 
 use crate::descheduled::Descheduled;
 use crate::offer::Offer;

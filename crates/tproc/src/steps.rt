@@ -10,7 +10,8 @@ ghost use Rattle.tproc.specs.Scheduler.{counted, counted_by, operation_step};
 ghost use Rattle.tproc.specs.Steps.{control_step, instruction_step};
 ghost use Rattle.tproc.specs.Agreement.{IsPlain, RunsAt, StillAgrees, is_over};
 ghost use Rattle.tcpu.specs.Stretches.{gone_on};
-ghost use Rattle.tproc.specs.Runs.{RunsAlone, alone_for, answer_of};
+ghost use Rattle.tproc.specs.Runs.{RunsAlone, answer_of};
+ghost use Rattle.tproc.specs.Stretches.{alone_for};
 ghost use Rattle.tproc.specs.SavedWords.{AreThreaded};
 ghost use Rattle.tproc.specs.Doing.{Begins, Does, Foresees, jumps_as, machine_of, moved_on, rest_of, with_registers};
 ghost use Rattle.tproc.specs.Requests.{MayDeschedule};
@@ -93,7 +94,7 @@ fn go_on(state: &mut State, claimed: &mut ClaimedMemory, most: u32) -> u32
     ensures claims { claimed.new.marks ≡ claimed.old.marks }
     ensures within { result ≤ most }
 {
-    tcpu::go_on(
+    tcpu::local_row(
         &mut state.registers,
         &mut claimed.memory,
         &claimed.marks,

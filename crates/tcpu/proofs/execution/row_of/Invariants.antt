@@ -1,11 +1,11 @@
 use Rattle.std.proofs.Common.{◌≡◌, ◌≤◌, ◌-◌, Some, length}
 use Rattle.tcpu.specs.Stretches.{gone_on}
-use Rattle.tcpu.proofs.stretch.gone_from.Given as goal
+use Rattle.tcpu.proofs.execution.row_of.Given as goal
 
 abbrev pub invariant-loop-done : goal.invariant-loop-done
 invariant-loop-done l = record {
   done :
-      gone_on l.done l.fn.memory.kind l.fn.marks l.fn.registers l.fn.memory.bytes ≡ Some (l.now, l.memory.bytes);
+      gone_on l.done l.fn.memory.kind l.fn.marks l.fn.registers l.fn.memory.bytes ≡ Some (l.registers, l.memory.bytes);
   within : l.done ≤ l.most;
   sized : length l.memory.bytes ≡ length l.fn.memory.bytes;
   kind : l.memory.kind ≡ l.fn.memory.kind;
