@@ -1,6 +1,6 @@
 //! Decoding.
 
-ghost use Rattle.std.specs.Prelude.{◌≡◌, ◌==◌, ◌/◌, pos, negsuc, ◌-ℤ◌, ◌*ℤ◌, if◌then◌else◌, IfSome, Ok, Some, None};
+ghost use Rattle.std.specs.Prelude.{◌≡◌, ◌==◌, ◌/◌, pos, negsuc, ◌-ℤ◌, ◌*ℤ◌, if◌then◌else◌, Some, None};
 ghost use Rattle.tcode.specs.Chains.{instruction, is_listed, pfix};
 ghost use Rattle.tcode.specs.Decoding.{IsFetched, fetch};
 ghost use Rattle.tcode.specs.Decoding as spec;
@@ -66,19 +66,6 @@ pub fn decode(memory: &Memory, marks: &Marks, iptr: Word) -> Result<Instruction,
         ),
         None => decode_prefixed(memory, marks, iptr, byte),
     }
-}
-
-/// The instruction of one byte at an address, for the kind of node that the memory belongs to: none where there is
-/// none, be it that the byte is a prefix or that there is a break.
-#[inline(always)]
-#[tactic(auto, unfolding(crate::specs::Decoding::decode))]
-pub fn decode_single(memory: &Memory, marks: &Marks, iptr: Word) -> Option<Instruction>
-    ensures { IfSome result
-        (λ i. value_of (run (spec.decode memory.now.kind iptr) memory.now.bytes marks.now) ≡ Ok i) }
-{
-    let byte = memory.read_byte(marks, iptr).ok()?;
-    let function = function_of(byte / 16)?;
-    ended(&memory.kind, function, u32::from(byte % 16), 1)
 }
 
 /// The instruction at an address where a prefix was fetched: most end with the next byte.

@@ -10,7 +10,7 @@ ghost use Rattle.tcpu.specs.Stretches as spec;
 ghost use Rattle.tcpu.specs.Stretches.{InstructionGone, OperationGone, gone, gone_on, gone_one};
 
 use crate::registers::{Next, Registers, Step};
-use tcode::{Function, Instruction, Operation, decode, decode_single, operation_of};
+use tcode::{Function, Instruction, Operation, decode, operation_of};
 use tword::{Break, Bytes, Kind, Marks, Memory, Word};
 
 /// Does an instruction, as the tables of the Compiler Writer's Guide say, of those that the kind of the memory's node
@@ -249,16 +249,6 @@ fn plain_at(registers: &mut Registers, memory: &mut Memory, marks: &Marks) -> bo
     ensures sized { length memory.new.bytes ≡ length memory.old.bytes }
     ensures kind { memory.new.kind ≡ memory.old.kind }
 {
-    // Most instructions have one byte: what they do stands behind a decoding of its own.
-    if let Some(instruction) = decode_single(memory, marks, registers.iptr) {
-        return plain(
-            &memory.kind,
-            registers,
-            &mut memory.bytes,
-            marks,
-            instruction,
-        );
-    }
     match decode(memory, marks, registers.iptr) {
         Ok(instruction) => plain(
             &memory.kind,
