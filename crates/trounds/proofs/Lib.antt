@@ -15,6 +15,7 @@ pub mod PartRooms
 pub mod PartActs
 pub mod PartRuns
 pub mod PartRows
+pub mod RowLists
 pub mod PartLists
 pub mod PartLoops
 pub mod PartTurns

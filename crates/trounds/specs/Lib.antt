@@ -7,4 +7,5 @@ pub mod GoingOn
 pub mod Replays
 pub mod Parts
 pub mod Copies
+pub mod Rows
 pub mod RoundNodes

@@ -1,8 +1,12 @@
 -- What a run of rounds answers.
 -- Source: own choice.
-use Rattle.std.specs.Prelude.{◌≡◌, ℕ, ◌≤◌, List, Option, Some, option_map, if◌then◌else◌}
+use Rattle.std.specs.Prelude.{◌≡◌, ℕ, ◌≤◌, List, Option, Some, None, option_map, if◌then◌else◌}
+use Rattle.tplan.specs.declared.event.Event.{Event}
 use Rattle.tplan.specs.declared.event.Hold.{Hold}
 use Rattle.trounds.specs.declared.report.Report.{Report}
+use Rattle.trounds.specs.declared.report.RunRecord.{RunRecord}
+use Rattle.trounds.specs.declared.report.Recording.{Recording}
+use Rattle.trounds.specs.declared.report.Recording.TheVariants.{Events, NoEvents}
 use Rattle.trounds.specs.declared.report.NetFault.{NetFault}
 use Rattle.trounds.specs.declared.report.NetFault.TheVariants.{BadWorkers, BadHold}
 use Rattle.tnet.specs.Net.{NetState}
@@ -28,6 +32,22 @@ reported r = record {
 -- the report of at most so many rounds of a net, by the plain definition
 abbrev pub report : List Hold → ℕ → ℕ → NetState → Report
 report holds slice most net = reported (rounds holds slice most net)
+
+-- what is kept of the events of a run
+abbrev pub kept : Recording → List Event → Option (List Event)
+kept Events events = Some events
+kept NoEvents events = None
+
+-- a report as it is recorded: without its events, where they are not kept
+abbrev pub recorded : Recording → Report → RunRecord
+recorded recording r = record {
+  «end» = r.end;
+  rounds = r.rounds;
+  events = kept recording r.events;
+  notes = r.notes;
+  net =
+      r.net;
+}
 
 -- the net after some number of whole rounds, no more than were asked for
 abbrev pub IsAfterRounds : List Hold → ℕ → ℕ → NetState → NetState → Type 0

@@ -1,7 +1,7 @@
 -- Round nodes, each with its inboxes and its outbox: the station of one, its part of a round so far, and its room.
 -- Source: own choice, how rounds are shared out.
 use Rattle.std.specs.Prelude.{◌≡◌, ℕ, ◌+◌, ◌<◌, ◌≤◌, ◌++◌, length, List, [], map, vec_len, vec_capacity, slice_index_or}
-use Rattle.std.specs.Prelude.{IfSome, false, All, ◌*◌, ◌^◌}
+use Rattle.std.specs.Prelude.{IfSome, false, All, ◌*◌, ◌^◌, Option, option_map}
 use Rattle.tnet.specs.Answers.{KeepsInput}
 use Rattle.tword.specs.Limits.{most_nodes}
 use Rattle.tproc.specs.declared.offer.Offer.{Offer}
@@ -14,6 +14,9 @@ use Rattle.trounds.specs.declared.account.Account.{Account}
 use Rattle.trounds.specs.declared.round_node.Sending.{Sending}
 use Rattle.trounds.specs.declared.round_node.RoundNode.{RoundNode}
 use Rattle.trounds.specs.declared.rule.RoundRule.{RoundRule}
+use Rattle.trounds.specs.declared.report.Ending.{Ending}
+use Rattle.trounds.specs.Rows.{in_rows}
+use Rattle.trounds.specs.Rounds.{Rounds}
 use Rattle.std.specs.List.{flat_map}
 use Rattle.tplan.specs.declared.event.Hold.{Hold}
 use Rattle.tnet.specs.declared.parts.NetParts.{NetParts}
@@ -28,11 +31,11 @@ station_of r = record { number = r.number; node = r.node; inboxes = r.inboxes; f
 -- the part of a round that a round node has done so far
 abbrev pub part_so_far : RoundNode → Part
 part_so_far r =
-    record { station = station_of r; outbox = r.outbox.items; events = r.events.items; notes = r.notes.items }
+    record { station = station_of r; outbox = r.outbox.items; events = in_rows r.events.items; notes = r.notes.items }
 
 -- what a round node has sent, done and told
 abbrev pub told_of : RoundNode → List Sending × List Event × List Note
-told_of r = (r.outbox.items, r.events.items, r.notes.items)
+told_of r = (r.outbox.items, in_rows r.events.items, r.notes.items)
 
 -- the stations of round nodes
 abbrev pub stations_of : List RoundNode → List Station
@@ -50,13 +53,13 @@ part_by rule s = part_of_round rule.holds.now rule.slice rule.round s
 abbrev pub parts_by : RoundRule → List Station → List Part
 parts_by rule stations = parts rule.holds.now rule.slice rule.round stations
 
--- a round node has room for so many events, notes and sendings
+-- a round node has room for so many rows of events, notes and sendings
 pub record HasListRoom (e n m : ℕ) (r : RoundNode) : Type 0 where
   pub events : vec_len r.events + e ≤ vec_capacity r.events
   pub notes : vec_len r.notes + n ≤ vec_capacity r.notes
   pub outbox : vec_len r.outbox + m ≤ vec_capacity r.outbox
 
--- a round node has written down no more than so many events, notes and sendings
+-- a round node has written down no more than so many rows of events, notes and sendings
 pub record Spends (e n m : ℕ) (r r' : RoundNode) : Type 0 where
   pub events : vec_len r'.events ≤ vec_len r.events + e
   pub event_room : vec_capacity r'.events ≡ vec_capacity r.events
@@ -98,30 +101,47 @@ pub record Acts (act : Act) (r r' : RoundNode) : Type 0 where
   pub spends : Spends 1 1 (sendings_of act) r r'
   pub messages : (l : ℕ) → KeepsInput act l → HasMessageRoom r l → HasMessageRoom r' l
 
--- a round node is ready for a round with so many runs; one that rests needs no room
-pub record IsReady (slice : ℕ) (r : RoundNode) : Type 0 where
-  pub room : r.rests ≡ false → HasListRoom (slice + 16) 17 16 r
+-- a round node is ready for a round; one that rests needs no room
+pub record IsReady (r : RoundNode) : Type 0 where
+  pub room : r.rests ≡ false → HasListRoom 17 17 16 r
   pub bytes : r.rests ≡ false → HasBytes 0 r
   pub is_fresh : part_so_far r ≡ fresh (station_of r)
 
 -- round nodes from the first one of a worker on are ready for a round: each worker has `size` of them
-pub record IsReadyFrom (worker size slice : ℕ) (round_nodes : List RoundNode) : Type 0 where
+pub record IsReadyFrom (worker size : ℕ) (round_nodes : List RoundNode) : Type 0 where
   pub workers : worker + length round_nodes < 2 ^ 64
   pub numbered : AreNumbered (worker * size) (stations_of round_nodes)
-  pub ready : All (IsReady slice) round_nodes
+  pub ready : All IsReady round_nodes
 
--- a round is done: the parts by themselves, then their sendings; what was done and told is behind what was before
-pub record Advances (holds : List Hold) (slice r : ℕ) (stations : List Station) (events : List Event)
-    (notes : List Note) (stations' : List Station) (events' : List Event) (notes' : List Note) : Type 0 where
+-- events behind those that are kept, if any are
+abbrev pub with_more : List Event → Option (List Event) → Option (List Event)
+with_more more events = option_map (λ es. es ++ more) events
+
+-- a round is done: the parts by themselves, then their sendings; what was done and told is behind what was kept before
+pub record Advances (holds : List Hold) (slice r : ℕ) (stations : List Station) (events : Option (List Event))
+    (notes : List Note) (stations' : List Station) (events' : Option (List Event)) (notes' : List Note) : Type 0 where
   pub stations_are : stations' ≡ stations_after (parts holds slice r stations)
-  pub events_are : events' ≡ events ++ flat_map (λ (p : Part). p.events) (parts holds slice r stations)
+  pub events_are : events' ≡ with_more (flat_map (λ (p : Part). p.events) (parts holds slice r stations)) events
   pub notes_are : notes' ≡ notes ++ flat_map (λ (p : Part). p.notes) (parts holds slice r stations)
 
 -- a round by this rule is done, and what it did and told is behind what an account had
 abbrev pub AdvancesBy : RoundRule → List Station → Account → List Station → Account → Type 0
 AdvancesBy rule stations a stations' a' =
-    Advances rule.holds.now rule.slice rule.round stations a.events.items a.notes.items stations' a'.events.items
+    Advances rule.holds.now rule.slice rule.round stations a.events a.notes.items stations' a'.events
     a'.notes.items
+
+-- rounds end so: after so many of them, with this net and these notes; their events are behind those that were kept
+-- before, if any are kept
+pub record EndSo (x : Rounds) (ending : Ending) (count : ℕ) (net : NetState) (before events : Option (List Event))
+    (notes : List Note) : Type 0 where
+  pub done : List Event
+  pub outcome_is : x ≡ record {
+    ending = ending;
+    count = count;
+    progress =
+        record { net = net; events = done; notes = notes };
+  }
+  pub events_are : events ≡ with_more done before
 
 -- the pieces of a net have room for so many nodes and for what lies at their links, and none of these is among them
 pub record HasPlaces (count : ℕ) (p : NetParts) : Type 0 where

@@ -1,11 +1,12 @@
 //! Rounds of a net by any number of workers, and lists of events done again.
 //!
 //! `run_rounds` answers what the plain definition on one list of nodes says (`specs/Rounds.antt`), for every number
-//! of workers and every list of holds; `replay` does a list of events, and tells their notes. The headline is in
-//! the contracts of both.
+//! of workers and every list of holds; `record_rounds` answers the same without its events, or with equal ones in
+//! rows; `replay` does a list of events, and tells their notes. The headline is in the contracts of all three.
 #![tactic(auto)]
 
 mod account;
+pub mod event_rows;
 pub mod gate;
 mod holds;
 pub mod laws;
@@ -18,7 +19,8 @@ mod rule;
 mod shared_round;
 mod split;
 
+pub use event_rows::{EventRow, EventRows};
 pub use gate::{Gate, Open};
 pub use replays::{ReplayFault, Replayed, replay};
-pub use report::{Ending, NetFault, Report};
-pub use rounds::run_rounds;
+pub use report::{Ending, NetFault, Recording, Report, RunRecord};
+pub use rounds::{record_rounds, run_rounds};

@@ -13,7 +13,7 @@ use std::thread::{Threads, join_mut};
 /// `size` nodes of the net, worker 1 the next, and so on.
 fn do_share<G: Gate>(shared: &SharedRound<'_, G>, _worker: usize, share: &mut [RoundNode])
     requires entered { G.has_entered shared.now.gate.now _worker shared.now.rule.round }
-    requires ready { IsReadyFrom _worker shared.now.size shared.now.rule.slice share.old }
+    requires ready { IsReadyFrom _worker shared.now.size share.old }
     ensures { parts_so_far share.new ≡ parts_by shared.now.rule (stations_of share.old) }
 {
     for place in 0..share.len() {
@@ -23,7 +23,7 @@ fn do_share<G: Gate>(shared: &SharedRound<'_, G>, _worker: usize, share: &mut [R
 
 /// A worker enters, and does its share.
 fn enter_share<G: Gate>(shared: &SharedRound<'_, G>, worker: usize, share: &mut [RoundNode])
-    requires { IsReadyFrom worker shared.now.size shared.now.rule.slice share.old }
+    requires { IsReadyFrom worker shared.now.size share.old }
     ensures { parts_so_far share.new ≡ parts_by shared.now.rule (stations_of share.old) }
 {
     shared.gate.enter(worker, shared.rule.round);
@@ -32,7 +32,7 @@ fn enter_share<G: Gate>(shared: &SharedRound<'_, G>, worker: usize, share: &mut 
 
 /// One round of each node, without threads: shares one after another, the first for this worker, the next for the next.
 pub fn do_in_turn<G: Gate>(shared: &SharedRound<'_, G>, worker: usize, share: &mut [RoundNode])
-    requires { IsReadyFrom worker shared.now.size shared.now.rule.slice share.old }
+    requires { IsReadyFrom worker shared.now.size share.old }
     ensures { parts_so_far share.new ≡ parts_by shared.now.rule (stations_of share.old) }
 {
     if share.len() <= shared.size {
@@ -63,7 +63,7 @@ pub fn do_shares<R: Threads + Sync, G: Gate + Sync>(
     worker: usize,
     share: &mut [RoundNode],
 )
-    requires { IsReadyFrom worker shared.now.size shared.now.rule.slice share.old }
+    requires { IsReadyFrom worker shared.now.size share.old }
     ensures { parts_so_far share.new ≡ parts_by shared.now.rule (stations_of share.old) }
 {
     if share.len() <= shared.size {
@@ -88,17 +88,17 @@ fn do_both<R: Threads + Sync, G: Gate + Sync>(
 )
     requires some { 0 < length front.old }
     requires more { 0 < length back.old }
-    requires front { IsReadyFrom worker shared.now.size shared.now.rule.slice front.old }
-    requires back { IsReadyFrom next shared.now.size shared.now.rule.slice back.old }
+    requires front { IsReadyFrom worker shared.now.size front.old }
+    requires back { IsReadyFrom next shared.now.size back.old }
     ensures front { parts_so_far front.new ≡ parts_by shared.now.rule (stations_of front.old) }
     ensures back { parts_so_far back.new ≡ parts_by shared.now.rule (stations_of back.old) }
 {
     let mut first = ||
-        requires { IsSync R.row × IsSync G.row × IsReadyFrom worker shared.now.size shared.now.rule.slice front.now }
+        requires { IsSync R.row × IsSync G.row × IsReadyFrom worker shared.now.size front.now }
         ensures { parts_so_far front.exit.now ≡ parts_by shared.entry.now.rule (stations_of front.entry.now) }
     { do_shares(rt, shared, worker, front) };
     let mut second = ||
-        requires { IsSync R.row × IsSync G.row × IsReadyFrom next shared.now.size shared.now.rule.slice back.now }
+        requires { IsSync R.row × IsSync G.row × IsReadyFrom next shared.now.size back.now }
         ensures { parts_so_far back.exit.now ≡ parts_by shared.entry.now.rule (stations_of back.entry.now) }
     { do_shares(rt, shared, next, back) };
     join_mut(rt, &mut first, &mut second);

@@ -6,6 +6,7 @@
 //! - `net_standing`: the text of where a net stands after the events of a log
 //! - `telling`, `exploring`: what is told of outcomes, and the text of an exploration
 //! - `differing`: in which lines two dumps differ
+//! - `recording`, `row_log`: a run by rounds of which no more is kept than is asked for, and the log of what is kept
 //! - `logging`: logs of how a net comes to the outcomes that are told of it
 //! - `standings`: the text of an exploration with where the net stands at each outcome
 //! - `commands`: the commands, from the bytes of their files to what they write
@@ -24,7 +25,9 @@ mod name;
 pub mod net_standing;
 mod opening;
 mod printed_run;
+mod recording;
 pub mod replaying;
+mod row_log;
 pub mod run;
 pub mod standings;
 pub mod telling;

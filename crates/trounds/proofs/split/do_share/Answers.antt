@@ -5,7 +5,7 @@ use Rattle.trounds.proofs.split.do_share.Goals as goal
 
 pub part_of_round-requires : goal.part_of_round-requires
 part_of_round-requires g c =
-    subst (IsReady c.args.shared.now.rule.slice)
+    subst IsReady
     (sym (same_at c.loop-place.share c.args.share.now c.loop-place.place c.index-share-place.result
     c.loop-place.invariant.left)) (c.requires.ready.ready c.loop-place.place c.index-share-place.result (omega arith))
 
