@@ -75,6 +75,10 @@ module _ (lay : Inbox) (holds : List Hold) (r l : ℕ) (p : Part) where
       ap (part_packet lay holds r kind.Data l) (packet_rests kind.Ack (does_nothing (Ack l) p rests.ack))
       ∙ packet_rests kind.Data (does_nothing (Data l) p rests.data_comes)
 
+-- where no run is enabled, none is done
+pub no_run : (k : ℕ) (p : Part) → is_station_enabled p.station Run ≡ false → part_runs k p ≡ p
+no_run k p h = run_rests k p (does_nothing Run p h)
+
 pub rests_in_round : (holds : List Hold) (slice r : ℕ) (s : Station) → is_station_quiet s ≡ true
     → part_of_round holds slice r s ≡ fresh s
 rests_in_round holds slice r s h =
