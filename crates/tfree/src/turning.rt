@@ -22,7 +22,8 @@ const FIRST_STAGE: u32 = 64;
 /// How many turns a stage has at most.
 const LONGEST_STAGE: u32 = 65_536;
 
-/// A stage is made on threads where, in the stage before, the workers did so many events for each of them.
+/// A stage is made on threads where, in the stage before, the workers did so many events for each of them. Where the
+/// calling thread makes that one, it ends with these.
 const EVENTS_WORTH_A_THREAD: usize = 16_000;
 
 /// How many turns in a row find nothing to do, at least, before a worker on a thread leaves its stage.
@@ -86,7 +87,8 @@ impl Pace {
     /// stage that is twice as long, on threads if they are worth it.
     fn next(self, stint: Stint, workers: usize) -> Self {
         let events = self.events.saturating_add(stint.events);
-        if !self.apart && self.left > 1 {
+        let apart = events >= workers.saturating_mul(EVENTS_WORTH_A_THREAD);
+        if !self.apart && !apart && self.left > 1 {
             return Pace {
                 stage: self.stage,
                 left: self.left - 1,
@@ -98,7 +100,7 @@ impl Pace {
         Pace {
             stage,
             left: stage,
-            apart: events >= workers.saturating_mul(EVENTS_WORTH_A_THREAD),
+            apart,
             events: 0,
         }
     }
@@ -226,12 +228,13 @@ fn refusal(endings: &[Ended]) -> Result<(), AllocError>
 /// Each worker makes so many turns, or stops at a turn's fault, and its list is one that so many turns leave. The
 /// turns are made in stages, of 64 turns, then 128, and so on up to 65,536. In the first the calling thread makes them,
 /// one of each worker after another, and so in each that comes behind one in which the workers did fewer than 16,000
-/// events each, taken together. In any other each worker is on a thread of its own where one can be started, else on
-/// that of another worker; with one worker no thread is started. There a turn that finds nothing to do does not
-/// count, so that a worker that waits for another does not use up its turns; one that waits for long leaves the stage.
-/// Behind a stage, and behind a turn of each in which none found anything, with all workers in hand, the calling
-/// thread looks whether anything is left to do: where nothing is, the turns that are left would add nothing, and are
-/// left out. Workers that may still get a packet from one that is not among them make all their turns.
+/// events each, taken together; such a stage ends where they have done so many. In any other each worker is on a thread
+/// of its own where one can be started, else on that of another worker; with one worker no thread is started. There a
+/// turn that finds nothing to do does not count, so that a worker that waits for another does not use up its turns;
+/// one that waits for long leaves the stage. Behind a stage, and behind the first turn of each in which none found
+/// anything, with all workers in hand, the calling thread looks whether anything is left to do: where nothing is, the
+/// turns that are left would add nothing, and are left out. Workers that may still get a packet from one that is not
+/// among them make all their turns.
 ///
 /// # Errors
 /// A worker was refused memory in a turn, or there was none before the first turn. A full clock ends the turns of
