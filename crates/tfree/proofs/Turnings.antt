@@ -1,13 +1,15 @@
 -- Turns of a worker one after another, and workers that made theirs.
-use Rattle.std.proofs.Common.{◌≡◌, ℕ, zero, suc, ◌+◌, ◌<◌, ◌≤◌, refl, sym, ◌∙◌, ap, subst, arith, length, List}
-use Rattle.std.proofs.Common.{[], ◌∷◌, ◌++◌, map, take, Bool, true, false}
+use Rattle.std.proofs.Common.{◌≡◌, ℕ, zero, suc, ◌+◌, ◌-◌, ◌<◌, ◌≤◌, refl, sym, ◌∙◌, ap, subst, arith, length, List}
+use Rattle.std.proofs.Common.{[], ◌∷◌, ◌++◌, map, take, Bool, true, false, length-append}
+use Rattle.std.proofs.lemmas.List.{append-nil}
 use Rattle.std.proofs.Math.Seq.{take-append_seam}
-use Rattle.std.specs.Prelude.{Ok, Err, is_ok, replicate}
+use Rattle.std.specs.Prelude.{Ok, Err, is_ok, max, replicate}
 use Rattle.tfree.specs.declared.stamp.OwnEvent.{OwnEvent}
 use Rattle.tfree.specs.Views.{Share, View}
-use Rattle.tfree.specs.Turns.{Times, IsTurn}
+use Rattle.tfree.specs.Turns.{Times, IsTurn, Extends}
 use Rattle.tfree.specs.Opened.{share_of}
 use Rattle.tfree.specs.Turning.{WholeTurn, AreTurns, Ended, IsTurned, GoesOn, AreEachGoneOn, AreEachTurned}
+use Rattle.tfree.specs.Turning.{HoldsBetween}
 use Rattle.tfree.proofs.Phases.{times_add}
 
 -- one turn more
@@ -22,6 +24,28 @@ pub idle_turns : (s : Share) (slice n : ℕ) (es : List OwnEvent) → IsTurn s s
     → Times n (WholeTurn s slice) es es
 idle_turns s slice zero es h = refl
 idle_turns s slice (suc n) es h = (es, idle_turns s slice n es h, h)
+
+-- turns, and then one that did nothing, are as good as any number above them
+pub idle_behind : (s t : Share) (slice k n : ℕ) (es mid es' : List OwnEvent) → k ≤ n → t ≡ s
+    → Times k (WholeTurn s slice) es mid → IsTurn t slice mid true es' → es' ≡ mid → Times n (WholeTurn s slice) es es'
+idle_behind s t slice k n es mid es' b same h turn e =
+    let all : k + (n - k) ≡ n = omega (arith, b) in
+    let idle : IsTurn s slice mid true mid =
+    subst (λ (l : List OwnEvent). IsTurn s slice mid true l) e
+    (subst (λ (r : Share). IsTurn r slice mid true es') same turn) in
+    subst (λ (l : List OwnEvent). Times n (WholeTurn s slice) es l) (sym e)
+    (subst (λ (j : ℕ). Times j (WholeTurn s slice) es mid) all
+    (times_add (WholeTurn s slice) k (n - k) es mid mid h (idle_turns s slice (n - k) mid idle)))
+
+-- a list that did not grow is as it was
+pub nothing_more : (es es' : List OwnEvent) → Extends es es' → length es' ≡ length es → es' ≡ es
+nothing_more es es' ([], e) n = e ∙ append-nil es
+nothing_more es es' (d ∷ ds, e) n = absurd (omega (arith, n, ap length e, length-append es (d ∷ ds)))
+
+-- what holds of numbers from the least on holds of those from a greater one on
+pub fewer_between : (least more most : ℕ) (what : ℕ → Type 0) → least ≤ more → more ≤ most
+    → HoldsBetween least most what → HoldsBetween more most what
+fewer_between least more most what b m h = (m, λ n l u. h.1 n (omega (arith, b, l)) u)
 
 -- a turn that stopped is the last one
 pub turn_stops : (s t : Share) (turns slice k : ℕ) (es mid es' : List OwnEvent) (ok : Bool) → ok ≡ false → k < turns
@@ -75,6 +99,19 @@ module _ (slice : ℕ) where
       (turns_on m n v u w d e h.0 k.0, each_on m n vs ds us es ws h.1 k.1)
   each_on m n (v ∷ vs) (d ∷ ds) (u ∷ us) _ _ h k = absurd k
   each_on m n _ _ _ _ _ h k = absurd h
+
+  -- and some of the turns that are left: any number from the least on, but at least one
+  pub each_on_by : (m least n most turns used : ℕ) (vs : List View) (ds : List Ended) (us : List View)
+      (es : List Ended) (ws : List View) → AreEachTurned m slice vs ds us → m < turns
+      → (0 < most) × (most ≤ turns - m) × (used ≡ slice)
+      → HoldsBetween least most (λ k. AreEachGoneOn k used us ds es ws) → n ≡ max least 1
+      → (m + n ≤ turns) × AreEachTurned (m + n) slice vs es ws
+  each_on_by m least n most turns used vs ds us es ws h left task k e = (
+    omega (arith, left, task.0, task.1, e, k.0),
+    each_on m n vs ds us es ws h
+        (subst (λ (s : ℕ). AreEachGoneOn n s us ds es ws) task.2
+        (k.1 n (omega (arith, e)) (omega (arith, e, task.0, k.0)))),
+  )
 
   -- some workers, and others behind them
   pub both_on : (n : ℕ) (vs vs' : List View) (ds ds' es es' : List Ended) (ws ws' : List View)

@@ -8,6 +8,7 @@ use Rattle.tlink.specs.declared.event.NodeEvent.{NodeEvent}
 use Rattle.tlink.specs.declared.event.NodeEvent.TheVariants.{Run, Send, Data, Take, Ack}
 use Rattle.tlink.specs.Node.{NodeState}
 use Rattle.tlink.specs.Events.{happens, node_left_by}
+use Rattle.tword.specs.Limits.{most_nodes}
 use Rattle.tplan.specs.declared.plan.End.{End}
 use Rattle.tplan.specs.declared.plan.Wire.{Wire}
 use Rattle.tnet.specs.Wires.{end_at, far_end}
@@ -73,7 +74,7 @@ own_end s i l = end_at (s.first + i) l
 -- they are ends of one ring
 pub record IsShare (s : Share) : Type 0 where
   pub sound : IsSound s.opened
-  pub few : length s.opened.nodes ≤ 64
+  pub few : length s.opened.nodes ≤ most_nodes
   pub within : s.first + s.owned ≤ length s.opened.nodes
   pub ins_are : AreRowsOfFour s.owned s.ins
   pub outs_are : AreRowsOfFour s.owned s.outs

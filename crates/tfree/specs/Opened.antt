@@ -2,6 +2,7 @@
 -- Source: own choice.
 use Rattle.std.specs.Prelude.{ℕ, ◌≡◌, ◌≢◌, ◌+◌, ◌*◌, ◌-◌, ◌<◌, ◌≤◌, ◌⊎◌, ◌==◌, min, All, List, [], ◌∷◌, length, map}
 use Rattle.std.specs.Prelude.{take, drop, Option, Some, None, slice_get, if◌then◌else◌}
+use Rattle.tword.specs.Limits.{most_nodes, most_workers}
 use Rattle.tplan.specs.declared.plan.End.{End}
 use Rattle.tnet.specs.Wires.{far_end}
 use Rattle.tnet.specs.Net.{NetState}
@@ -36,8 +37,8 @@ pub record IsShareOf (opened : NetState) (count k : ℕ) (s : Share) : Type 0 wh
 pub record AreShares (opened : NetState) (o : List Share) : Type 0 where
   pub each : (k : ℕ) (s : Share) → slice_get o k ≡ Some s → IsShareOf opened (length o) k s
   pub some : 0 < length o
-  pub few : length o ≤ 64
-  pub few_nodes : length opened.nodes ≤ 64
+  pub few : length o ≤ most_workers
+  pub few_nodes : length opened.nodes ≤ most_nodes
   pub rings : (e f : End) (k m : ℕ) (s t : Share) → far_end opened.wires e ≡ Some f → slice_get o k ≡ Some s
       → IsMine s e.node → slice_get o m ≡ Some t → IsMine t f.node
       → slot_at s.ins (e.node - s.first) e.link ≡ slot_at t.outs (f.node - t.first) f.link

@@ -1,6 +1,6 @@
 -- Workers that make many turns, each on its own.
 -- Source: own choice.
-use Rattle.std.specs.Prelude.{ℕ, ◌≡◌, ◌<◌, Bool, true, false, List, [], ◌∷◌, Result, Ok, Err, is_ok}
+use Rattle.std.specs.Prelude.{ℕ, ◌≡◌, ◌<◌, ◌≤◌, Bool, true, false, List, [], ◌∷◌, Result, Ok, Err, is_ok}
 use Rattle.std.specs.List.{list_all}
 use Rattle.tfree.specs.declared.log.TurnFault.{TurnFault}
 use Rattle.tfree.specs.declared.log.TurnFault.TheVariants.{OutOfMemory, ClockFull}
@@ -45,6 +45,11 @@ AreEachGoneOn turns slice [] [] [] [] = Unit {0}
 AreEachGoneOn turns slice (v ∷ vs) (d ∷ ds) (e ∷ es) (w ∷ ws) = GoesOn turns slice v d e w
     × AreEachGoneOn turns slice vs ds es ws
 AreEachGoneOn turns slice _ _ _ _ = ⊥
+
+-- this holds of each number from the least to the most: of so many turns, where those above the least find nothing to
+-- do, and may be left out or made
+abbrev pub HoldsBetween : (least most : ℕ) → (ℕ → Type 0) → Type 0
+HoldsBetween least most what = (least ≤ most) × ((n : ℕ) → least ≤ n → n ≤ most → what n)
 
 -- each worker made its turns, in their order, by how they ended
 abbrev pub AreEachTurned : (turns slice : ℕ) → List View → List Ended → List View → Type 0

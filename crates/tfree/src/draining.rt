@@ -4,6 +4,7 @@ ghost use Rattle.std.specs.Prelude.{◌≡◌, ◌<◌, ◌≤◌, ℕ, length, 
 ghost use Rattle.std.specs.Prelude.{option_map, slice_index_or};
 ghost use Rattle.tnet.specs.Wires.{end_at};
 ghost use Rattle.tnet.specs.Net.{empty_inbox};
+ghost use Rattle.tword.specs.Limits.{most_nodes};
 ghost use Rattle.tfree.specs.Ends.{in_view, out_view, ins_view, outs_view};
 ghost use Rattle.tfree.specs.Slots.{slot_at};
 ghost use Rattle.tfree.specs.Drained.{WasDrained, ArePaired, IsJoined, IsLeftAt, AreLeftAt};
@@ -86,7 +87,7 @@ pub(crate) fn drain_all(
     outs: &mut [Slots<OutEnd>],
     inboxes: &mut Vec<Row<Inbox>>,
 )
-    requires few { length ins.old ≤ 64 }
+    requires few { length ins.old ≤ most_nodes }
     requires joined { (n l : ℕ) → n < length ins.old → l < 4
         → IsJoined wires.now (slot_at (ins_view ins.old) n l) (outs_view outs.old) (end_at n l) }
     requires empty { vec_len inboxes.old ≡ 0 }

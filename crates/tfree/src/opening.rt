@@ -5,6 +5,7 @@ ghost use Rattle.std.specs.Prelude.{IfErr, IsTrue, Err};
 ghost use Rattle.tnet.specs.NetParts.{net_of_parts};
 ghost use Rattle.tnet.specs.Sound.{IsSound};
 ghost use Rattle.tnet.specs.Sharing as spec;
+ghost use Rattle.tword.specs.Limits.{most_workers};
 ghost use Rattle.tfree.specs.Opened.{IsOpened, ComeFromOneOpen};
 ghost use Rattle.tfree.specs.Allotments.{AreAllotted};
 ghost use Rattle.tfree.specs.declared.opening.OpenFault.TheVariants as fault;
@@ -45,7 +46,7 @@ fn share_out(
     mut workers: Vec<Worker>,
 ) -> Vec<Worker>
     requires sound { IsSound (net_of_parts parts) }
-    requires some { (0 < length allotments.items) × (length allotments.items ≤ 64) }
+    requires some { (0 < length allotments.items) × (length allotments.items ≤ most_workers) }
     requires allotted { AreAllotted (net_of_parts parts) (length allotments.items) allotments.items }
     requires empty { workers.items ≡ [] }
     requires room { length allotments.items ≤ vec_capacity workers }
@@ -76,7 +77,7 @@ fn room(
     workers: usize,
 ) -> Result<(Vec<Allotment>, Vec<Worker>), AllocError>
     requires sound { IsSound (net_of_parts parts.now) }
-    requires workers { (0 < workers) × (workers ≤ 64) }
+    requires workers { (0 < workers) × (workers ≤ most_workers) }
     ensures allotted { IfOk result (λ r. AreAllotted (net_of_parts parts.now) workers r.0.items) }
     ensures empty { IfOk result (λ r. r.1.items ≡ []) }
     ensures room { IfOk result (λ r. workers ≤ vec_capacity r.1) }

@@ -1,12 +1,14 @@
 //! Workers that make many turns, in stages, each on a thread of its own.
 
-ghost use Rattle.std.specs.Prelude.{◌≡◌, ◌<◌, ◌≤◌, ◌⊎◌, is_ok, length, map, replicate, IfErr, IfOk, Ok, Err};
+ghost use Rattle.std.specs.Prelude.{◌≡◌, ◌<◌, ◌≤◌, ◌⊎◌, is_ok, length, map, max, replicate, IfErr, IfOk, Ok, Err};
 ghost use Rattle.std.specs.Prelude.{false, true};
 ghost use Rattle.std.specs.List.{list_all};
 ghost use Rattle.std.specs.Thread.{IsSync};
 ghost use Rattle.tfree.specs.Opened.{share_of};
 ghost use Rattle.tfree.specs.Resting.{HaveMade, AreStaged};
-ghost use Rattle.tfree.specs.Turning.{AreTurned, AreEachGoneOn, GoesOn, IsTurned, had_memory};
+ghost use Rattle.tfree.specs.Turning.{AreTurned, AreEachGoneOn, GoesOn, HoldsBetween, IsTurned, had_memory};
+ghost use Rattle.tfree.specs.Turns.{IsTurn, IsClockFull};
+ghost use Rattle.tfree.specs.declared.log.TurnFault.TheVariants.{ClockFull};
 
 use crate::log::TurnFault;
 use crate::resting::are_idle;
@@ -18,71 +20,94 @@ use std::thread::{Threads, join_mut, yield_now};
 const FIRST_STAGE: u32 = 64;
 
 /// How many turns a stage has at most.
-const LONGEST_STAGE: u32 = 4_096;
+const LONGEST_STAGE: u32 = 65_536;
 
-/// A worker is busy in a turn in which it does more events than these for each of its nodes: its nodes compute, and
-/// do not only pass on what comes.
-const EVENTS_OF_A_NODE: usize = 16;
+/// A stage is made on threads where, in the stage before, the workers did so many events for each of them. Where the
+/// calling thread makes that one, it ends with these.
+const EVENTS_WORTH_A_THREAD: usize = 16_000;
 
-/// How the next turns are made: in a stage, each worker on a thread of its own, or one of each worker by the calling
-/// thread.
+/// How many turns in a row find nothing to do, at least, before a worker on a thread leaves its stage.
+const SHORTEST_WAIT: u32 = 64;
+
+/// What part of a stage a worker on a thread waits for something to do before it leaves the stage.
+const PART_TO_WAIT: u32 = 64;
+
+/// The stage in which the next turns are made: each worker on a thread of its own, or all by the calling thread, one
+/// turn of each after another.
 #[derive(Clone, Copy)]
 struct Pace {
-    /// How many turns the next stage has.
+    /// How many turns the stage has.
     stage: u32,
-    /// How many turns of each worker the calling thread makes before.
-    single: u32,
-    ghost stages: { (0 < stage) × (stage ≤ 4096) },
+    /// How many of them are left.
+    left: u32,
+    /// Whether each worker makes them on a thread of its own.
+    apart: bool,
+    /// How many events the workers did in the stage.
+    events: usize,
+    ghost stages: { (0 < stage) × (stage ≤ 65536) × (0 < left) × (left ≤ stage) },
 }
 
 impl Pace {
-    /// A short stage comes first.
+    /// The calling thread makes the first turns.
     fn first() -> Self {
         Pace {
             stage: FIRST_STAGE,
-            single: 0,
+            left: FIRST_STAGE,
+            apart: false,
+            events: 0,
         }
     }
 
-    /// Whether the next turns are made on threads.
-    fn is_apart(self) -> bool {
-        self.single == 0
-    }
-
-    /// How many turns are made next, where so many are left.
-    fn count(self, left: u32) -> u32
-        requires { 0 < left }
-        ensures { (0 < result) × (result ≤ left) }
+    /// What so many workers make next, where so many turns are left to make. One alone waits for no other.
+    fn task(self, turns: u32, slice: u32, workers: usize) -> Task
+        requires { 0 < turns }
+        ensures { (0 < result.turns) × (result.turns ≤ turns) × (result.slice ≡ slice) }
     {
-        if self.is_apart() {
-            self.stage.min(left)
-        } else {
-            1
+        if !self.apart {
+            return Task {
+                turns: 1,
+                slice,
+                patience: 1,
+                apart: false,
+            };
+        }
+        Task {
+            turns: self.left.min(turns),
+            slice,
+            patience: if workers == 1 {
+                1
+            } else {
+                SHORTEST_WAIT.max(self.stage / PART_TO_WAIT)
+            },
+            apart: true,
         }
     }
 
-    /// What comes behind turns in which so many workers were busy. Behind a stage the calling thread makes as many
-    /// turns of each worker, so that none runs out of turns while it waits for another. When two are busy in one of
-    /// these turns, a stage comes that is twice as long; when all are made, a short one.
-    fn next(self, busy: usize) -> Self {
-        if self.is_apart() {
-            Pace {
+    /// What comes behind turns of so many workers: the rest of the stage, where the calling thread makes it; else a
+    /// stage that is twice as long, on threads if they are worth it.
+    fn next(self, stint: Stint, workers: usize) -> Self {
+        let events = self.events.saturating_add(stint.events);
+        let apart = events >= workers.saturating_mul(EVENTS_WORTH_A_THREAD);
+        if !self.apart && !apart && self.left > 1 {
+            return Pace {
                 stage: self.stage,
-                single: self.stage,
-            }
-        } else if busy > 1 {
-            Pace {
-                stage: LONGEST_STAGE.min(2 * self.stage),
-                single: 0,
-            }
-        } else if self.single > 1 {
-            Pace {
-                stage: self.stage,
-                single: self.single - 1,
-            }
-        } else {
-            Pace::first()
+                left: self.left - 1,
+                apart: false,
+                events,
+            };
         }
+        let stage = LONGEST_STAGE.min(2 * self.stage);
+        Pace {
+            stage,
+            left: stage,
+            apart,
+            events: 0,
+        }
+    }
+
+    /// Whether none of the stage's turns are made yet.
+    fn begins(self) -> bool {
+        self.left == self.stage
     }
 }
 
@@ -91,37 +116,89 @@ impl Pace {
 struct Task {
     turns: u32,
     slice: u32,
+    /// After how many turns in a row that find nothing to do the rest are left out.
+    patience: u32,
     /// Whether each worker makes them on a thread of its own, where one can be started.
     apart: bool,
+}
+
+/// What some workers did of a task.
+#[derive(Clone, Copy)]
+struct Stint {
+    /// How many turns the one made that made most. One that finds nothing to do does not count, and may be left out
+    /// or made any number of times.
+    made: u32,
+    /// How many events they did.
+    events: usize,
+}
+
+impl Stint {
+    /// Of these workers and others.
+    fn with(self, other: Stint) -> Self
+        ensures { result.made ≡ max self.made other.made }
+    {
+        Stint {
+            made: self.made.max(other.made),
+            events: self.events.saturating_add(other.events),
+        }
+    }
 }
 
 /// How the turns of a worker ended: all were made, or one stopped for a fault.
 pub(crate) type Ended = Result<(), TurnFault>;
 
 impl Worker {
-    /// So many turns, one after another, or until one stops for a fault. After one that found nothing to do it lets
+    /// A turn, and whether it found anything to do. It is the first that does, of at most so many: between two turns
     /// other threads go first.
-    pub(crate) fn turns(&mut self, turns: u32, slice: u32) -> Ended
-        ensures { IsTurned turns slice self.old result self.new }
+    fn next_turn(&mut self, slice: u32, patience: u32) -> Result<bool, TurnFault>
+        ensures same { self.new.share ≡ self.old.share }
+        ensures turn { IsTurn self.old.share slice self.old.events (is_ok result) self.new.events }
+        ensures nothing { result ≡ Ok false → self.new.events ≡ self.old.events }
+        ensures full { result ≡ Err ClockFull → IsClockFull self.new }
     {
-        for _done in 0..turns {
+        for _wait in 1..patience {
             let turned = self.turn(slice)?;
-            if turned.events == 0 && turns > 1 {
-                yield_now();
+            if turned.events > 0 {
+                return Ok(true);
             }
+            yield_now();
         }
-        Ok(())
+        let last = self.turn(slice)?;
+        Ok(last.events > 0)
     }
 
-    /// So many turns more, unless it has stopped for a fault. Whether it was busy, where that was one turn.
-    fn go_on(&mut self, ended: &mut Ended, task: Task) -> bool
-        ensures { GoesOn task.turns task.slice self.old ended.old ended.new self.new }
+    /// So many turns, one after another, or until one stops for a fault. Those that find nothing to do do not count,
+    /// and after so many in a row the rest are left out. How they ended, and how many counted.
+    fn turns(&mut self, task: Task) -> (Ended, u32)
+        ensures { HoldsBetween result.1 task.turns (λ n. IsTurned n task.slice self.old result.0 self.new) }
+    {
+        for made in 0..task.turns {
+            match self.next_turn(task.slice, task.patience) {
+                Ok(true) => {}
+                Ok(false) => return (Ok(()), made),
+                Err(fault) => return (Err(fault), made + 1),
+            }
+        }
+        (Ok(()), task.turns)
+    }
+
+    /// So many turns more, unless it has stopped for a fault.
+    fn go_on(&mut self, ended: &mut Ended, task: Task) -> Stint
+        ensures { HoldsBetween result.made task.turns
+            (λ n. GoesOn n task.slice self.old ended.old ended.new self.new) }
     {
         let before = self.events();
-        if ended.is_ok() {
-            *ended = self.turns(task.turns, task.slice);
+        let made = if ended.is_ok() {
+            let (ending, made) = self.turns(task);
+            *ended = ending;
+            made
+        } else {
+            0
+        };
+        Stint {
+            made,
+            events: self.events().saturating_sub(before),
         }
-        self.events().saturating_sub(before) > self.nodes().saturating_mul(EVENTS_OF_A_NODE)
     }
 }
 
@@ -149,12 +226,15 @@ fn refusal(endings: &[Ended]) -> Result<(), AllocError>
 }
 
 /// Each worker makes so many turns, or stops at a turn's fault, and its list is one that so many turns leave. The
-/// turns are made in stages, of 64 turns, then 128, and so on up to 4,096: in a stage each worker is on a thread of
-/// its own where one can be started, else on that of another worker; with one worker no thread is started. Behind a
-/// stage the calling thread makes turns of each worker, one of each after another, as many as the stage had, or fewer
-/// where two workers are busy. Behind these and the stage, with all workers in hand, it looks whether anything is
-/// left to do: where nothing is, the turns that are left would add nothing, and are left out. Workers that may still
-/// get a packet from one that is not among them make all their turns.
+/// turns are made in stages, of 64 turns, then 128, and so on up to 65,536. In the first the calling thread makes them,
+/// one of each worker after another, and so in each that comes behind one in which the workers did fewer than 16,000
+/// events each, taken together; such a stage ends where they have done so many. In any other each worker is on a thread
+/// of its own where one can be started, else on that of another worker; with one worker no thread is started. There a
+/// turn that finds nothing to do does not count, so that a worker that waits for another does not use up its turns;
+/// one that waits for long leaves the stage. Behind a stage, and behind the first turn of each in which none found
+/// anything, with all workers in hand, the calling thread looks whether anything is left to do: where nothing is, the
+/// turns that are left would add nothing, and are left out. Workers that may still get a packet from one that is not
+/// among them make all their turns.
 ///
 /// # Errors
 /// A worker was refused memory in a turn, or there was none before the first turn. A full clock ends the turns of
@@ -190,39 +270,42 @@ fn turn_in_stages<R: Threads + Sync>(
 {
     let mut made = 0;
     let mut pace = Pace::first();
+    let mut found = true;
     while made < turns {
-        let count = pace.count(turns - made);
-        let task = Task {
-            turns: count,
-            slice,
-            apart: pace.is_apart(),
-        };
-        let busy = turn_some(rt, task, workers, endings);
-        made += count;
-        if are_idle(workers, endings) {
+        let task = pace.task(turns - made, slice, workers.len());
+        let stint = turn_some(rt, task, workers, endings);
+        made += stint.made.max(1);
+        pace = pace.next(stint, workers.len());
+        let found_before = found;
+        found = stint.events > 0;
+        let looks = pace.begins() || (found_before && !found);
+        if looks && are_idle(workers, endings) {
             return;
         }
-        pace = pace.next(busy);
+        if !found {
+            yield_now();
+        }
     }
 }
 
-/// Some workers make so many turns more, but for those that have stopped, on threads or one after another: how many
-/// were busy. They are halved down to one worker.
+/// Some workers make turns more, but for those that have stopped, on threads or one after another. They are halved
+/// down to one worker.
 #[cycle(turning)]
 fn turn_some<R: Threads + Sync>(
     rt: &R,
     task: Task,
     workers: &mut [Worker],
     endings: &mut [Ended],
-) -> usize
+) -> Stint
     requires { length endings.old ≡ length workers.old }
-    ensures { AreEachGoneOn task.turns task.slice workers.old endings.old endings.new workers.new }
+    ensures { HoldsBetween result.made task.turns
+        (λ n. AreEachGoneOn n task.slice workers.old endings.old endings.new workers.new) }
 {
     if workers.is_empty() {
-        return 0;
+        return Stint { made: 0, events: 0 };
     }
     if workers.len() == 1 {
-        return usize::from(workers[0].go_on(&mut endings[0], task));
+        return workers[0].go_on(&mut endings[0], task);
     }
     let half = workers.len() / 2;
     let (front, back) = workers.split_at_mut(half);
@@ -239,29 +322,33 @@ fn turn_both<R: Threads + Sync>(
     first: &mut [Ended],
     back: &mut [Worker],
     second: &mut [Ended],
-) -> usize
+) -> Stint
     requires some { 0 < length front.old }
     requires more { 0 < length back.old }
     requires first { length first.old ≡ length front.old }
     requires second { length second.old ≡ length back.old }
-    ensures front { AreEachGoneOn task.turns task.slice front.old first.old first.new front.new }
-    ensures back { AreEachGoneOn task.turns task.slice back.old second.old second.new back.new }
+    ensures front { HoldsBetween result.made task.turns
+        (λ n. AreEachGoneOn n task.slice front.old first.old first.new front.new) }
+    ensures back { HoldsBetween result.made task.turns
+        (λ n. AreEachGoneOn n task.slice back.old second.old second.new back.new) }
 {
     if !task.apart {
         let one = turn_some(rt, task, front, first);
         let other = turn_some(rt, task, back, second);
-        return one.saturating_add(other);
+        return one.with(other);
     }
-    let mut one = || -> usize
+    let mut one = || -> Stint
         requires sync { IsSync R.row }
         requires alike { length first.now ≡ length front.now }
-        ensures { AreEachGoneOn task.turns task.slice front.entry.now first.entry.now first.exit.now front.exit.now }
+        ensures { HoldsBetween result.made task.turns
+            (λ n. AreEachGoneOn n task.slice front.entry.now first.entry.now first.exit.now front.exit.now) }
     { turn_some(rt, task, front, first) };
-    let mut other = || -> usize
+    let mut other = || -> Stint
         requires sync { IsSync R.row }
         requires alike { length second.now ≡ length back.now }
-        ensures { AreEachGoneOn task.turns task.slice back.entry.now second.entry.now second.exit.now back.exit.now }
+        ensures { HoldsBetween result.made task.turns
+            (λ n. AreEachGoneOn n task.slice back.entry.now second.entry.now second.exit.now back.exit.now) }
     { turn_some(rt, task, back, second) };
     let (one, other) = join_mut(rt, &mut one, &mut other);
-    one.saturating_add(other)
+    one.with(other)
 }
