@@ -2,19 +2,14 @@
 //! process stands after them, and shows the instructions of images.
 #![tactic(auto)]
 
-mod commands;
-mod log_file;
 mod progress;
 mod streams;
-mod words;
 
-use crate::commands::do_command;
-use crate::log_file::output_fault;
 use crate::progress::ProgressLine;
 use crate::streams::Missing;
-use crate::words::{WordFault, given_words};
 use clap::error::ErrorKind;
 use std::process::ExitCode;
+use tcommands::{WordFault, do_command, given_words, output_fault};
 use tfiles::Uncounted;
 use ttext::{Fault, Verdict, end_command};
 use twords::{Command, CommandFault, read_words};

@@ -1,5 +1,5 @@
 use Rattle.std.proofs.Common.{◌≡◌, length}
-use Rattle.temu.proofs.commands.load_images.Given as goal
+use Rattle.tcommands.proofs.commands.load_images.Given as goal
 
 -- each node so far has its file
 abbrev pub invariant-loop-node : goal.invariant-loop-node

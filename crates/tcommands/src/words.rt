@@ -1,8 +1,8 @@
 //! The words of the command line, as the system gives them.
 
 ghost use Rattle.std.specs.Prelude.{◌≡◌, IfErr, IfOk, string_bytes};
-ghost use Rattle.temu.specs.Words as spec;
-ghost use Rattle.temu.specs.declared.words.WordFault.TheVariants.{OutOfMemory};
+ghost use Rattle.tcommands.specs.Words as spec;
+ghost use Rattle.tcommands.specs.declared.words.WordFault.TheVariants.{OutOfMemory};
 
 use std::alloc::{AllocError, AllocFailed, Global};
 use std::env::FillError;
