@@ -210,8 +210,8 @@ impl Engine {
         }
     }
 
-    /// Instructions of the current process in a row, at most so many, while no other has a say and as long as each is one
-    /// of the most common ones and the process goes on behind it: how many were done.
+    /// Instructions of the current process in a row, at most so many, while no other has a say and as long as each is
+    /// one of the most common ones and the process goes on behind it: how many were done.
     pub fn go_on_alone(&mut self, priority: Priority, most: u32) -> u32
         requires { RunsAlone (number priority) most self.old.state }
         ensures gone { gone_on result self.old.claimed.memory.kind self.old.claimed.marks self.old.state.registers
