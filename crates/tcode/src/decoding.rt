@@ -1,14 +1,17 @@
 //! Decoding.
 
 ghost use Rattle.std.specs.Prelude.{◌≡◌, ◌==◌, ◌/◌, pos, negsuc, ◌-ℤ◌, ◌*ℤ◌, if◌then◌else◌, Some, None};
+ghost use Rattle.std.specs.Prelude.{◌<◌, IfSome, length, true};
 ghost use Rattle.tcode.specs.Chains.{instruction, is_listed, pfix};
 ghost use Rattle.tcode.specs.Decoding.{IsFetched, fetch};
 ghost use Rattle.tcode.specs.Decoding as spec;
 ghost use Rattle.tcode.specs.Table.{function_at};
+ghost use Rattle.tcode.specs.Codes.{Decodes};
 ghost use Rattle.tword.specs.Actions.{run, run_from, value_of};
+ghost use Rattle.tword.specs.Open.{AreOpenCounts};
 ghost use Rattle.tword.specs.Words.{reduced};
 
-use crate::codes::{PFIX, function_of, operation_of};
+use crate::codes::{NFIX, PFIX, code_of, function_of, operation_of};
 use crate::instruction::{DecodeFault, Function, Instruction};
 use tword::{Break, Kind, Marks, Memory, Word};
 
@@ -119,6 +122,81 @@ fn decode_chain(
         address = address.plus(Word::new(1));
     }
     Err(Break::LongPrefix)
+}
+
+/// The code of the function and the operand of the instruction at an address, and the address behind it, for those who
+/// do many instructions in a row: as `decode` finds them, but whether the operation is listed for the kind is left open.
+/// Only chains of one byte or two are found, where the counts of open words show at once that these may be fetched.
+#[inline(always)]
+pub fn chain_at(
+    memory: &Memory,
+    marks: &Marks,
+    counts: &[u16],
+    iptr: Word,
+) -> Option<(u8, Word, Word)>
+    requires { AreOpenCounts counts.now (length memory.now.bytes) marks.now }
+    ensures { IfSome result (λ chain. Decodes memory.now.kind iptr (function_at chain.0) chain.1 chain.2
+        (value_of (run (spec.decode memory.now.kind iptr) memory.now.bytes marks.now))) }
+{
+    let byte = memory.bytes.open_byte(marks, counts, iptr)?;
+    // One way out, so that a switch over the codes is not copied for each.
+    let chain = if is_prefix(byte / 16) {
+        prefixed_chain_at(memory, marks, counts, iptr, byte)?
+    } else {
+        let operand = Word::new(u32::from(byte % 16));
+        (byte / 16, operand, iptr.plus(Word::new(1)))
+    };
+    Some(chain)
+}
+
+/// The code of the function and the operand of the instruction at an address where a prefix was fetched, and the
+/// address behind it, as `chain_at` finds them.
+#[inline(always)]
+fn prefixed_chain_at(
+    memory: &Memory,
+    marks: &Marks,
+    counts: &[u16],
+    iptr: Word,
+    prefix: u8,
+) -> Option<(u8, Word, Word)>
+    requires counts { AreOpenCounts counts.now (length memory.now.bytes) marks.now }
+    requires fetched { IsFetched memory.now.bytes marks.now iptr prefix }
+    requires prefix { function_at (prefix / 16) ≡ None }
+    ensures { IfSome result (λ chain. Decodes memory.now.kind iptr (function_at chain.0) chain.1 chain.2
+        (value_of (run (spec.decode memory.now.kind iptr) memory.now.bytes marks.now))) }
+{
+    let value = prefixed(prefix / 16, u32::from(prefix % 16));
+    let second = iptr.plus(Word::new(1));
+    let last = memory.bytes.open_byte(marks, counts, second)?;
+    if is_prefix(last / 16) {
+        return None;
+    }
+    let operand = Word::new(value.wrapping_add(u32::from(last % 16)));
+    Some((last / 16, operand, iptr.plus(Word::new(2))))
+}
+
+/// Whether four bits are the code of a prefix.
+#[inline(always)]
+#[tactic(auto, unfolding(crate::specs::Table::function_at))]
+fn is_prefix(code: u8) -> bool
+    ensures { result ≡ true → function_at code ≡ None }
+{
+    code == PFIX || code == NFIX
+}
+
+/// The code of the function and the operand of the instruction at an address, and the address behind it, as `chain_at`
+/// finds them, of any chain.
+pub fn any_chain_at(memory: &Memory, marks: &Marks, iptr: Word) -> Option<(u8, Word, Word)>
+    ensures { IfSome result (λ chain. Decodes memory.now.kind iptr (function_at chain.0) chain.1 chain.2
+        (value_of (run (spec.decode memory.now.kind iptr) memory.now.bytes marks.now))) }
+{
+    match decode(memory, marks, iptr) {
+        Ok(i) => {
+            let behind = iptr.plus(Word::new(u32::from(i.length)));
+            Some((code_of(i.function), i.operand, behind))
+        }
+        Err(_) => None,
+    }
 }
 
 /// The instruction at the head of plain bytes, for a node of a kind.

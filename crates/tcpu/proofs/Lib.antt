@@ -6,3 +6,5 @@ pub mod Normal
 pub mod Quiet
 -- instructions after which their process goes on
 pub mod Stretches
+-- so by the codes of their functions
+pub mod Rows

@@ -1,5 +1,5 @@
 -- Instructions after which their process goes on.
-use Rattle.std.proofs.Common.{◌≡◌, ◌+◌, ℕ, suc, arith, refl, Option, Some, None, Result, Ok, Err}
+use Rattle.std.proofs.Common.{◌≡◌, ◌+◌, ◌-◌, ◌<◌, ◌≤◌, ℕ, zero, suc, arith, refl, sym, ap, ◌∙◌, Option, Some, None, Result, Ok, Err}
 use Rattle.std.proofs.Common.{Bool, true, false}
 use Rattle.std.specs.Prelude.{OnErr}
 use Rattle.tword.specs.declared.breaks.Break.{Break}
@@ -27,36 +27,11 @@ went x r (Ok (Schedule o)) s b e f t = cc
 went x r (Ok Halt) s b e f t = cc
 went x r (Err k) s b e f t = cc
 
--- so of one that only answers
-pub answers : (x : Action Outcome) (r : Registers) (next : Next) (s : Store) (c : Claims) (b : Bool)
-    → x ≡ answer (r, next) → b ≡ goes (Ok next) → b ≡ true → gone (run x s c) ≡ Some (r, s)
-answers x r next s c b e f t = went (run x s c) r (Ok next) s b (rw e refl) f t
-
--- so of an operation that only answers
-pub operation_answers : (x : Option (Action Outcome)) (o : Operation) (before r : Registers) (next : Next) (s : Store)
-    (c : Claims) (b : Bool) → x ≡ Some (answer (r, next)) → b ≡ goes (Ok next) → b ≡ true
-    → gone (run (local_or_left x o before) s c) ≡ Some (r, s)
-operation_answers x o before r next s c b e f t =
-    answers (local_or_left x o before) r next s c b (rw e refl) f t
-
 -- the process goes on
 abbrev pub IsGoing : Outcome → Type 0
 IsGoing (r, Go) = Unit {0}
 IsGoing (r, Jumped) = Unit {0}
 IsGoing (r, _) = ⊥
-
--- where each answer lets the process go on, no case is left in which it does not
-pub stored : (x : Action Outcome) (r : Registers) (step : Result Next Break) (s s' : Store) (c : Claims) (b : Bool)
-    → IsQuiet IsGoing x → run x s c ≡ outcome_of step r s' → OnErr step (s' ≡ s) → b ≡ goes step → b ≡ false
-    → s' ≡ s
-stored x r (Ok next) s s' c b q e kept f t = by next (quiet_run IsGoing x s s c (r, next) s' q e) f
-  where
-    by : (next : Next) → IsGoing (r, next) → b ≡ goes (Ok next) → s' ≡ s
-    by Go g f = cc
-    by Jumped g f = cc
-    by (Schedule o) g f = absurd g
-    by Halt g f = absurd g
-stored x r (Err k) s s' c b q e kept f t = kept
 
 -- a loop goes round or ends
 pub loop_goes : (left index : ℕ) (t : Bool) (r : Registers) → IsQuiet IsGoing (looped left index t r)
@@ -71,3 +46,30 @@ unfolding gone_on
 gone_next k kind kind' claims r mid s at x e same f =
     let next : k + 1 ≡ suc k = omega arith in
     rw (next, e) (rw same at f)
+
+-- so by how many are left of those that were asked for
+pub gone_down : (most left : ℕ) (kind kind' : Kind) (claims : Claims) (r mid : Registers) (s at : Store)
+    (x : Option (Registers × Store)) → 0 < left → left ≤ most
+    → gone_on (most - left) kind claims r s ≡ Some (mid, at) → kind' ≡ kind
+    → gone_one kind' claims (Some (mid, at)) ≡ x → gone_on (most - (left - 1)) kind claims r s ≡ x
+gone_down most left kind kind' claims r mid s at x some few e same f =
+    let next : most - (left - 1) ≡ most - left + 1 = omega arith in
+    rw next (gone_next (most - left) kind kind' claims r mid s at x e same f)
+
+further : (n k : ℕ) (kind : Kind) (claims : Claims) (r mid : Registers) (s at : Store)
+    → gone_on k kind claims r s ≡ Some (mid, at)
+    → gone_on (k + n) kind claims r s ≡ gone_on n kind claims mid at
+unfolding gone_on
+further zero k kind claims r mid s at e =
+    let none : k + zero ≡ k = omega arith in
+    rw none e
+further (suc n) k kind claims r mid s at e =
+    let next : k + suc n ≡ suc (k + n) = omega arith in
+    rw next (ap (gone_one kind claims) (further n k kind claims r mid s at e))
+
+-- some more behind those that were done
+pub gone_further : (n k : ℕ) (kind kind' : Kind) (claims : Claims) (r mid : Registers) (s at : Store)
+    (x : Option (Registers × Store)) → gone_on k kind claims r s ≡ Some (mid, at) → kind' ≡ kind
+    → gone_on n kind' claims mid at ≡ x → gone_on (k + n) kind claims r s ≡ x
+gone_further n k kind kind' claims r mid s at x e same f =
+    further n k kind claims r mid s at e ∙ ap (λ (l : Kind). gone_on n l claims mid at) (sym same) ∙ f

@@ -7,14 +7,12 @@ use Rattle.tword.specs.Stores.{Store}
 use Rattle.tword.specs.Claims.{Claims}
 use Rattle.tword.specs.Actions.{run, value_of}
 use Rattle.tcode.specs.declared.instruction.Instruction.{Instruction}
-use Rattle.tcode.specs.declared.instruction.Operation.{Operation}
 use Rattle.tcode.specs.Decoding.{decode}
 use Rattle.tcpu.specs.declared.registers.Registers.{Registers}
 use Rattle.tcpu.specs.declared.registers.Next.{Next}
 use Rattle.tcpu.specs.declared.registers.Next.TheVariants.{Go, Jumped}
 use Rattle.tcpu.specs.Outcomes.{Outcome}
-use Rattle.tcpu.specs.Effects.{effect, effect_at, local_or_left}
-use Rattle.tcpu.specs.Operations.{operation_effect}
+use Rattle.tcpu.specs.Effects.{effect}
 
 -- registers behind which the process goes on: none where it needs the scheduler or halts the processor
 abbrev pub going : Next → Registers → Option Registers
@@ -46,17 +44,6 @@ gone_one kind claims None = None
 unfoldable pub gone_on : ℕ → Kind → Claims → Registers → Store → Option (Registers × Store)
 gone_on zero kind claims r s = Some (r, s)
 gone_on (suc k) kind claims r s = gone_one kind claims (gone_on k kind claims r s)
-
--- an operation left these registers and this store, and its process goes on, whatever stood before it
-abbrev pub OperationGone : Operation → Registers → Store → Claims → Registers → Store → Type 0
-OperationGone o r s claims r' s' =
-    (before : Registers) → gone (run (local_or_left (operation_effect o r) o before) s claims) ≡ Some (r', s')
-
--- a function or an operation, Iptr being behind it, left these registers and this store, and its process goes on,
--- whatever stood before it
-abbrev pub InstructionGone : Kind → Instruction → Registers → Store → Claims → Registers → Store → Type 0
-InstructionGone kind i r s claims r' s' =
-    (before : Registers) → gone (run (effect_at kind i.function i.operand before r) s claims) ≡ Some (r', s')
 
 -- whether an instruction was done, and its process goes on
 abbrev pub goes : Result Next Break → Bool

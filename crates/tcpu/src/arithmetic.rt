@@ -1,7 +1,7 @@
 //! Arithmetic on words: signed with Error on overflow, or modulo 2 ^ 32.
 #![tactic(auto, unfolding(crate::specs::Functions::function_effect, crate::specs::Operations::operation_effect))]
 
-ghost use Rattle.std.specs.Prelude.{◌≡◌, Some};
+ghost use Rattle.std.specs.Prelude.{◌≡◌, Some, false, true};
 ghost use Rattle.tword.specs.Actions.{answer};
 ghost use Rattle.tcpu.specs.Functions.{function_effect};
 ghost use Rattle.tcpu.specs.Operations.{operation_effect};
@@ -61,6 +61,66 @@ impl Registers {
         let (product, overflows) = signed_product(self.b, self.a);
         self.replace_all(product);
         self.finish(overflows)
+    }
+
+    /// `adc`, where it does not overflow: whether it was done.
+    #[inline(always)]
+    #[tactic(auto, unfolding(crate::specs::Functions::function_effect, crate::specs::Operations::operation_effect), using(crate::proofs::Rows::unflagged))]
+    pub(crate) fn add_small_constant(&mut self, operand: Word) -> bool
+        ensures done { result ≡ true → function_effect Function.Adc operand self.old ≡ answer (self.new, Next.Go) }
+        ensures kept { result ≡ false → self.new ≡ self.old }
+    {
+        let (value, overflows) = signed_sum(self.a, operand);
+        if overflows {
+            return false;
+        }
+        self.replace_top(value);
+        true
+    }
+
+    /// `add`, where it does not overflow: whether it was done.
+    #[inline(always)]
+    #[tactic(auto, unfolding(crate::specs::Functions::function_effect, crate::specs::Operations::operation_effect), using(crate::proofs::Rows::unflagged))]
+    pub(crate) fn add_small(&mut self) -> bool
+        ensures done { result ≡ true → operation_effect Operation.Add self.old ≡ Some (answer (self.new, Next.Go)) }
+        ensures kept { result ≡ false → self.new ≡ self.old }
+    {
+        let (value, overflows) = signed_sum(self.b, self.a);
+        if overflows {
+            return false;
+        }
+        self.replace_all(value);
+        true
+    }
+
+    /// `sub`, where it does not overflow: whether it was done.
+    #[inline(always)]
+    #[tactic(auto, unfolding(crate::specs::Functions::function_effect, crate::specs::Operations::operation_effect), using(crate::proofs::Rows::unflagged))]
+    pub(crate) fn subtract_small(&mut self) -> bool
+        ensures done { result ≡ true → operation_effect Operation.Sub self.old ≡ Some (answer (self.new, Next.Go)) }
+        ensures kept { result ≡ false → self.new ≡ self.old }
+    {
+        let (value, overflows) = signed_difference(self.b, self.a);
+        if overflows {
+            return false;
+        }
+        self.replace_all(value);
+        true
+    }
+
+    /// `mul`, where it does not overflow: whether it was done.
+    #[inline(always)]
+    #[tactic(auto, unfolding(crate::specs::Functions::function_effect, crate::specs::Operations::operation_effect), using(crate::proofs::Rows::unflagged))]
+    pub(crate) fn multiply_small(&mut self) -> bool
+        ensures done { result ≡ true → operation_effect Operation.Mul self.old ≡ Some (answer (self.new, Next.Go)) }
+        ensures kept { result ≡ false → self.new ≡ self.old }
+    {
+        let (value, overflows) = signed_product(self.b, self.a);
+        if overflows {
+            return false;
+        }
+        self.replace_all(value);
+        true
     }
 
     /// `div`: by 0 the quotient is 0 (own choice).

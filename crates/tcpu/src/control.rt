@@ -1,14 +1,17 @@
 //! Jumps, calls, loops and the workspace pointer.
 #![tactic(auto, unfolding(crate::specs::Functions::function_effect, crate::specs::Operations::operation_effect))]
 
-ghost use Rattle.std.specs.Prelude.{◌≡◌, Some, OnOk, OnErr, length, true};
-ghost use Rattle.tword.specs.Actions.{answer, or_break};
-ghost use Rattle.tword.specs.Stores.{word_at};
+ghost use Rattle.std.specs.Prelude.{◌≡◌, Some, None, IfSome, Ok, OnOk, OnErr, false, length, true};
+ghost use Rattle.tword.specs.Open.{AreOpenCounts};
+ghost use Rattle.tword.specs.Actions.{answer, or_break, run};
+ghost use Rattle.tword.specs.Stores.{word_at, with_word};
 ghost use Rattle.tword.specs.Touches.{Writes, word_break, first_break, is_inside, word_span};
 ghost use Rattle.tword.specs.Words.{plus, minus};
 ghost use Rattle.tcpu.specs.Functions.{function_effect};
 ghost use Rattle.tcpu.specs.Local.{DoesFunction, DoesOperation};
-ghost use Rattle.tcpu.specs.Operations.{operation_effect};
+ghost use Rattle.tcpu.specs.Local.{outcome_of};
+ghost use Rattle.tcpu.specs.Operations.{is_positive_word, looped, operation_effect};
+ghost use Rattle.tword.specs.Claims.{Claims};
 
 use crate::registers::{Next, Registers, Step};
 use crate::word_arithmetic::{is_word_address, word_address};
@@ -94,6 +97,52 @@ impl Registers {
         ensures sized { length memory.new ≡ length memory.old }
     {
         self.may_call(memory, marks)?;
+        self.enter(memory, operand);
+        Ok(Next::Go)
+    }
+
+    /// `call`, where the counts show at once that its four writes pass: whether it was done.
+    #[inline(always)]
+    pub(crate) fn open_call(
+        &mut self,
+        memory: &mut Bytes,
+        marks: &Marks,
+        counts: &[u16],
+        operand: Word,
+    ) -> bool
+        requires { AreOpenCounts counts.now (length memory.old) marks.now }
+        ensures done { result ≡ true
+            → DoesFunction Function.Call operand self.old memory.old marks.now (Ok Next.Go) self.new memory.new }
+        ensures kept { result ≡ false → (memory.new ≡ memory.old) × (self.new ≡ self.old) }
+        ensures sized { length memory.new ≡ length memory.old }
+    {
+        let wptr = self.wptr;
+        if !memory.is_clear_word(marks, counts, wptr.below(4))
+            || !memory.is_clear_word(marks, counts, wptr.below(3))
+            || !memory.is_clear_word(marks, counts, wptr.below(2))
+            || !memory.is_clear_word(marks, counts, wptr.below(1))
+        {
+            return false;
+        }
+        self.enter(memory, operand);
+        true
+    }
+
+    /// Enters a procedure: what `call` does, for a caller that has checked its four words.
+    #[inline(always)]
+    fn enter(&mut self, memory: &mut Bytes, operand: Word)
+        requires first { is_inside (length memory.old) (word_span (minus self.old.wptr 16)) ≡ true }
+        requires second { is_inside (length memory.old) (word_span (minus self.old.wptr 12)) ≡ true }
+        requires third { is_inside (length memory.old) (word_span (minus self.old.wptr 8)) ≡ true }
+        requires fourth { is_inside (length memory.old) (word_span (minus self.old.wptr 4)) ≡ true }
+        ensures memory { memory.new ≡ with_word (with_word (with_word (with_word memory.old
+            (minus self.old.wptr 16) self.old.iptr) (minus self.old.wptr 12) self.old.a)
+            (minus self.old.wptr 8) self.old.b) (minus self.old.wptr 4) self.old.c }
+        ensures registers { self.new ≡ record self.old {
+          wptr = minus self.old.wptr 16; a = self.old.iptr; iptr = plus self.old.iptr operand;
+        } }
+        ensures sized { length memory.new ≡ length memory.old }
+    {
         let wptr = self.wptr;
         let workspace = wptr.below(4);
         memory.set_word(workspace, self.iptr);
@@ -103,7 +152,6 @@ impl Registers {
         self.wptr = workspace;
         self.a = self.iptr;
         self.iptr = self.iptr.plus(operand);
-        Ok(Next::Go)
     }
 
     /// Whether `call` may write its four words.
@@ -138,9 +186,86 @@ impl Registers {
         ensures done { DoesOperation Operation.Ret self.old memory.now marks.now result self.new memory.now }
         ensures kept { OnErr result (self.new ≡ self.old) }
     {
-        self.iptr = memory.read_word(marks, self.wptr)?;
-        self.wptr = self.wptr.plus(Word::new(16));
+        let iptr = memory.read_word(marks, self.wptr)?;
+        self.leave(iptr);
         Ok(Next::Go)
+    }
+
+    /// `ret`, where the counts show at once that its read passes: whether it was done.
+    #[inline(always)]
+    pub(crate) fn open_return(&mut self, memory: &Bytes, marks: &Marks, counts: &[u16]) -> bool
+        requires { AreOpenCounts counts.now (length memory.now) marks.now }
+        ensures done { result ≡ true
+            → DoesOperation Operation.Ret self.old memory.now marks.now (Ok Next.Go) self.new memory.now }
+        ensures kept { result ≡ false → self.new ≡ self.old }
+    {
+        let Some(iptr) = memory.open_word(marks, counts, self.wptr) else {
+            return false;
+        };
+        self.leave(iptr);
+        true
+    }
+
+    /// Leaves a procedure: goes on at an address, in the workspace of the caller.
+    #[inline(always)]
+    fn leave(&mut self, iptr: Word)
+        ensures { self.new ≡ record self.old { iptr = iptr; wptr = plus self.old.wptr 16 } }
+    {
+        self.iptr = iptr;
+        self.wptr = self.wptr.plus(Word::new(16));
+    }
+
+    /// `lend`, where the counts show at once that its writes pass: what follows, if it was done.
+    #[inline(always)]
+    pub(crate) fn open_loop_end(
+        &mut self,
+        memory: &mut Bytes,
+        marks: &Marks,
+        counts: &[u16],
+    ) -> Option<Next>
+        requires { AreOpenCounts counts.now (length memory.old) marks.now }
+        ensures done { IfSome result
+            (λ next. DoesOperation Operation.Lend self.old memory.old marks.now (Ok next) self.new memory.new) }
+        ensures kept { result ≡ None → (memory.new ≡ memory.old) × (self.new ≡ self.old) }
+        ensures sized { length memory.new ≡ length memory.old }
+    {
+        let index = self.b;
+        let count = index.plus(Word::new(4));
+        if !memory.is_clear_word(marks, counts, count)
+            || !memory.is_clear_word(marks, counts, index)
+        {
+            return None;
+        }
+        let left = memory.word(count).minus(Word::new(1));
+        Some(self.go_round(memory, left))
+    }
+
+    /// Ends a turn of a loop whose count has fallen to `left`, for a caller that has checked its two words: what follows.
+    #[inline(always)]
+    fn go_round(&mut self, memory: &mut Bytes, left: Word) -> Next
+        requires count { is_inside (length memory.old) (word_span (plus self.old.b 4)) ≡ true }
+        requires index { is_inside (length memory.old) (word_span self.old.b) ≡ true }
+        ensures done { (claims : Claims) → word_break (length memory.old) claims Writes (plus self.old.b 4) ≡ None
+            → word_break (length memory.old) claims Writes self.old.b ≡ None
+            → run (looped left (word_at memory.old self.old.b) (is_positive_word left) self.old) memory.old claims
+            ≡ outcome_of (Ok result) self.new memory.new }
+        ensures sized { length memory.new ≡ length memory.old }
+    {
+        let index = self.b;
+        let count = index.plus(Word::new(4));
+        let back = self.iptr.minus(self.a);
+        self.pop();
+        self.pop();
+        if left.signed() > 0 {
+            let risen = memory.word(index).plus(Word::new(1));
+            memory.set_word(count, left);
+            memory.set_word(index, risen);
+            self.iptr = back;
+            Next::Jumped
+        } else {
+            memory.set_word(count, left);
+            Next::Go
+        }
     }
 
     /// `lend`: the count falls, and while it is above 0 the index rises and the loop goes round again. The test is on
@@ -155,21 +280,7 @@ impl Registers {
         ensures sized { length memory.new ≡ length memory.old }
     {
         let left = self.falling_count(memory, marks)?;
-        let index = self.b;
-        let count = index.plus(Word::new(4));
-        let back = self.iptr.minus(self.a);
-        self.pop();
-        self.pop();
-        if left.signed() > 0 {
-            let risen = memory.word(index).plus(Word::new(1));
-            memory.set_word(count, left);
-            memory.set_word(index, risen);
-            self.iptr = back;
-            Ok(Next::Jumped)
-        } else {
-            memory.set_word(count, left);
-            Ok(Next::Go)
-        }
+        Ok(self.go_round(memory, left))
     }
 
     /// The count of the loop that `lend` ends, fallen by 1.

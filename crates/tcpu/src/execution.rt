@@ -1,16 +1,20 @@
 //! Instructions of the running process: one, or several in a row.
 
-ghost use Rattle.std.specs.Prelude.{◌≡◌, ◌≤◌, IfOk, OnErr, Some, false, length, true};
-ghost use Rattle.tword.specs.Actions.{run};
+ghost use Rattle.std.specs.Prelude.{◌≡◌, ◌<◌, ◌≤◌, IfOk, OnErr, Some, false, length, true};
+ghost use Rattle.tword.specs.Actions.{run, value_of};
+ghost use Rattle.tcode.specs.Codes.{Decodes};
+ghost use Rattle.tcode.specs.Decoding.{decode};
 ghost use Rattle.tcpu.specs.Effects.{effect, effect_at, local_or_left};
-ghost use Rattle.tcpu.specs.Functions.{function_effect};
 ghost use Rattle.tcpu.specs.Local.{outcome_of, StandsWhereLeft};
 ghost use Rattle.tcpu.specs.Operations.{operation_effect};
 ghost use Rattle.tcpu.specs.Stretches as spec;
-ghost use Rattle.tcpu.specs.Stretches.{InstructionGone, OperationGone, gone, gone_on, gone_one};
+ghost use Rattle.tcpu.specs.Stretches.{gone_on, gone_one};
+ghost use Rattle.tcpu.specs.Rows.{CodeGone, SelectedGone};
+ghost use Rattle.tword.specs.Open.{AreOpenCounts};
+ghost use Rattle.tcode.specs.Table.{function_at, operation_at};
 
 use crate::registers::{Next, Registers, Step};
-use tcode::{Function, Instruction, Operation, decode, operation_of};
+use tcode::{Function, Instruction, Operation, any_chain_at, chain_at, operation_of};
 use tword::{Break, Bytes, Kind, Marks, Memory, Word};
 
 /// Does an instruction, as the tables of the Compiler Writer's Guide say, of those that the kind of the memory's node
@@ -216,176 +220,234 @@ pub fn local_row(registers: &mut Registers, memory: &mut Memory, marks: &Marks, 
     ensures kind { memory.new.kind ≡ memory.old.kind }
 {
     let mut now = *registers;
-    let done = row_of(&mut now, memory, marks, most);
+    let counts = marks.open_counts(memory.size());
+    let done = row_of(&mut now, memory, marks, counts, most);
     *registers = now;
     done
 }
 
-/// Does instructions in a row, as `local_row` does: how many.
+/// Does instructions in a row, as `local_row` does: how many. Where the short rows stop at a chain that wants a closer
+/// look, its instruction is done by itself.
 #[inline(always)]
-#[tactic(auto, unfolding(crate::specs::Stretches::gone_on), using(crate::proofs::Stretches::gone_next))]
-fn row_of(registers: &mut Registers, memory: &mut Memory, marks: &Marks, most: u32) -> u32
+#[tactic(auto, unfolding(crate::specs::Stretches::gone_on), using(crate::proofs::Stretches::gone_next, crate::proofs::Stretches::gone_further))]
+fn row_of(
+    registers: &mut Registers,
+    memory: &mut Memory,
+    marks: &Marks,
+    counts: &[u16],
+    most: u32,
+) -> u32
+    requires { AreOpenCounts counts.now (length memory.old.bytes) marks.now }
     ensures done { gone_on result memory.old.kind marks.now registers.old memory.old.bytes
         ≡ Some (registers.new, memory.new.bytes) }
     ensures within { result ≤ most }
     ensures sized { length memory.new.bytes ≡ length memory.old.bytes }
     ensures kind { memory.new.kind ≡ memory.old.kind }
 {
-    for done in 0..most {
-        if !plain_at(registers, memory, marks) {
+    let mut done = 0;
+    while done < most {
+        let (count, is_long) = short_row(registers, memory, marks, counts, most - done);
+        done += count;
+        if !is_long {
             return done;
         }
+        // So that only this copy need lie in memory.
+        let mut now = *registers;
+        let goes_on = plain_closely(&mut now, memory, marks, counts);
+        *registers = now;
+        if !goes_on {
+            return done;
+        }
+        done += 1;
     }
-    most
+    done
 }
 
-/// Does the instruction at Iptr, if it is one of the most common ones and its process goes on behind it: whether it was
-/// done. Else nothing is changed.
+/// Does instructions in a row whose chains are short, as `local_row` does: how many, and whether the next one's chain
+/// wants a closer look.
 #[inline(always)]
-fn plain_at(registers: &mut Registers, memory: &mut Memory, marks: &Marks) -> bool
+#[tactic(auto, unfolding(crate::specs::Stretches::gone_on), using(crate::proofs::Stretches::gone_down))]
+fn short_row(
+    registers: &mut Registers,
+    memory: &mut Memory,
+    marks: &Marks,
+    counts: &[u16],
+    most: u32,
+) -> (u32, bool)
+    requires { AreOpenCounts counts.now (length memory.old.bytes) marks.now }
+    ensures done { gone_on result.0 memory.old.kind marks.now registers.old memory.old.bytes
+        ≡ Some (registers.new, memory.new.bytes) }
+    ensures within { result.0 ≤ most }
+    ensures more { result.1 ≡ true → result.0 < most }
+    ensures sized { length memory.new.bytes ≡ length memory.old.bytes }
+    ensures kind { memory.new.kind ≡ memory.old.kind }
+{
+    let mut left = most;
+    while left > 0 {
+        let Some(chain) = chain_at(memory, marks, counts, registers.iptr) else {
+            return (most - left, true);
+        };
+        if !plain_chain(registers, memory, marks, counts, chain) {
+            return (most - left, false);
+        }
+        left -= 1;
+    }
+    (most, false)
+}
+
+/// Does the instruction at Iptr, whatever its chain, if it is one of the most common ones and its process goes on
+/// behind it: whether it was done. Else nothing is changed.
+#[cold]
+#[inline(never)]
+fn plain_closely(
+    registers: &mut Registers,
+    memory: &mut Memory,
+    marks: &Marks,
+    counts: &[u16],
+) -> bool
+    requires { AreOpenCounts counts.now (length memory.old.bytes) marks.now }
     ensures done { result ≡ true → gone_one memory.old.kind marks.now (Some (registers.old, memory.old.bytes))
         ≡ Some (registers.new, memory.new.bytes) }
     ensures kept { result ≡ false → (memory.new ≡ memory.old) × (registers.new ≡ registers.old) }
     ensures sized { length memory.new.bytes ≡ length memory.old.bytes }
     ensures kind { memory.new.kind ≡ memory.old.kind }
 {
-    match decode(memory, marks, registers.iptr) {
-        Ok(instruction) => plain(
-            &memory.kind,
-            registers,
-            &mut memory.bytes,
-            marks,
-            instruction,
-        ),
-        Err(_) => false,
+    match any_chain_at(memory, marks, registers.iptr) {
+        Some(chain) => plain_chain(registers, memory, marks, counts, chain),
+        None => false,
     }
 }
 
-/// Does an instruction, if it is one of the most common ones and its process goes on behind it: whether it was done.
-/// Else nothing is changed.
+/// Does the instruction at Iptr, of which this was decoded, as `plain_closely` does.
 #[inline(always)]
-#[tactic(auto, unfolding(crate::specs::Effects::effect))]
+fn plain_chain(
+    registers: &mut Registers,
+    memory: &mut Memory,
+    marks: &Marks,
+    counts: &[u16],
+    chain: (u8, Word, Word),
+) -> bool
+    requires counts { AreOpenCounts counts.now (length memory.old.bytes) marks.now }
+    requires decoded { Decodes memory.old.kind registers.old.iptr (function_at chain.0) chain.1 chain.2
+        (value_of (run (decode memory.old.kind registers.old.iptr) memory.old.bytes marks.now)) }
+    ensures done { result ≡ true → gone_one memory.old.kind marks.now (Some (registers.old, memory.old.bytes))
+        ≡ Some (registers.new, memory.new.bytes) }
+    ensures kept { result ≡ false → (memory.new ≡ memory.old) × (registers.new ≡ registers.old) }
+    ensures sized { length memory.new.bytes ≡ length memory.old.bytes }
+    ensures kind { memory.new.kind ≡ memory.old.kind }
+{
+    let start = registers.iptr;
+    let (code, operand, behind) = chain;
+    registers.iptr = behind;
+    let bytes = &mut memory.bytes;
+    if plain(
+        &memory.kind,
+        registers,
+        bytes,
+        marks,
+        counts,
+        code,
+        operand,
+    ) {
+        return true;
+    }
+    registers.iptr = start;
+    false
+}
+
+/// Does the function of a code, Iptr being behind it, if it is one of the most common ones and its process goes on
+/// behind it: whether it was done. Else nothing is changed.
+#[inline(always)]
+#[tactic(auto, unfolding(tcode::specs::Table::function_at, crate::specs::Functions::function_effect), using(crate::proofs::Rows::answered, crate::proofs::Rows::gone_so, crate::proofs::Rows::went_so, crate::proofs::Rows::stopped))]
 fn plain(
     kind: &Kind,
     registers: &mut Registers,
     memory: &mut Bytes,
     marks: &Marks,
-    instruction: Instruction,
+    counts: &[u16],
+    code: u8,
+    operand: Word,
 ) -> bool
-    ensures done { result ≡ true → gone (run (effect kind.now instruction registers.old) memory.old marks.now)
-        ≡ Some (registers.new, memory.new) }
+    requires { AreOpenCounts counts.now (length memory.old) marks.now }
+    ensures done { result ≡ true → CodeGone kind.now (function_at code) operand registers.old memory.old marks.now
+        registers.new memory.new }
     ensures kept { result ≡ false → (memory.new ≡ memory.old) × (registers.new ≡ registers.old) }
     ensures sized { length memory.new ≡ length memory.old }
 {
-    let mut now = *registers;
-    now.iptr = registers
-        .iptr
-        .plus(Word::new(u32::from(instruction.length)));
-    if did_plain(kind, &mut now, memory, marks, instruction) {
-        *registers = now;
-        return true;
+    match code {
+        0x0 => did(registers.jump(operand)),
+        0x1 => did(registers.load_local_pointer(operand)),
+        0x3 => registers.load_open_non_local(memory, marks, counts, operand),
+        0x4 => did(registers.load_constant(operand)),
+        0x5 => did(registers.load_non_local_pointer(operand)),
+        0x7 => registers.load_open_local(memory, marks, counts, operand),
+        0x8 => registers.add_small_constant(operand),
+        0x9 => registers.open_call(memory, marks, counts, operand),
+        0xa => did(registers.conditional_jump(operand)),
+        0xb => did(registers.adjust_workspace(operand)),
+        0xc => did(registers.equals_constant(operand)),
+        0xd => registers.store_open_local(memory, marks, counts, operand),
+        0xe => registers.store_open_non_local(memory, marks, counts, operand),
+        0xf => plain_operation(kind, registers, memory, marks, counts, operand),
+        _ => false,
     }
-    false
 }
 
-/// Does an instruction, Iptr being behind it, as `plain` does. Where it was not done, the registers are of no use.
+/// Does a local operation, as `plain` does a function.
 #[inline(always)]
-#[tactic(auto, unfolding(crate::specs::Effects::effect))]
-fn did_plain(
+#[tactic(auto, unfolding(tcode::specs::Table::operation_at, crate::specs::Operations::operation_effect), using(crate::proofs::Rows::answered, crate::proofs::Rows::gone_so, crate::proofs::Rows::went_so, crate::proofs::Rows::stopped, crate::proofs::Stretches::loop_goes))]
+fn plain_operation(
     kind: &Kind,
     registers: &mut Registers,
     memory: &mut Bytes,
     marks: &Marks,
-    instruction: Instruction,
-) -> bool
-    ensures done { result ≡ true
-        → InstructionGone kind.now instruction registers.old memory.old marks.now registers.new memory.new }
-    ensures kept { result ≡ false → memory.new ≡ memory.old }
-    ensures sized { length memory.new ≡ length memory.old }
-{
-    match instruction.function {
-        Function::Opr => match operation_of(instruction.operand, *kind) {
-            Some(operation) => plain_operation(registers, memory, marks, operation),
-            None => false,
-        },
-        function => plain_function(registers, memory, marks, function, instruction.operand),
-    }
-}
-
-/// Does a function, as `did_plain` does.
-#[inline(always)]
-#[tactic(auto, unfolding(crate::specs::Functions::function_effect), using(crate::proofs::Stretches::went, crate::proofs::Stretches::answers, crate::proofs::Stretches::stored))]
-fn plain_function(
-    registers: &mut Registers,
-    memory: &mut Bytes,
-    marks: &Marks,
-    function: Function,
+    counts: &[u16],
     operand: Word,
 ) -> bool
-    ensures done { result ≡ true → gone (run (function_effect function operand registers.old) memory.old marks.now)
-        ≡ Some (registers.new, memory.new) }
-    ensures kept { result ≡ false → memory.new ≡ memory.old }
+    requires { AreOpenCounts counts.now (length memory.old) marks.now }
+    ensures done { result ≡ true → SelectedGone (operation_at kind.now operand) registers.old memory.old marks.now
+        registers.new memory.new }
+    ensures kept { result ≡ false → (memory.new ≡ memory.old) × (registers.new ≡ registers.old) }
     ensures sized { length memory.new ≡ length memory.old }
 {
-    match function {
-        Function::J => goes(Ok(registers.jump(operand))),
-        Function::Ldlp => goes(Ok(registers.load_local_pointer(operand))),
-        Function::Ldnl => goes(registers.load_non_local(memory, marks, operand)),
-        Function::Ldc => goes(Ok(registers.load_constant(operand))),
-        Function::Ldnlp => goes(Ok(registers.load_non_local_pointer(operand))),
-        Function::Ldl => goes(registers.load_local(memory, marks, operand)),
-        Function::Adc => goes(Ok(registers.add_constant(operand))),
-        Function::Call => goes(registers.call(memory, marks, operand)),
-        Function::Cj => goes(Ok(registers.conditional_jump(operand))),
-        Function::Ajw => goes(Ok(registers.adjust_workspace(operand))),
-        Function::Eqc => goes(Ok(registers.equals_constant(operand))),
-        Function::Stl => goes(registers.store_local(memory, marks, operand)),
-        Function::Stnl => goes(registers.store_non_local(memory, marks, operand)),
-        Function::Opr => false,
+    match operand.get() {
+        0x00 => did(registers.reverse()),
+        0x01 => registers.load_open_byte(memory, marks, counts),
+        0x02 => did(registers.byte_subscript()),
+        0x04 => did(registers.difference()),
+        0x05 => registers.add_small(),
+        0x08 => did(registers.product()),
+        0x09 => did(registers.greater_than()),
+        0x0a => did(registers.word_subscript()),
+        0x0c => registers.subtract_small(),
+        0x1b => did(registers.load_pointer_to_instruction()),
+        0x20 => registers.open_return(memory, marks, counts),
+        0x21 => registers.open_loop_end(memory, marks, counts).is_some(),
+        0x32 => did(registers.complement()),
+        0x33 => did(registers.exclusive_or()),
+        0x3b => registers.store_open_byte(memory, marks, counts),
+        0x3c => goes(registers.general_adjust_workspace(memory, marks)),
+        0x40 => did(registers.shift_right()),
+        0x41 => did(registers.shift_left()),
+        0x42 => did(registers.minimum_integer()),
+        0x46 => did(registers.bitwise_and()),
+        0x4b => did(registers.bitwise_or()),
+        0x52 => did(registers.sum()),
+        0x53 => registers.multiply_small(),
+        0x5a => match kind {
+            Kind::One => false,
+            Kind::Two => did(registers.duplicate()),
+        },
+        _ => false,
     }
 }
 
-/// Does a local operation, as `did_plain` does.
+/// Of an instruction that only answers, and goes on whatever it finds: it was done.
 #[inline(always)]
-#[tactic(auto, unfolding(crate::specs::Operations::operation_effect), using(crate::proofs::Stretches::went, crate::proofs::Stretches::operation_answers, crate::proofs::Stretches::stored, crate::proofs::Stretches::loop_goes))]
-fn plain_operation(
-    registers: &mut Registers,
-    memory: &mut Bytes,
-    marks: &Marks,
-    operation: Operation,
-) -> bool
-    ensures done { result ≡ true
-        → OperationGone operation registers.old memory.old marks.now registers.new memory.new }
-    ensures kept { result ≡ false → memory.new ≡ memory.old }
-    ensures sized { length memory.new ≡ length memory.old }
+fn did(_next: Next) -> bool
+    ensures { result ≡ true }
 {
-    match operation {
-        Operation::Rev => goes(Ok(registers.reverse())),
-        Operation::Lb => goes(registers.load_byte(memory, marks)),
-        Operation::Bsub => goes(Ok(registers.byte_subscript())),
-        Operation::Diff => goes(Ok(registers.difference())),
-        Operation::Add => goes(Ok(registers.add())),
-        Operation::Prod => goes(Ok(registers.product())),
-        Operation::Gt => goes(Ok(registers.greater_than())),
-        Operation::Wsub => goes(Ok(registers.word_subscript())),
-        Operation::Sub => goes(Ok(registers.subtract())),
-        Operation::Ldpi => goes(Ok(registers.load_pointer_to_instruction())),
-        Operation::Ret => goes(registers.return_from_call(memory, marks)),
-        Operation::Lend => goes(registers.loop_end(memory, marks)),
-        Operation::Not => goes(Ok(registers.complement())),
-        Operation::Xor => goes(Ok(registers.exclusive_or())),
-        Operation::Sb => goes(registers.store_byte(memory, marks)),
-        Operation::Gajw => goes(registers.general_adjust_workspace(memory, marks)),
-        Operation::Shr => goes(Ok(registers.shift_right())),
-        Operation::Shl => goes(Ok(registers.shift_left())),
-        Operation::Mint => goes(Ok(registers.minimum_integer())),
-        Operation::And => goes(Ok(registers.bitwise_and())),
-        Operation::Or => goes(Ok(registers.bitwise_or())),
-        Operation::Sum => goes(Ok(registers.sum())),
-        Operation::Mul => goes(Ok(registers.multiply())),
-        Operation::Dup => goes(Ok(registers.duplicate())),
-        _ => false,
-    }
+    true
 }
 
 /// Whether an instruction was done, and its process goes on.

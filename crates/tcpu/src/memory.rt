@@ -1,7 +1,8 @@
 //! Loads, stores and the move of bytes.
 #![tactic(auto, unfolding(crate::specs::Functions::function_effect, crate::specs::Operations::operation_effect))]
 
-ghost use Rattle.std.specs.Prelude.{◌≡◌, OnErr, length};
+ghost use Rattle.std.specs.Prelude.{◌≡◌, Ok, OnErr, false, length, true};
+ghost use Rattle.tword.specs.Open.{AreOpenCounts};
 ghost use Rattle.tcpu.specs.Local.{DoesFunction, DoesOperation};
 
 use crate::registers::{Next, Registers, Step};
@@ -72,6 +73,131 @@ impl Registers {
         self.pop();
         self.pop();
         Ok(Next::Go)
+    }
+
+    /// `ldl`, where the counts show at once that its read passes: whether it was done.
+    #[inline(always)]
+    pub(crate) fn load_open_local(
+        &mut self,
+        memory: &Bytes,
+        marks: &Marks,
+        counts: &[u16],
+        operand: Word,
+    ) -> bool
+        requires { AreOpenCounts counts.now (length memory.now) marks.now }
+        ensures done { result ≡ true
+            → DoesFunction Function.Ldl operand self.old memory.now marks.now (Ok Next.Go) self.new memory.now }
+        ensures kept { result ≡ false → self.new ≡ self.old }
+    {
+        let Some(value) = memory.open_word(marks, counts, word_address(self.wptr, operand)) else {
+            return false;
+        };
+        self.push(value);
+        true
+    }
+
+    /// `ldnl`, where the counts show at once that its read passes: whether it was done.
+    #[inline(always)]
+    pub(crate) fn load_open_non_local(
+        &mut self,
+        memory: &Bytes,
+        marks: &Marks,
+        counts: &[u16],
+        operand: Word,
+    ) -> bool
+        requires { AreOpenCounts counts.now (length memory.now) marks.now }
+        ensures done { result ≡ true
+            → DoesFunction Function.Ldnl operand self.old memory.now marks.now (Ok Next.Go) self.new memory.now }
+        ensures kept { result ≡ false → self.new ≡ self.old }
+    {
+        let Some(value) = memory.open_word(marks, counts, word_address(self.a, operand)) else {
+            return false;
+        };
+        self.replace_top(value);
+        true
+    }
+
+    /// `stl`, where the counts show at once that its write passes: whether it was done.
+    #[inline(always)]
+    pub(crate) fn store_open_local(
+        &mut self,
+        memory: &mut Bytes,
+        marks: &Marks,
+        counts: &[u16],
+        operand: Word,
+    ) -> bool
+        requires { AreOpenCounts counts.now (length memory.old) marks.now }
+        ensures done { result ≡ true
+            → DoesFunction Function.Stl operand self.old memory.old marks.now (Ok Next.Go) self.new memory.new }
+        ensures kept { result ≡ false → (memory.new ≡ memory.old) × (self.new ≡ self.old) }
+        ensures sized { length memory.new ≡ length memory.old }
+    {
+        if !memory.set_open_word(marks, counts, word_address(self.wptr, operand), self.a) {
+            return false;
+        }
+        self.pop();
+        true
+    }
+
+    /// `stnl`, where the counts show at once that its write passes: whether it was done.
+    #[inline(always)]
+    pub(crate) fn store_open_non_local(
+        &mut self,
+        memory: &mut Bytes,
+        marks: &Marks,
+        counts: &[u16],
+        operand: Word,
+    ) -> bool
+        requires { AreOpenCounts counts.now (length memory.old) marks.now }
+        ensures done { result ≡ true
+            → DoesFunction Function.Stnl operand self.old memory.old marks.now (Ok Next.Go) self.new memory.new }
+        ensures kept { result ≡ false → (memory.new ≡ memory.old) × (self.new ≡ self.old) }
+        ensures sized { length memory.new ≡ length memory.old }
+    {
+        if !memory.set_open_word(marks, counts, word_address(self.a, operand), self.b) {
+            return false;
+        }
+        self.pop();
+        self.pop();
+        true
+    }
+
+    /// `lb`, where the counts show at once that its read passes: whether it was done.
+    #[inline(always)]
+    pub(crate) fn load_open_byte(&mut self, memory: &Bytes, marks: &Marks, counts: &[u16]) -> bool
+        requires { AreOpenCounts counts.now (length memory.now) marks.now }
+        ensures done { result ≡ true
+            → DoesOperation Operation.Lb self.old memory.now marks.now (Ok Next.Go) self.new memory.now }
+        ensures kept { result ≡ false → self.new ≡ self.old }
+    {
+        let Some(value) = memory.open_byte(marks, counts, self.a) else {
+            return false;
+        };
+        self.replace_top(Word::new(u32::from(value)));
+        true
+    }
+
+    /// `sb`, where the counts show at once that its write passes: whether it was done.
+    #[inline(always)]
+    pub(crate) fn store_open_byte(
+        &mut self,
+        memory: &mut Bytes,
+        marks: &Marks,
+        counts: &[u16],
+    ) -> bool
+        requires { AreOpenCounts counts.now (length memory.old) marks.now }
+        ensures done { result ≡ true
+            → DoesOperation Operation.Sb self.old memory.old marks.now (Ok Next.Go) self.new memory.new }
+        ensures kept { result ≡ false → (memory.new ≡ memory.old) × (self.new ≡ self.old) }
+        ensures sized { length memory.new ≡ length memory.old }
+    {
+        let low = (self.b.get() % 256) as u8;
+        if !memory.set_open_byte(marks, counts, self.a, low) {
+            return false;
+        }
+        self.pop();
+        self.pop();
+        true
     }
 
     /// `lb`: the byte at A

@@ -38,12 +38,13 @@ fn move_front(from: &mut Vec<Node>, to: &mut Vec<Node>, count: usize)
     }
 }
 
-/// Each worker gets its allotment and its nodes.
+/// Each worker gets its allotment and its nodes, and keeps its events or not.
 fn share_out(
     alloc: Global,
     parts: NetParts,
     mut allotments: Vec<Allotment>,
     mut workers: Vec<Worker>,
+    kept: bool,
 ) -> Vec<Worker>
     requires sound { IsSound (net_of_parts parts) }
     requires some { (0 < length allotments.items) × (length allotments.items ≤ most_workers) }
@@ -64,7 +65,7 @@ fn share_out(
         let mut allotment = allotments.remove(0);
         let owned = size.min(nodes.len());
         move_front(&mut nodes, &mut allotment.nodes, owned);
-        workers.push_reserved(Worker::new(alloc, number, count, first, allotment));
+        workers.push_reserved(Worker::new(alloc, number, count, first, allotment, kept));
         first += owned;
     }
     workers
@@ -100,12 +101,47 @@ pub fn open(alloc: Global, net: Net, workers: usize) -> Result<Vec<Worker>, (Ope
     ensures counted { IfErr result (λ e. e.0 ≡ fault.BadWorkers → IsTrue (spec.is_bad_count workers)) }
     ensures same { IfErr result (λ e. e.1 ≡ net) }
 {
+    open_keeping(alloc, net, workers, true)
+}
+
+/// Opens a net as `open` does, for workers that keep no event: what they tell alone can be gathered, by
+/// `gather_notes`.
+///
+/// # Errors
+/// Those of `open`.
+pub fn open_without_events(
+    alloc: Global,
+    net: Net,
+    workers: usize,
+) -> Result<Vec<Worker>, (OpenFault, Net)>
+    ensures opened { IfOk result (λ ws. IsOpened net workers ws.items) }
+    ensures one { IfOk result (λ ws. ComeFromOneOpen ws.items) }
+    ensures bad { IsTrue (spec.is_bad_count workers) → result ≡ Err (fault.BadWorkers, net) }
+    ensures counted { IfErr result (λ e. e.0 ≡ fault.BadWorkers → IsTrue (spec.is_bad_count workers)) }
+    ensures same { IfErr result (λ e. e.1 ≡ net) }
+{
+    open_keeping(alloc, net, workers, false)
+}
+
+/// Opens a net for so many workers, which keep their events or not.
+fn open_keeping(
+    alloc: Global,
+    net: Net,
+    workers: usize,
+    kept: bool,
+) -> Result<Vec<Worker>, (OpenFault, Net)>
+    ensures opened { IfOk result (λ ws. IsOpened net workers ws.items) }
+    ensures one { IfOk result (λ ws. ComeFromOneOpen ws.items) }
+    ensures bad { IsTrue (spec.is_bad_count workers) → result ≡ Err (fault.BadWorkers, net) }
+    ensures counted { IfErr result (λ e. e.0 ≡ fault.BadWorkers → IsTrue (spec.is_bad_count workers)) }
+    ensures same { IfErr result (λ e. e.1 ≡ net) }
+{
     if is_bad_count(workers) {
         return Err((OpenFault::BadWorkers, net));
     }
     let parts = net.into_parts();
     match room(alloc, &parts, workers) {
-        Ok((allotments, list)) => Ok(share_out(alloc, parts, allotments, list)),
+        Ok((allotments, list)) => Ok(share_out(alloc, parts, allotments, list, kept)),
         Err(_refused) => Err((OpenFault::OutOfMemory, Net::from_parts(parts))),
     }
 }

@@ -90,6 +90,7 @@ pub fn receive_at(
 
 /// Whether a ring has room, if there is a ring. Where its other end is at hand, at the link `own` of `ins`, the
 /// answer is exact.
+#[inline(always)]
 fn room(slot: &mut Option<OutEnd>, ins: &mut Vec<Slots<InEnd>>, own: Option<OwnLink>) -> bool
     requires { (o : OutView) → option_map out_view slot.old ≡ Some o → SameRingBack own o (ins_view ins.old.items) }
     ensures same { option_map out_view slot.new ≡ option_map out_view slot.old }
@@ -104,6 +105,7 @@ fn room(slot: &mut Option<OutEnd>, ins: &mut Vec<Slots<InEnd>>, own: Option<OwnL
 }
 
 /// Whether a ring has room.
+#[inline(always)]
 fn room_of(out: &mut OutEnd, ins: &mut Vec<Slots<InEnd>>, own: Option<OwnLink>) -> bool
     requires { SameRingBack own (out_view out.old) (ins_view ins.old.items) }
     ensures same { out_view out.new ≡ out_view out.old }
@@ -147,6 +149,7 @@ pub struct Emitter {
 }
 
 /// An event that emits is done, if it is enabled and there is room in its ring.
+#[inline(always)]
 pub fn emit_at(
     node: &mut Node,
     slot: &mut Option<OutEnd>,

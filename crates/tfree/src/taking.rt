@@ -6,14 +6,23 @@ ghost use Rattle.tfree.specs.Opened.{worker_of, AreOfOpening};
 ghost use Rattle.tfree.specs.TakenApart.{IsAdded, HasRoomForParts, KeepsRoom, AreTaken, IsRoom};
 
 use crate::ends::{InEnd, OutEnd, Slots};
+use crate::event_list::EventList;
 use crate::gathering::place_of;
-use crate::history::Unmerged;
+use crate::stamp::StampedNote;
 use crate::worker::{Worker, WorkerParts};
 use std::alloc::{AllocError, Global};
 use std::collections::VecDeque;
 use tlink::Node;
 use tnet::Wires;
 use tword::limits::MOST_NODES;
+
+/// What a worker did, of which the list knows no more than how much it is where it keeps none, and what it told of it,
+/// the earliest in front.
+#[derive(Drop)]
+pub(crate) struct Taken {
+    pub(crate) events: EventList,
+    pub(crate) told: VecDeque<StampedNote>,
+}
 
 /// What workers bring, one behind another in the order of their numbers.
 #[derive(Drop)]
@@ -24,7 +33,7 @@ pub(crate) struct Brought {
     /// The ends of rings that put, a row for each node.
     pub(crate) outs: Vec<Slots<OutEnd>>,
     /// What each worker did and told.
-    pub(crate) unmerged: Vec<Unmerged>,
+    pub(crate) taken: Vec<Taken>,
 }
 
 impl Brought {
@@ -36,7 +45,7 @@ impl Brought {
             nodes: Vec::with_capacity(alloc, MOST_NODES)?,
             ins: Vec::with_capacity(alloc, MOST_NODES)?,
             outs: Vec::with_capacity(alloc, MOST_NODES)?,
-            unmerged: Vec::with_capacity(alloc, count)?,
+            taken: Vec::with_capacity(alloc, count)?,
         })
     }
 }
@@ -67,8 +76,8 @@ fn add(worker: Worker, all: &mut Brought) -> Wires
     move_all(nodes, &mut all.nodes);
     move_all(ins, &mut all.ins);
     move_all(outs, &mut all.outs);
-    all.unmerged.push_reserved(Unmerged {
-        events: log.events.into_queue(),
+    all.taken.push_reserved(Taken {
+        events: log.events,
         told: VecDeque::from(log.told),
     });
     wires

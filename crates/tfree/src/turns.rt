@@ -2,6 +2,7 @@
 
 ghost use Rattle.std.specs.Prelude.{◌≡◌, ◌+◌, ◌<◌, length, is_ok, IfOk, IfErr};
 ghost use Rattle.tfree.specs.Logs.{IsActOf};
+ghost use Rattle.tlink.specs.declared.event.NodeEvent.TheVariants.{Take, Send};
 ghost use Rattle.tfree.specs.Turns.{Phased, packets_of, emission_of, runs_of, all_packets, all_takes, all_sends};
 ghost use Rattle.tfree.specs.Turns.{NodeTurn, IsTurn, Extends, AreLeft, IsNext};
 
@@ -17,17 +18,18 @@ pub struct Turned {
 }
 
 impl Worker {
-    /// At most two packets of a link.
+    /// At most two packets of a link. At most links none lies, so that it is asked in line.
+    #[inline(always)]
     fn packets(&mut self, i: usize, link: u8) -> Result<(), TurnFault>
         requires i { i < self.old.share.owned }
         requires link { link < 4 }
         ensures phase { Phased (λ s. packets_of s (s.first + i) link) self.old (is_ok result) self.new }
         ensures next { IfErr result (IsNext (λ s. packets_of s (s.first + i) link) self.old self.new) }
     {
-        if !self.has_ring(i, link) {
-            return Ok(());
-        }
         for _done in 0..2_u32 {
+            if !self.may_lie(i, link) {
+                return Ok(());
+            }
             if !self.receive(i, link)? {
                 return Ok(());
             }
@@ -36,6 +38,7 @@ impl Worker {
     }
 
     /// An event of a link that emits, at most once.
+    #[inline(always)]
     fn emission(&mut self, i: usize, link: u8, event: NodeEvent) -> Result<(), TurnFault>
         requires i { i < self.old.share.owned }
         requires link { link < 4 }
@@ -43,8 +46,56 @@ impl Worker {
         ensures phase { Phased (λ s. emission_of s (s.first + i) link event) self.old (is_ok result) self.new }
         ensures next { IfErr result (IsNext (λ s. emission_of s (s.first + i) link event) self.old self.new) }
     {
-        if self.enabled(i, event) {
-            self.emit(i, link, event)?;
+        self.emit(i, link, event)?;
+        Ok(())
+    }
+
+    /// The byte that waits at a link is taken.
+    #[inline(never)]
+    fn take_byte(&mut self, i: usize, link: u8) -> Result<(), TurnFault>
+        requires i { i < self.old.share.owned }
+        requires link { link < 4 }
+        ensures phase { Phased (λ s. emission_of s (s.first + i) link (Take link)) self.old (is_ok result) self.new }
+        ensures next { IfErr result (IsNext (λ s. emission_of s (s.first + i) link (Take link)) self.old self.new) }
+    {
+        self.emission(i, link, NodeEvent::Take(link))
+    }
+
+    /// The byte that waits at a link is taken. At most links none does, so that it is asked in line.
+    #[inline(always)]
+    fn take(&mut self, i: usize, link: u8) -> Result<(), TurnFault>
+        requires i { i < self.old.share.owned }
+        requires link { link < 4 }
+        ensures phase { Phased (λ s. emission_of s (s.first + i) link (Take link)) self.old (is_ok result) self.new }
+        ensures next { IfErr result (IsNext (λ s. emission_of s (s.first + i) link (Take link)) self.old self.new) }
+    {
+        if self.enabled(i, NodeEvent::Take(link)) {
+            return self.take_byte(i, link);
+        }
+        Ok(())
+    }
+
+    /// The next byte of the output at a link is sent.
+    #[inline(never)]
+    fn send_byte(&mut self, i: usize, link: u8) -> Result<(), TurnFault>
+        requires i { i < self.old.share.owned }
+        requires link { link < 4 }
+        ensures phase { Phased (λ s. emission_of s (s.first + i) link (Send link)) self.old (is_ok result) self.new }
+        ensures next { IfErr result (IsNext (λ s. emission_of s (s.first + i) link (Send link)) self.old self.new) }
+    {
+        self.emission(i, link, NodeEvent::Send(link))
+    }
+
+    /// The next byte of the output at a link is sent. At most links none is due, so that it is asked in line.
+    #[inline(always)]
+    fn send(&mut self, i: usize, link: u8) -> Result<(), TurnFault>
+        requires i { i < self.old.share.owned }
+        requires link { link < 4 }
+        ensures phase { Phased (λ s. emission_of s (s.first + i) link (Send link)) self.old (is_ok result) self.new }
+        ensures next { IfErr result (IsNext (λ s. emission_of s (s.first + i) link (Send link)) self.old self.new) }
+    {
+        if self.enabled(i, NodeEvent::Send(link)) {
+            return self.send_byte(i, link);
         }
         Ok(())
     }
@@ -67,10 +118,10 @@ impl Worker {
         ensures phase { Phased (λ s. all_takes s (s.first + i)) self.old (is_ok result) self.new }
         ensures next { IfErr result (IsNext (λ s. all_takes s (s.first + i)) self.old self.new) }
     {
-        self.emission(i, 0, NodeEvent::Take(0))?;
-        self.emission(i, 1, NodeEvent::Take(1))?;
-        self.emission(i, 2, NodeEvent::Take(2))?;
-        self.emission(i, 3, NodeEvent::Take(3))
+        self.take(i, 0)?;
+        self.take(i, 1)?;
+        self.take(i, 2)?;
+        self.take(i, 3)
     }
 
     /// The next bytes of the outputs are sent.
@@ -79,10 +130,10 @@ impl Worker {
         ensures phase { Phased (λ s. all_sends s (s.first + i)) self.old (is_ok result) self.new }
         ensures next { IfErr result (IsNext (λ s. all_sends s (s.first + i)) self.old self.new) }
     {
-        self.emission(i, 0, NodeEvent::Send(0))?;
-        self.emission(i, 1, NodeEvent::Send(1))?;
-        self.emission(i, 2, NodeEvent::Send(2))?;
-        self.emission(i, 3, NodeEvent::Send(3))
+        self.send(i, 0)?;
+        self.send(i, 1)?;
+        self.send(i, 2)?;
+        self.send(i, 3)
     }
 
     /// Runs until none is enabled, or so many are done.
@@ -115,6 +166,7 @@ impl Worker {
     }
 
     /// All nodes in a turn.
+    #[inline(never)]
     fn nodes_turn(&mut self, slice: u32) -> Result<(), TurnFault>
         ensures phase { Phased (λ s. IsTurn s slice) self.old (is_ok result) self.new }
         ensures next { IfErr result (IsNext (λ s. IsTurn s slice) self.old self.new) }

@@ -1,5 +1,6 @@
 -- A station of which no event is enabled does nothing in its part of a round, whatever is held.
-use Rattle.std.proofs.Common.{◌≡◌, ℕ, refl, ap, ◌∙◌, Bool, true, false, ◌&&◌, List, Option, Some, None, Ok, Err}
+use Rattle.std.proofs.Common.{◌≡◌, ℕ, zero, suc, ◌<◌, refl, sym, ap, ◌∙◌, Bool, true, false, ◌&&◌, List, Option, Some}
+use Rattle.std.proofs.Common.{None, Ok, Err, arith}
 use Rattle.std.specs.Prelude.{not, fold, if◌then◌else◌}
 use Rattle.std.proofs.lemmas.Bool.{and_parts}
 use Rattle.tlink.specs.declared.event.NodeEvent.{NodeEvent}
@@ -28,7 +29,7 @@ not_done (Err NotEnabled) told h = refl
 not_done (Err (Frozen b)) told h = let z : true ≡ false = h in cc
 
 -- an act that is not enabled leaves the part
-does_nothing : (act : Act) (p : Part) → is_station_enabled p.station act ≡ false → part_does act p ≡ p
+pub does_nothing : (act : Act) (p : Part) → is_station_enabled p.station act ≡ false → part_does act p ≡ p
 does_nothing act p h = by (asked act p.station.inboxes) h
   where
     by : (o : Option NodeEvent) → is_asked_enabled p.station.node o ≡ false → part_asked act p o ≡ p
@@ -41,6 +42,14 @@ does_nothing act p h = by (asked act p.station.inboxes) h
 denied : (b : Bool) → not b ≡ true → b ≡ false
 denied false h = refl
 denied true h = let z : false ≡ true = h in cc
+
+-- what is busy is not quiet, and what is not is
+pub busy : (b : Bool) → not b ≡ true → b ≡ false
+busy b h = denied b h
+
+pub idle : (b : Bool) → not b ≡ false → b ≡ true
+idle true h = refl
+idle false h = let z : true ≡ false = h in cc
 
 -- no event of a link is enabled
 record Rests (s : Station) (l : ℕ) : Type 0 where
@@ -106,3 +115,63 @@ rests_in_round holds slice r s h =
     (does_nothing (Send 3) (fresh s) three_rests.send) in
     ap (λ p. after_sends (part_runs slice (after_takes p))) arrivals
     ∙ (ap (λ p. after_sends (part_runs slice p)) takes ∙ (ap after_sends runs ∙ sends))
+
+-- four links, of which each is quiet where all of the station is
+each_rests : (s : Station) (l : ℕ) → l < 4 → is_station_quiet s ≡ true → Rests s l
+each_rests s l few h =
+    let d = and_parts _ _ h in
+    let c = and_parts _ _ d.0 in
+    let b = and_parts _ _ c.0 in
+    let a = and_parts _ _ b.0 in
+    by l few a.1 b.1 c.1 d.1
+  where
+    by : (l : ℕ) → l < 4 → is_link_quiet s 0 ≡ true → is_link_quiet s 1 ≡ true → is_link_quiet s 2 ≡ true
+        → is_link_quiet s 3 ≡ true → Rests s l
+    by zero few e f g i = link_rests s 0 e
+    by (suc zero) few e f g i = link_rests s 1 f
+    by (suc (suc zero)) few e f g i = link_rests s 2 g
+    by (suc (suc (suc zero))) few e f g i = link_rests s 3 i
+    by (suc (suc (suc (suc m)))) few e f g i = absurd (omega arith)
+
+-- where a packet that lies at a link comes in, the station is not quiet
+pub data_is_busy : (s : Station) (l : ℕ) → l < 4 → is_station_enabled s (Data l) ≡ true → is_station_quiet s ≡ false
+data_is_busy s l few on = by (is_station_quiet s) refl
+  where
+    by : (b : Bool) → is_station_quiet s ≡ b → b ≡ false
+    by false h = refl
+    by true h = let z : true ≡ false = sym on ∙ (each_rests s l few h).data_comes in cc
+
+pub ack_is_busy : (s : Station) (l : ℕ) → l < 4 → is_station_enabled s (Ack l) ≡ true → is_station_quiet s ≡ false
+ack_is_busy s l few on = by (is_station_quiet s) refl
+  where
+    by : (b : Bool) → is_station_quiet s ≡ b → b ≡ false
+    by false h = refl
+    by true h = let z : true ≡ false = sym on ∙ (each_rests s l few h).ack in cc
+
+-- a link of which no act is enabled
+link_still : (s : Station) (l : ℕ) → is_station_enabled s (Send l) ≡ false → is_station_enabled s (Data l) ≡ false
+    → is_station_enabled s (Take l) ≡ false → is_station_enabled s (Ack l) ≡ false → is_link_quiet s l ≡ true
+link_still s l a b c d = rw (a, b, c, d) refl
+
+-- a station of which no act is enabled is quiet
+pub still : (s : Station) → is_station_enabled s Run ≡ false
+    → ((l : ℕ) → l < 4 → is_station_enabled s (Send l) ≡ false)
+    → ((l : ℕ) → l < 4 → is_station_enabled s (Data l) ≡ false)
+    → ((l : ℕ) → l < 4 → is_station_enabled s (Take l) ≡ false)
+    → ((l : ℕ) → l < 4 → is_station_enabled s (Ack l) ≡ false) → is_station_quiet s ≡ true
+still s run sends data_come takes acks =
+    let at : (l : ℕ) → l < 4 → is_link_quiet s l ≡ true =
+    λ l few. link_still s l (sends l few) (data_come l few) (takes l few) (acks l few) in
+    let none = at 0 (omega arith) in
+    let one = at 1 (omega arith) in
+    let two = at 2 (omega arith) in
+    let three = at 3 (omega arith) in
+    rw (run, none, one, two, three) refl
+
+-- what holds of each of the four links
+pub four_links_are : (P : ℕ → Type 0) → P 0 → P 1 → P 2 → P 3 → (l : ℕ) → l < 4 → P l
+four_links_are P a b c d zero few = a
+four_links_are P a b c d (suc zero) few = b
+four_links_are P a b c d (suc (suc zero)) few = c
+four_links_are P a b c d (suc (suc (suc zero))) few = d
+four_links_are P a b c d (suc (suc (suc (suc m)))) few = absurd (omega arith)

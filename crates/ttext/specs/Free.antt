@@ -5,13 +5,17 @@ use Rattle.std.specs.Prelude.{ℕ, ◌≡◌, ◌⊎◌, [], List, Option, Resul
 use Rattle.std.specs.Io.KnownBytes.{Appends}
 use Rattle.tplan.specs.declared.options.Options.{Options}
 use Rattle.tplan.specs.declared.wiring.Wiring.{Wiring}
+use Rattle.tplan.specs.declared.event.Event.{Event}
 use Rattle.tnet.specs.Net.{NetState}
+use Rattle.tnet.specs.Notes.{notes}
 use Rattle.tnet.specs.Quiet.{is_quiet}
+use Rattle.tnet.specs.Runs.{IsSeenRun}
 use Rattle.trounds.specs.Reports.{refusal}
 use Rattle.tfree.specs.Opened.{Gathers, IsOpened}
 use Rattle.tfree.specs.Turning.{AreTurned}
 use Rattle.tfree.specs.Views.{View}
 use Rattle.tfree.specs.declared.gathering.Gathered.{Gathered}
+use Rattle.tfree.specs.declared.gathering.Told.{Told}
 use Rattle.tfiles.specs.Logs.{log_text}
 use Rattle.tfiles.specs.Outputs.{IsCut}
 use Rattle.ttext.specs.declared.fault.Fault.{Fault}
@@ -46,6 +50,14 @@ pub record IsFreeRun (w : Wiring) (files : List (List ℕ)) (o : Options) (g : G
   pub due : shared_of w files o ≡ Ok opened
   pub free : AreFree opened o g
 
+-- what free workers did on a net, where their events need not be there: there is a history of which all is true, and
+-- it is one run of the rendezvous machine, with these notes
+pub record AreFreeUnkept (opened : NetState) (o : Options) (t : Told) : Type 0 where
+  pub history : List Event
+  pub free : AreFree opened o (record { net = t.net; history = history; notes = t.notes })
+  pub run : IsSeenRun opened history t.net
+  pub notes_told : t.notes ≡ notes history opened
+
 -- the last line of what is printed of free workers
 abbrev pub free_last : Gathered → List ℕ
 free_last g = last_line (Turns (is_quiet g.net))
@@ -53,6 +65,15 @@ free_last g = last_line (Turns (is_quiet g.net))
 -- what is printed of free workers
 abbrev pub free_text : Gathered → List ℕ
 free_text g = printed_run g.notes g.net (Turns (is_quiet g.net))
+
+-- free workers ran, their text is written, and their net is answered
+pub record IsFreeShown {W : Type 0} (contents : W → Option (List ℕ)) (w : Wiring) (files : List (List ℕ)) (o : Options)
+    (net : NetState) (old new : W) : Type 0 where
+  pub gathered : Gathered
+  pub ran : IsFreeRun w files o gathered
+  pub net_is : net ≡ gathered.net
+  pub text : Appends (contents old) (contents new) (free_text gathered)
+  pub run : ShowsOneRun w files gathered.history (free_last gathered) (contents old) (contents new)
 
 -- what has gone out where the text of free workers was due and a fault is answered: nothing; or, where the output
 -- failed, the beginning of the text of what workers did

@@ -1,18 +1,21 @@
 //! Free workers, and what is printed of what they did: trace, dumps and last line.
 
-ghost use Rattle.std.specs.Prelude.{◌≡◌, Ok, IfOk, IfErr, MatchResult, length, map, true, OnOk};
+ghost use Rattle.std.specs.Prelude.{◌≡◌, Ok, Err, IfOk, IfErr, IsTrue, MatchResult, length, map, true, OnOk};
 ghost use Rattle.std.specs.Io.KnownBytes.{Appends};
 ghost use Rattle.tnet.specs.Notes.{notes};
 ghost use Rattle.tnet.specs.Quiet.{is_quiet};
 ghost use Rattle.tnet.specs.Runs.{IsSeenRun};
+ghost use Rattle.tnet.specs.Sharing.{is_bad_count};
 ghost use Rattle.tnet.specs.Sound.{IsSound};
 ghost use Rattle.tfree.specs.Opened.{share_of, IsOpened};
 ghost use Rattle.tfree.specs.Turning.{AreTurned};
+ghost use Rattle.tfree.specs.declared.opening.OpenFault.TheVariants.{BadWorkers};
 ghost use Rattle.tfiles.specs.Failures.{HasStayed};
 ghost use Rattle.ttext.specs.declared.fault.Fault.TheVariants.{Memory};
 ghost use Rattle.ttext.specs.declared.printed_run.RunEnd.TheVariants.{Turns};
 ghost use Rattle.ttext.specs.Free as spec;
-ghost use Rattle.ttext.specs.Free.{shared_of, shared_with, free_last, AreFree, IsFreeLeft, IsFreeRun};
+ghost use Rattle.ttext.specs.Free.{shared_of, shared_with, free_last, AreFree, AreFreeUnkept, IsFreeLeft, IsFreeRun};
+ghost use Rattle.ttext.specs.Free.{IsFreeShown};
 ghost use Rattle.ttext.specs.Outcomes.{HasOutputCause, IsDue, IsFaultOf, ShowsOneRun};
 
 use crate::fault::Fault;
@@ -22,7 +25,10 @@ use std::alloc::Global;
 use std::thread::Threads;
 use tfiles::counted::CountedWrite;
 use tfree::laws::opened_workers_stay;
-use tfree::{GatherFault, Gathered, OpenFault, Worker, gather, open, turn_all};
+use tfree::{
+    GatherFault, Gathered, OpenFault, Told, Worker, gather, gather_notes, open,
+    open_without_events, turn_all,
+};
 use tnet::Net;
 use tnet::laws::quiet_is_nothing_enabled;
 use tplan::{Options, Wiring};
@@ -70,9 +76,58 @@ pub fn free_text<R: Threads + Sync, W: CountedWrite>(
 {
     let net = open_net(alloc, wiring, files)?;
     let gathered = run_free(rt, alloc, net, options)?;
-    let end = end_of(&gathered);
+    let end = end_of(&gathered.net);
     write_run(out, gathered.notes.as_slice(), &gathered.net, end)?;
     Ok(gathered)
+}
+
+/// Does what `free_text` does by workers that keep no event, and answers the net.
+///
+/// # Errors
+/// Those of `free_text`.
+pub(crate) fn free_net<R: Threads + Sync, W: CountedWrite>(
+    rt: &R,
+    alloc: Global,
+    wiring: &Wiring,
+    files: Items<Items<u8>>,
+    options: &Options,
+    out: &mut W,
+) -> Result<Net, Fault>
+    requires { length files ≡ length wiring.now.nodes }
+    ensures answer { MatchResult result
+        (λ net. IsFreeShown W.contents wiring.now files options.now net out.old out.new)
+        (IsDue (shared_of wiring.now files options.now)) }
+    ensures left { IfErr result (IsFreeLeft W.contents (IsFreeRun wiring.now files options.now) out.old out.new) }
+    ensures cause { IfErr result (HasOutputCause (W.failures out.old) (W.failures out.new)) }
+    ensures stayed { OnOk result (HasStayed (W.failures out.old) (W.failures out.new)) }
+{
+    let net = open_net(alloc, wiring, files)?;
+    let told = tell_free(rt, alloc, net, options)?;
+    let end = end_of(&told.net);
+    write_run(out, told.notes.as_slice(), &told.net, end)?;
+    Ok(told.net)
+}
+
+/// What free workers do on a net, and tell, of which no event is kept.
+fn tell_free<R: Threads + Sync>(
+    rt: &R,
+    alloc: Global,
+    net: Net,
+    options: &Options,
+) -> Result<Told, Fault>
+    ensures answer { MatchResult result
+        (AreFreeUnkept net options.now)
+        (IsFaultOf (shared_with options.now (Ok net))) }
+    ensures due { IfOk result (λ _. shared_with options.now (Ok net) ≡ Ok net) }
+    ensures sound { IfOk result (λ t. IsSound t.net) }
+{
+    let workers = turned(rt, alloc, share(alloc, net, options, false)?, options)?;
+    opened_workers_stay();
+    match gather_notes(alloc, workers) {
+        Ok(told) => Ok(told),
+        Err((GatherFault::OutOfMemory, _refused)) => Err(Fault::Memory),
+        Err((GatherFault::Missing(_number), _refused)) => unreachable!(),
+    }
 }
 
 /// What free workers do on a net.
@@ -88,7 +143,7 @@ fn run_free<R: Threads + Sync>(
     ensures told { IfOk result (λ g. g.notes ≡ notes g.history net) }
     ensures sound { IfOk result (λ g. IsSound g.net) }
 {
-    let workers = turned(rt, alloc, share(alloc, net, options)?, options)?;
+    let workers = turned(rt, alloc, share(alloc, net, options, true)?, options)?;
     opened_workers_stay();
     match gather(alloc, workers) {
         Ok(gathered) => Ok(gathered),
@@ -97,17 +152,41 @@ fn run_free<R: Threads + Sync>(
     }
 }
 
-/// The workers that share a net.
-fn share(alloc: Global, net: Net, options: &Options) -> Result<Vec<Worker>, Fault>
+/// The workers that share a net, and keep their events or not.
+fn share(
+    alloc: Global,
+    net: Net,
+    options: &Options,
+    with_events: bool,
+) -> Result<Vec<Worker>, Fault>
     ensures answer { MatchResult result
         (λ workers. IsOpened net options.now.workers workers.items)
         (IsFaultOf (shared_with options.now (Ok net))) }
     ensures due { IfOk result (λ _. shared_with options.now (Ok net) ≡ Ok net) }
 {
-    match open(alloc, net, options.workers) {
+    match open_for(alloc, net, options.workers, with_events) {
         Ok(workers) => Ok(workers),
         Err((OpenFault::BadWorkers, _net)) => Err(Fault::Rounds(NetFault::BadWorkers)),
         Err((OpenFault::OutOfMemory, _net)) => Err(Fault::Memory),
+    }
+}
+
+/// Opens a net for workers that keep their events or not.
+fn open_for(
+    alloc: Global,
+    net: Net,
+    workers: usize,
+    with_events: bool,
+) -> Result<Vec<Worker>, (OpenFault, Net)>
+    ensures opened { IfOk result (λ ws. IsOpened net workers ws.items) }
+    ensures bad { IsTrue (is_bad_count workers) → result ≡ Err (BadWorkers, net) }
+    ensures counted { IfErr result (λ e. e.0 ≡ BadWorkers → IsTrue (is_bad_count workers)) }
+    ensures same { IfErr result (λ e. e.1 ≡ net) }
+{
+    if with_events {
+        open(alloc, net, workers)
+    } else {
+        open_without_events(alloc, net, workers)
     }
 }
 
@@ -134,12 +213,12 @@ fn turned<R: Threads + Sync>(
 }
 
 /// How the turns of free workers ended.
-fn end_of(gathered: &Gathered) -> RunEnd
-    requires { IsSound gathered.now.net }
-    ensures { result ≡ Turns (is_quiet gathered.now.net) }
+fn end_of(net: &Net) -> RunEnd
+    requires { IsSound net.now }
+    ensures { result ≡ Turns (is_quiet net.now) }
 {
     quiet_is_nothing_enabled();
     RunEnd::Turns {
-        is_quiet: gathered.net.is_quiet(),
+        is_quiet: net.is_quiet(),
     }
 }

@@ -1,6 +1,7 @@
 //! The bytes of a memory.
 
-ghost use Rattle.std.specs.Prelude.{◌≡◌, ◌↔◌, ◌≤◌, ◌+◌, ◌∷◌, [], ◌++◌, take, drop, Some, IfOk, OnOk, IsErrOf};
+ghost use Rattle.std.specs.Prelude.{◌≡◌, ◌↔◌, ◌≤◌, ◌<◌, ◌+◌, ◌/◌, ◌∷◌, [], ◌++◌, take, drop, Some, None, IfOk, OnOk};
+ghost use Rattle.std.specs.Prelude.{IfSome, IsErrOf, false, slice_index};
 ghost use Rattle.std.specs.Prelude.{length, replicate, slice_range, unwrap_or, is_some, true};
 ghost use Rattle.tword.specs.Accesses.{Changing, IsMemorySize};
 ghost use Rattle.tword.specs.declared.kind.Kind.TheVariants.{Two};
@@ -9,11 +10,12 @@ ghost use Rattle.std.specs.Int.{w32, from_le_bytes, to_le_bytes};
 ghost use Rattle.tword.specs.Stores.{as_cells, word_at, with_word, cells, with_cells, byte_at};
 ghost use Rattle.tword.specs.Stores as spec;
 ghost use Rattle.tword.specs.Touches.{Reads, Writes, span_break, word_break, is_inside, word_span, byte_span};
-ghost use Rattle.tword.specs.Words.{most_neg};
+ghost use Rattle.tword.specs.Open.{AreOpenCounts};
+ghost use Rattle.tword.specs.Words.{mem_start, minus, most_neg};
 
 use crate::breaks::{Break, MemoryFault};
 use crate::kind::Kind;
-use crate::limits::{CLOSED, MOST_NEG, SMALLEST_MEMORY};
+use crate::limits::{CLOSED, MEM_START, MOST_NEG, SMALLEST_MEMORY};
 use crate::marks::Marks;
 use crate::span::Span;
 use crate::word::Word;
@@ -173,6 +175,110 @@ impl Bytes {
         self.may_write(marks, address, 1)?;
         self.set_byte(address, value);
         Ok(())
+    }
+
+    /// The place of a word that programs may use, among the counts of such words, where its count shows that no claim
+    /// has it.
+    #[inline(always)]
+    fn clear_place(counts: &[u16], address: Word) -> Option<usize>
+        ensures { IfSome result (λ place. (place ≡ minus address mem_start) × (place / 4 < length counts.now)
+            × (slice_index counts.now (place / 4) ≡ 0)) }
+    {
+        let place = address.get().wrapping_sub(MEM_START) as usize;
+        let slot = place / 4;
+        if slot < counts.len() && counts[slot] == 0 {
+            Some(place)
+        } else {
+            None
+        }
+    }
+
+    /// The byte at an address, where the counts show at once that a read of it passes.
+    #[inline(always)]
+    pub fn open_byte(&self, marks: &Marks, counts: &[u16], address: Word) -> Option<u8>
+        requires { AreOpenCounts counts.now (length self.now) marks.now }
+        ensures free { IfSome result (λ byte. span_break (length self.now) marks.now Reads (byte_span address) ≡ None) }
+        ensures is { IfSome result (λ byte. byte_at self.now address ≡ Some byte) }
+    {
+        let place = Bytes::clear_place(counts, address)?;
+        Some(self.bytes[place + CLOSED as usize])
+    }
+
+    /// The word at an address, where the counts show at once that a read of it passes.
+    #[inline(always)]
+    pub fn open_word(&self, marks: &Marks, counts: &[u16], address: Word) -> Option<Word>
+        requires { AreOpenCounts counts.now (length self.now) marks.now }
+        ensures free { IfSome result (λ word. word_break (length self.now) marks.now Reads address ≡ None) }
+        ensures is { IfSome result (λ word. word ≡ word_at self.now address) }
+    {
+        let place = Bytes::clear_place(counts, address)?;
+        if address.get() % 4 != 0 {
+            return None;
+        }
+        Some(Word::new(word_in(self.bytes.as_slice(), place + CLOSED as usize)))
+    }
+
+    /// Sets the byte at an address, where the counts show at once that a write of it passes: whether it was set.
+    #[inline(always)]
+    pub fn set_open_byte(&mut self, marks: &Marks, counts: &[u16], address: Word, value: u8) -> bool
+        requires { AreOpenCounts counts.now (length self.old) marks.now }
+        ensures free { result ≡ true → span_break (length self.old) marks.now Writes (byte_span address) ≡ None }
+        ensures set { result ≡ true → self.new ≡ with_cells self.old address (as_cells (value ∷ [])) }
+        ensures kept { result ≡ false → self.new ≡ self.old }
+        ensures sized { length self.new ≡ length self.old }
+    {
+        let Some(place) = Bytes::clear_place(counts, address) else {
+            return false;
+        };
+        self.bytes[place + CLOSED as usize] = value;
+        true
+    }
+
+    /// Sets the word at an address, where the counts show at once that a write of it passes: whether it was set.
+    #[inline(always)]
+    pub fn set_open_word(
+        &mut self,
+        marks: &Marks,
+        counts: &[u16],
+        address: Word,
+        value: Word,
+    ) -> bool
+        requires { AreOpenCounts counts.now (length self.old) marks.now }
+        ensures free { result ≡ true → word_break (length self.old) marks.now Writes address ≡ None }
+        ensures set { result ≡ true → self.new ≡ with_word self.old address value }
+        ensures kept { result ≡ false → self.new ≡ self.old }
+        ensures sized { length self.new ≡ length self.old }
+    {
+        let Some(place) = Bytes::clear_place(counts, address) else {
+            return false;
+        };
+        if address.get() % 4 != 0 {
+            return false;
+        }
+        put_word(
+            self.bytes.as_mut_slice(),
+            place + CLOSED as usize,
+            value.get(),
+        );
+        true
+    }
+
+    /// Whether the counts show at once that a write of the word at an address passes.
+    #[inline(always)]
+    pub fn is_clear_word(&self, marks: &Marks, counts: &[u16], address: Word) -> bool
+        requires { AreOpenCounts counts.now (length self.now) marks.now }
+        ensures free { result ≡ true → word_break (length self.now) marks.now Writes address ≡ None }
+        ensures inside { result ≡ true → is_inside (length self.now) (word_span address) ≡ true }
+    {
+        // To ask for the size is to know that no memory ends at the last address.
+        let _ = self.size();
+        if address.get() % 4 != 0 {
+            return false;
+        }
+        let Some(_place) = Bytes::clear_place(counts, address) else {
+            return false;
+        };
+        true
     }
 
     /// The word at an address, for a caller that has checked it.

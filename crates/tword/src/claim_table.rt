@@ -80,6 +80,20 @@ impl ClaimTable {
             && self.counts[first + 2] == 0
     }
 
+    /// The counts of so many words at most, from this slot on.
+    #[inline(always)]
+    pub fn from_slot(&self, first: usize, most: usize) -> &[u16]
+        ensures few { length result.now ≤ most }
+        ensures are { (k : ℕ) → k < length result.now → (first + k < length self.now)
+            × (slice_index result.now k ≡ slice_index self.now (first + k)) }
+    {
+        let slots = self.counts.len();
+        if slots <= first {
+            return &self.counts[..0];
+        }
+        &self.counts[first..first + most.min(slots - first)]
+    }
+
     /// Whether words in a row, `MOST_ADDED` at most, are all counted, and no claim has one of them.
     pub fn are_empty(&self, first: u64, behind: u64) -> bool
         ensures { result ≡ true → (k : ℕ) → first ≤ k → k < behind → IsEmpty self.now k }

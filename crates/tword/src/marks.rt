@@ -7,11 +7,13 @@ ghost use Rattle.tword.specs.Accesses.{without_input, without_output};
 ghost use Rattle.tword.specs.Actions.{or_break};
 ghost use Rattle.tword.specs.Claims.{saving, saved_words, has_saved, is_saved};
 ghost use Rattle.tword.specs.Limits.{most_processes};
+ghost use Rattle.tword.specs.Open.{AreOpenCounts};
 ghost use Rattle.tword.specs.Slots.{IsPlaceIn, saved_in};
 ghost use Rattle.tword.specs.Touches.{Reads, Writes, claim_break};
 
 use crate::breaks::{Break, MemoryFault};
 use crate::claim_table::ClaimTable;
+use crate::limits::CLOSED;
 use crate::link_buffers::LinkBuffers;
 use crate::saved::Saved;
 use crate::span::Span;
@@ -240,6 +242,18 @@ impl Marks {
         ensures { result ≡ true → claim_break self.now Writes (record { start = lowest; size = 12 }) ≡ None }
     {
         self.table.are_three_clear(lowest)
+    }
+
+    /// The counts of the words of a memory of so many bytes, from the first that programs may use on, for those who
+    /// touch many words in a row.
+    #[inline(always)]
+    pub fn open_counts(&self, size: u32) -> &[u16]
+        requires { 72 ≤ size }
+        ensures { AreOpenCounts result.now size self.now }
+    {
+        let open = size - CLOSED;
+        self.table
+            .from_slot((CLOSED / 4) as usize, (open / 4) as usize)
     }
 
     /// Claims the three words below a workspace, where the claims that there are let them be written.

@@ -12,7 +12,7 @@ take_one-wires-requires-clause-room c =
     let r = c.requires.room in
     if_some (λ (v : View). HasRoomForParts v.share.owned c.args.all.now) (worker_of 0 ws)
     (λ v e. room_for c.args.count ws c.requires.opening c.requires.there 0 c.args.all.now
-    (taken_none ws c.args.count c.args.all.now r) (omega arith) v c.requires.some e r.nodes r.ins r.outs r.unmerged)
+    (taken_none ws c.args.count c.args.all.now r) (omega arith) v c.requires.some e r.nodes r.ins r.outs r.taken)
 
 pub loop-number-init : goal.loop-number-init
 loop-number-init c =
@@ -29,7 +29,7 @@ loop-number-init c =
       nodes = omega (arith, r.nodes, k.nodes);
       ins = omega (arith, r.ins, k.ins);
       outs = omega (arith, r.outs, k.outs);
-      unmerged = omega (arith, r.unmerged, k.unmerged);
+      taken_room = omega (arith, r.taken, k.taken);
     }
 
 pub take_one-requires-clause-room : goal.take_one-requires-clause-room
@@ -41,7 +41,7 @@ take_one-requires-clause-room c =
     (sym (i.rest n (omega arith)))
     (if_some (λ (v : View). HasRoomForParts v.share.owned c.loop-number.all) (worker_of n ws)
     (λ v e. room_for c.args.count ws c.requires.opening c.requires.there n c.loop-number.all i.taken
-    (omega (arith, c.loop-number-test.true)) v c.loop-number-test.true e i.nodes i.ins i.outs i.unmerged))
+    (omega (arith, c.loop-number-test.true)) v c.loop-number-test.true e i.nodes i.ins i.outs i.taken_room))
 
 pub loop-number-preserved : goal.loop-number-preserved
 loop-number-preserved c =
@@ -58,5 +58,5 @@ loop-number-preserved c =
       nodes = omega (arith, i.nodes, k.nodes);
       ins = omega (arith, i.ins, k.ins);
       outs = omega (arith, i.outs, k.outs);
-      unmerged = omega (arith, i.unmerged, k.unmerged);
+      taken_room = omega (arith, i.taken_room, k.taken);
     }

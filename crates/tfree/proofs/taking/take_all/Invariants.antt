@@ -11,5 +11,5 @@ invariant-loop-number l = record {
   nodes : 64 ≤ vec_capacity l.all.nodes;
   ins : 64 ≤ vec_capacity l.all.ins;
   outs : 64 ≤ vec_capacity l.all.outs;
-  unmerged : l.count ≤ vec_capacity l.all.unmerged;
+  taken_room : l.count ≤ vec_capacity l.all.taken;
 }

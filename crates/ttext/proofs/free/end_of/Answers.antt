@@ -5,5 +5,5 @@ use Rattle.ttext.proofs.free.end_of.Goals as goal
 
 pub returns : goal.returns
 returns c =
-    ap (λ (b : Bool). Turns b) (quiet_as c.quiet_is_nothing_enabled.ensures c.args.gathered.now.net c.requires
+    ap (λ (b : Bool). Turns b) (quiet_as c.quiet_is_nothing_enabled.ensures c.args.net.now c.requires
     c.is_quiet.result c.is_quiet.ensures)

@@ -1,0 +1,107 @@
+-- Instructions by code, after which their process goes on.
+use Rattle.std.proofs.Common.{◌≡◌, ℕ, ◌<◌, ◌^◌, arith, refl, ap, Option, Some, None, Result, Ok, Err, Bool, true, false}
+use Rattle.std.proofs.Common.{pos, subst, ◌||◌}
+use Rattle.std.specs.Prelude.{OnErr, is_some}
+use Rattle.tword.specs.declared.breaks.Break.{Break}
+use Rattle.tword.specs.declared.kind.Kind.{Kind}
+use Rattle.tword.specs.Words.{plus}
+use Rattle.tword.specs.Stores.{Store}
+use Rattle.tword.specs.Claims.{Claims}
+use Rattle.tword.specs.Actions.{Action, answer, run}
+use Rattle.tcode.specs.declared.instruction.Function.{Function}
+use Rattle.tcode.specs.declared.instruction.Function.TheVariants.{J, Ldlp, Ldnl, Ldc, Ldnlp, Ldl, Adc, Call, Cj, Ajw}
+use Rattle.tcode.specs.declared.instruction.Function.TheVariants.{Eqc, Stl, Stnl, Opr}
+use Rattle.tcode.specs.declared.instruction.Instruction.{Instruction}
+use Rattle.tcode.specs.declared.instruction.Operation.{Operation}
+use Rattle.tcode.specs.Table.{operation_at}
+use Rattle.tcode.specs.Chains.{is_listed}
+use Rattle.tcode.specs.Codes.{Decodes}
+use Rattle.tcode.proofs.ChainWords.{reduced-word}
+use Rattle.tcpu.specs.declared.registers.Registers.{Registers}
+use Rattle.tcpu.specs.declared.registers.Next.{Next}
+use Rattle.tcpu.specs.declared.registers.Next.TheVariants.{Go, Jumped, Schedule, Halt}
+use Rattle.tcpu.specs.Outcomes.{Outcome, with_error}
+use Rattle.tcpu.specs.Effects.{effect, effect_at, selected_effect}
+use Rattle.tcpu.specs.Local.{outcome_of}
+use Rattle.tcpu.specs.Stretches.{goes, gone, gone_by}
+use Rattle.tcpu.specs.Rows.{CodeGone}
+use Rattle.tcpu.proofs.Quiet.{IsQuiet, quiet_run}
+use Rattle.tcpu.proofs.Stretches.{IsGoing, went}
+
+-- Error stays where it is not set
+pub unflagged : (r : Registers) → with_error false r ≡ r
+unflagged r = ap (λ (b : Bool). record r { error = b }) (by r.error)
+  where
+    by : (b : Bool) → (b || false) ≡ b
+    by true = refl
+    by false = refl
+
+-- what only answers, and lets the process go on
+pub answered : (x : Action Outcome) (r : Registers) (next : Next) (s : Store) (c : Claims) → IsQuiet IsGoing x
+    → x ≡ answer (r, next) → gone (run x s c) ≡ Some (r, s)
+answered x r next s c q e = by next (subst (IsQuiet IsGoing) e q) e
+  where
+    by : (next : Next) → IsGoing (r, next) → x ≡ answer (r, next) → gone (run x s c) ≡ Some (r, s)
+    by Go g f = rw f refl
+    by Jumped g f = rw f refl
+    by (Schedule o) g f = absurd g
+    by Halt g f = absurd g
+
+-- what was done, and lets the process go on
+pub gone_so : (x : Action Outcome) (r : Registers) (s s' : Store) (c : Claims) → run x s c ≡ outcome_of (Ok Go) r s'
+    → gone (run x s c) ≡ Some (r, s')
+gone_so x r s s' c e = rw e refl
+
+-- so by what a call answered
+pub went_so : (x : Action Outcome) (r : Registers) (step : Result Next Break) (s s' : Store) (c : Claims) (b : Bool)
+    → run x s c ≡ outcome_of step r s' → b ≡ goes step → b ≡ true → gone (run x s c) ≡ Some (r, s')
+went_so x r step s s' c b e f t = went (run x s c) r step s' b e f t
+
+-- where each answer lets the process go on, a call after which it does not has broken a rule
+pub stopped : {P : Type 0} (x : Action Outcome) (r : Registers) (step : Result Next Break) (s s' : Store) (c : Claims)
+    (b : Bool) → IsQuiet IsGoing x → run x s c ≡ outcome_of step r s' → OnErr step P → b ≡ goes step → b ≡ false → P
+stopped {P} x r (Ok next) s s' c b q e kept f t = by next (quiet_run IsGoing x s s c (r, next) s' q e) f
+  where
+    by : (next : Next) → IsGoing (r, next) → b ≡ goes (Ok next) → P
+    by Go g f = cc
+    by Jumped g f = cc
+    by (Schedule o) g f = absurd g
+    by Halt g f = absurd g
+stopped x r (Err k) s s' c b q e kept f t = kept
+
+-- what selects no operation breaks a rule
+selected : (o : Option Operation) (before r r' : Registers) (s s' : Store) (c : Claims)
+    → gone (run (selected_effect o before r) s c) ≡ Some (r', s') → is_some o ≡ true
+selected None before r r' s s' c g = cc
+selected (Some o) before r r' s s' c g = refl
+
+-- a function that was done is listed
+listed : (kind : Kind) (f : Function) (operand : ℕ) (before r r' : Registers) (s s' : Store) (c : Claims)
+    → operand < 2 ^ 32 → gone (run (effect_at kind f operand before r) s c) ≡ Some (r', s')
+    → is_listed kind f (pos operand) ≡ true
+listed kind J operand before r r' s s' c small g = refl
+listed kind Ldlp operand before r r' s s' c small g = refl
+listed kind Ldnl operand before r r' s s' c small g = refl
+listed kind Ldc operand before r r' s s' c small g = refl
+listed kind Ldnlp operand before r r' s s' c small g = refl
+listed kind Ldl operand before r r' s s' c small g = refl
+listed kind Adc operand before r r' s s' c small g = refl
+listed kind Call operand before r r' s s' c small g = refl
+listed kind Cj operand before r r' s s' c small g = refl
+listed kind Ajw operand before r r' s s' c small g = refl
+listed kind Eqc operand before r r' s s' c small g = refl
+listed kind Stl operand before r r' s s' c small g = refl
+listed kind Stnl operand before r r' s s' c small g = refl
+listed kind Opr operand before r r' s s' c small g =
+    rw (reduced-word operand small) (selected (operation_at kind operand) before r r' s s' c g)
+
+-- the instruction at Iptr, by its code, its operand and the address behind it
+pub gone_at : (kind : Kind) (f : Option Function) (operand behind : ℕ) (decoded : Result Instruction Break)
+    (r r' : Registers) (s s' : Store) (c : Claims) → operand < 2 ^ 32 → Decodes kind r.iptr f operand behind decoded
+    → CodeGone kind f operand (record r { iptr = behind }) s c r' s'
+    → gone_by kind c decoded r s ≡ Some (r', s')
+unfolding effect
+gone_at kind None operand behind decoded r r' s s' c small d g = absurd g
+gone_at kind (Some f) operand behind decoded r r' s s' c small d g =
+    let is = d (listed kind f operand r (record r { iptr = behind }) r' s s' c small (g r)) in
+    rw (is.is, ← is.ends) (g r)
