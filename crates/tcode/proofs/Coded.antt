@@ -1,22 +1,22 @@
 -- Chains of one byte and of two, by code, operand and length.
-use Rattle.std.proofs.Common.{◌≡◌, ℕ, ◌+◌, ◌/◌, ◌%◌, ◌^◌, ◌<◌, refl, sym, ap, ◌∙◌, Bool, true, false, pos, negsuc, arith, ℤ, length}
+use Rattle.std.proofs.Common.{◌≡◌, ℕ, ◌+◌, ◌/◌, ◌%◌, ◌^◌, ◌<◌, refl, ap, ◌∙◌, true, pos, negsuc, arith, ℤ, length}
 use Rattle.std.proofs.Common.{◌-ℤ◌, ◌*ℤ◌}
-use Rattle.std.proofs.Common.{Option, Some, None, Result, Ok, Err}
+use Rattle.std.proofs.Common.{Option, Some, None, Result, Ok}
 use Rattle.std.specs.Prelude.{if◌then◌else◌, ◌==◌}
 use Rattle.tword.specs.declared.breaks.Break.{Break}
-use Rattle.tword.specs.declared.breaks.Break.TheVariants.{LongPrefix, NoSuchOperation}
+use Rattle.tword.specs.declared.breaks.Break.TheVariants.{LongPrefix}
 use Rattle.tword.specs.Words.{plus, reduced}
 use Rattle.tword.specs.Stores.{Store, byte_at}
 use Rattle.tword.specs.Touches.{Reads, span_break, byte_span}
 use Rattle.tword.specs.Claims.{Claims}
-use Rattle.tword.specs.Actions.{Action, run, run_from, value_of, answer, breaks}
+use Rattle.tword.specs.Actions.{Action, run, run_from, value_of, breaks}
 use Rattle.tword.specs.declared.kind.Kind.{Kind}
 use Rattle.tcode.specs.declared.instruction.Function.{Function}
 use Rattle.tcode.specs.declared.instruction.Instruction.{Instruction}
 use Rattle.tcode.specs.Table.{function_at, function_entry}
-use Rattle.tcode.specs.Chains.{Last, instruction, is_listed, pfix}
-use Rattle.tcode.specs.Decoding.{fetch, complete, decode, IsFetched}
-use Rattle.tcode.specs.Codes.{Decodes, IsDecoded}
+use Rattle.tcode.specs.Chains.{Last, is_listed, pfix}
+use Rattle.tcode.specs.Decoding.{complete, decode, IsFetched}
+use Rattle.tcode.specs.Codes.{Decodes}
 use Rattle.tcode.proofs.ChainWords.{reduced-word}
 use Rattle.tcode.proofs.RoundTrip.{function_at-entry}
 use Rattle.tcode.proofs.StoreSteps.{fetched-ends, prefix-goes}

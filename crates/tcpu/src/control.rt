@@ -139,7 +139,9 @@ impl Registers {
             (minus self.old.wptr 16) self.old.iptr) (minus self.old.wptr 12) self.old.a)
             (minus self.old.wptr 8) self.old.b) (minus self.old.wptr 4) self.old.c }
         ensures registers { self.new ≡ record self.old {
-          wptr = minus self.old.wptr 16; a = self.old.iptr; iptr = plus self.old.iptr operand;
+          wptr = minus self.old.wptr 16;
+          a = self.old.iptr;
+          iptr = plus self.old.iptr operand;
         } }
         ensures sized { length memory.new ≡ length memory.old }
     {

@@ -340,15 +340,7 @@ fn plain_chain(
     let (code, operand, behind) = chain;
     registers.iptr = behind;
     let bytes = &mut memory.bytes;
-    if plain(
-        &memory.kind,
-        registers,
-        bytes,
-        marks,
-        counts,
-        code,
-        operand,
-    ) {
+    if plain(&memory.kind, registers, bytes, marks, counts, code, operand) {
         return true;
     }
     registers.iptr = start;

@@ -11,8 +11,8 @@ returns c =
     let memory : NodeMemory = c.args.memory.now in
     let same = ap (λ (m : NodeMemory). m.bytes) c.memory.view_is in
     elim c.if-is_prefix.branch [
-      then-is_prefix+in_ok-chain w ↦ rw w.chain-is w.in_ok-chain.ensures |
-      else-is_prefix w ↦
+      | then-is_prefix+in_ok-chain w ↦ rw w.chain-is w.in_ok-chain.ensures
+      | else-is_prefix w ↦
           rw w.chain-is
           (one_byte memory.kind memory.bytes c.args.marks.now c.args.iptr c.in_ok-byte.byte w.new-operand.result
           w.plus.result (function_at (c.in_ok-byte.byte / 16))
