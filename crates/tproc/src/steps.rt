@@ -256,6 +256,32 @@ impl Engine {
         }
     }
 
+    /// One step, as `step` does it, with all that is large out of line, so that a dispatch costs little.
+    #[inline(always)]
+    pub fn step_apart(&mut self) -> Result<Ran, Break>
+        requires plain { IsPlain self.old.state }
+        requires threaded { AreThreaded (machine_of self.old) }
+        ensures { Does (control_step self.old.state.halted self.old.state) self.old result self.new }
+    {
+        if self.state.is_halted() {
+            return Ok(Ran::Halted);
+        }
+        match self.state.current() {
+            None => Ok(self.dispatch()),
+            Some(_) => self.step_out_of_line(),
+        }
+    }
+
+    /// One step, out of line.
+    #[inline(never)]
+    fn step_out_of_line(&mut self) -> Result<Ran, Break>
+        requires plain { IsPlain self.old.state }
+        requires threaded { AreThreaded (machine_of self.old) }
+        ensures { Does (control_step self.old.state.halted self.old.state) self.old result self.new }
+    {
+        self.step()
+    }
+
     /// One step by the process that runs, or a dispatch, unless the processor has halted. A high process that is queued
     /// interrupts a low one.
     #[inline(always)]
