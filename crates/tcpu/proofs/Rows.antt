@@ -1,10 +1,9 @@
 -- Instructions by code, after which their process goes on.
-use Rattle.std.proofs.Common.{◌≡◌, ℕ, ◌<◌, ◌^◌, arith, refl, ap, Option, Some, None, Result, Ok, Err, Bool, true, false}
+use Rattle.std.proofs.Common.{◌≡◌, ℕ, ◌<◌, ◌^◌, refl, ap, Option, Some, None, Result, Ok, Bool, true, false}
 use Rattle.std.proofs.Common.{pos, subst, ◌||◌}
-use Rattle.std.specs.Prelude.{OnErr, is_some}
+use Rattle.std.specs.Prelude.{is_some}
 use Rattle.tword.specs.declared.breaks.Break.{Break}
 use Rattle.tword.specs.declared.kind.Kind.{Kind}
-use Rattle.tword.specs.Words.{plus}
 use Rattle.tword.specs.Stores.{Store}
 use Rattle.tword.specs.Claims.{Claims}
 use Rattle.tword.specs.Actions.{Action, answer, run}
@@ -23,10 +22,10 @@ use Rattle.tcpu.specs.declared.registers.Next.TheVariants.{Go, Jumped, Schedule,
 use Rattle.tcpu.specs.Outcomes.{Outcome, with_error}
 use Rattle.tcpu.specs.Effects.{effect, effect_at, selected_effect}
 use Rattle.tcpu.specs.Local.{outcome_of}
-use Rattle.tcpu.specs.Stretches.{goes, gone, gone_by}
+use Rattle.tcpu.specs.Stretches.{gone, gone_by}
 use Rattle.tcpu.specs.Rows.{CodeGone}
-use Rattle.tcpu.proofs.Quiet.{IsQuiet, quiet_run}
-use Rattle.tcpu.proofs.Stretches.{IsGoing, went}
+use Rattle.tcpu.proofs.Quiet.{IsQuiet}
+use Rattle.tcpu.proofs.Stretches.{IsGoing}
 
 -- Error stays where it is not set
 pub unflagged : (r : Registers) → with_error false r ≡ r
@@ -51,23 +50,6 @@ answered x r next s c q e = by next (subst (IsQuiet IsGoing) e q) e
 pub gone_so : (x : Action Outcome) (r : Registers) (s s' : Store) (c : Claims) → run x s c ≡ outcome_of (Ok Go) r s'
     → gone (run x s c) ≡ Some (r, s')
 gone_so x r s s' c e = rw e refl
-
--- so by what a call answered
-pub went_so : (x : Action Outcome) (r : Registers) (step : Result Next Break) (s s' : Store) (c : Claims) (b : Bool)
-    → run x s c ≡ outcome_of step r s' → b ≡ goes step → b ≡ true → gone (run x s c) ≡ Some (r, s')
-went_so x r step s s' c b e f t = went (run x s c) r step s' b e f t
-
--- where each answer lets the process go on, a call after which it does not has broken a rule
-pub stopped : {P : Type 0} (x : Action Outcome) (r : Registers) (step : Result Next Break) (s s' : Store) (c : Claims)
-    (b : Bool) → IsQuiet IsGoing x → run x s c ≡ outcome_of step r s' → OnErr step P → b ≡ goes step → b ≡ false → P
-stopped {P} x r (Ok next) s s' c b q e kept f t = by next (quiet_run IsGoing x s s c (r, next) s' q e) f
-  where
-    by : (next : Next) → IsGoing (r, next) → b ≡ goes (Ok next) → P
-    by Go g f = cc
-    by Jumped g f = cc
-    by (Schedule o) g f = absurd g
-    by Halt g f = absurd g
-stopped x r (Err k) s s' c b q e kept f t = kept
 
 -- what selects no operation breaks a rule
 selected : (o : Option Operation) (before r r' : Registers) (s s' : Store) (c : Claims)

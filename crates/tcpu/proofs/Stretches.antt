@@ -1,22 +1,18 @@
 -- Instructions after which their process goes on.
-use Rattle.std.proofs.Common.{◌≡◌, ◌+◌, ◌-◌, ◌<◌, ◌≤◌, ℕ, zero, suc, arith, refl, sym, ap, ◌∙◌, Option, Some, None, Result, Ok, Err}
+use Rattle.std.proofs.Common.{◌≡◌, ◌+◌, ◌-◌, ◌<◌, ◌≤◌, ℕ, zero, suc, arith, refl, sym, ap, ◌∙◌, Option, Some, Result, Ok, Err}
 use Rattle.std.proofs.Common.{Bool, true, false}
-use Rattle.std.specs.Prelude.{OnErr}
 use Rattle.tword.specs.declared.breaks.Break.{Break}
 use Rattle.tword.specs.Stores.{Store}
 use Rattle.tword.specs.Claims.{Claims}
-use Rattle.tword.specs.Actions.{Action, answer, run}
-use Rattle.tcode.specs.declared.instruction.Operation.{Operation}
 use Rattle.tcpu.specs.declared.registers.Registers.{Registers}
 use Rattle.tcpu.specs.declared.registers.Next.{Next}
 use Rattle.tcpu.specs.declared.registers.Next.TheVariants.{Go, Jumped, Schedule, Halt}
 use Rattle.tcpu.specs.Outcomes.{Outcome}
-use Rattle.tcpu.specs.Effects.{local_or_left}
 use Rattle.tcpu.specs.Operations.{looped}
 use Rattle.tword.specs.declared.kind.Kind.{Kind}
 use Rattle.tcpu.specs.Local.{outcome_of}
 use Rattle.tcpu.specs.Stretches.{goes, gone, gone_on, gone_one}
-use Rattle.tcpu.proofs.Quiet.{IsQuiet, quiet_run}
+use Rattle.tcpu.proofs.Quiet.{IsQuiet}
 
 -- what an instruction came to tells whether the process goes on
 pub went : (x : Result (Outcome × Store) Break) (r : Registers) (step : Result Next Break) (s : Store) (b : Bool)

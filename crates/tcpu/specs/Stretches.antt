@@ -1,6 +1,6 @@
 -- Instructions in a row, after each of which their process goes on.
 -- Source: own choice, what several instructions come to.
-use Rattle.std.specs.Prelude.{◌≡◌, Bool, true, false, ℕ, zero, suc, Option, Some, None, Result, Ok, Err}
+use Rattle.std.specs.Prelude.{Bool, true, false, ℕ, zero, suc, Option, Some, None, Result, Ok, Err}
 use Rattle.tword.specs.declared.breaks.Break.{Break}
 use Rattle.tword.specs.declared.kind.Kind.{Kind}
 use Rattle.tword.specs.Stores.{Store}

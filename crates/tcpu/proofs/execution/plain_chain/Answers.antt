@@ -1,4 +1,4 @@
-use Rattle.std.proofs.Common.{◌≡◌, ℕ, ◌^◌, ◌<◌, ap, refl, arith}
+use Rattle.std.proofs.Common.{ap, refl, arith}
 use Rattle.tword.specs.Memories.{NodeMemory}
 use Rattle.tcode.specs.Table.{function_at}
 use Rattle.tcpu.specs.declared.registers.Registers.{Registers}
