@@ -11,8 +11,8 @@ use std::alloc::{AllocError, Global};
 use thiserror::Error;
 use tword::limits::LONGEST_FILE;
 
-/// How many bytes are asked for at once.
-const PIECE: usize = 16_384;
+/// How many bytes are asked for at once. The piece is cleared for each file, and most images are shorter.
+const PIECE: usize = 2_048;
 
 /// Why a file is not read.
 #[derive(Clone, Copy, Debug, PartialEq, Eq, Error)]
