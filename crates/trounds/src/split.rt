@@ -1,9 +1,11 @@
 //! One round, shared out among workers: by threads, or share by share.
 
-ghost use Rattle.std.specs.Prelude.{◌≡◌, ◌*◌, ◌<◌, length};
+ghost use Rattle.std.specs.Prelude.{◌≡◌, ◌*◌, ◌<◌, ◌≤◌, length};
 ghost use Rattle.std.specs.Thread.{IsSync};
-ghost use Rattle.trounds.specs.RoundNodes.{stations_of, parts_so_far, parts_by, IsReadyFrom};
+ghost use Rattle.trounds.specs.RoundNodes.{stations_of, parts_so_far, parts_by, IsReadyFrom, RestOutside};
+ghost use Rattle.tword.specs.Limits.{most_nodes};
 
+use crate::awake::Awake;
 use crate::gate::Gate;
 use crate::round_node::RoundNode;
 use crate::shared_round::SharedRound;
@@ -19,6 +21,35 @@ fn do_share<G: Gate>(shared: &SharedRound<'_, G>, _worker: usize, share: &mut [R
     for place in 0..share.len() {
         share[place].part_of_round(&shared.rule);
     }
+}
+
+/// The share of worker 0, which has entered and has all nodes: each that is awake does its part of the round. The
+/// others rest.
+fn do_awake<G: Gate>(shared: &SharedRound<'_, G>, awake: Awake, round_nodes: &mut [RoundNode])
+    requires entered { G.has_entered shared.now.gate.now 0 shared.now.rule.round }
+    requires few { length round_nodes.old ≤ most_nodes }
+    requires ready { IsReadyFrom 0 shared.now.size round_nodes.old }
+    requires rest { RestOutside awake round_nodes.old }
+    ensures parts { parts_so_far round_nodes.new ≡ parts_by shared.now.rule (stations_of round_nodes.old) }
+    ensures rest { RestOutside awake round_nodes.new }
+{
+    let mut place = awake.first();
+    while place < round_nodes.len() {
+        round_nodes[place].part_of_round(&shared.rule);
+        place = awake.after(place);
+    }
+}
+
+/// One round of each node by worker 0 alone, which enters.
+pub fn do_alone<G: Gate>(shared: &SharedRound<'_, G>, awake: Awake, round_nodes: &mut [RoundNode])
+    requires few { length round_nodes.old ≤ most_nodes }
+    requires ready { IsReadyFrom 0 shared.now.size round_nodes.old }
+    requires rest { RestOutside awake round_nodes.old }
+    ensures parts { parts_so_far round_nodes.new ≡ parts_by shared.now.rule (stations_of round_nodes.old) }
+    ensures rest { RestOutside awake round_nodes.new }
+{
+    shared.gate.enter(0, shared.rule.round);
+    do_awake(shared, awake, round_nodes);
 }
 
 /// A worker enters, and does its share.
