@@ -1,8 +1,9 @@
 -- Loops over the nodes that may have something to do: each node that is passed over rests, and what holds so far holds
 -- behind it too.
 use Rattle.std.proofs.Common.{◌≡◌, ◌≢◌, ℕ, zero, suc, ◌+◌, ◌<◌, ◌≤◌, refl, sym, ap, ◌∙◌, subst, List, [], ◌∷◌, ◌++◌}
-use Rattle.std.proofs.Common.{length, get_or, set, take, drop, true, false, Bool, ◌⊎◌, inl, inr, arith, length-set}
+use Rattle.std.proofs.Common.{length, get_or, set, map, take, drop, true, false, Bool, ◌⊎◌, inl, inr, arith, length-set}
 use Rattle.std.specs.Int.{bit_at}
+use Rattle.tword.specs.Limits.{most_nodes}
 use Rattle.std.specs.List.{flat_map, list_all}
 use Rattle.std.proofs.lemmas.Bool.{cases_eq, cases_lt}
 use Rattle.std.proofs.lemmas.List.{take_all, get_or_default, nil_from_length, length-map, drop-drop, append-nil}
@@ -12,10 +13,11 @@ use Rattle.trounds.specs.declared.round_node.RoundNode.{RoundNode}
 use Rattle.trounds.specs.declared.rule.RoundRule.{RoundRule}
 use Rattle.trounds.specs.Parts.{fresh, is_station_quiet}
 use Rattle.trounds.specs.RoundNodes.{station_of, stations_of, part_so_far, parts_so_far, part_by, parts_by, IsReady}
-use Rattle.trounds.specs.RoundNodes.{RestOutside}
+use Rattle.trounds.specs.RoundNodes.{told_of}
+use Rattle.trounds.specs.AwakeNodes.{IsLeft, RestOutside, RestOutsideBoth, SilentOutside}
 use Rattle.trounds.specs.Rows.{in_rows}
 use Rattle.trounds.proofs.PartLists.{same_at, one_more}
-use Rattle.trounds.proofs.PartLoops.{quiet_more, flat_more}
+use Rattle.trounds.proofs.PartLoops.{quiet_more, flat_more, same_told_at}
 use Rattle.trounds.proofs.PartRests.{rests_in_round}
 
 -- a fact of each of the first round nodes
@@ -30,6 +32,15 @@ RestBefore k awake vs = (i : ℕ) (d : RoundNode) → i < k → i < length vs �
 -- no node from one up to another is in a set
 abbrev pub NoneFrom : ℕ → ℕ → Awake → Type 0
 NoneFrom k j awake = (n : ℕ) → k ≤ n → n < j → bit_at awake.nodes n ≡ 0
+
+-- before the first node of a set, and from behind one of them up to the next one, there is none
+pub none_first : (awake : Awake) (place : ℕ) → IsLeft awake awake place → NoneFrom 0 place awake
+none_first awake place left n from below = left.passed n below
+
+pub none_between : (awake left : Awake) (k j : ℕ) → IsLeft awake left k
+    → ((n : ℕ) → k < n → n < j → bit_at left.nodes n ≡ 0) → NoneFrom (k + 1) j awake
+none_between awake left k j at between n from below =
+    sym (at.same n (omega arith)) ∙ between n (omega arith) below
 
 -- what each step carries on, from one number up to another
 over : (P : ℕ → Type 0) (k j : ℕ) → k ≤ j → ((n : ℕ) → k ≤ n → n < j → P n → P (n + 1)) → P k → P j
@@ -86,21 +97,67 @@ next_left : {A : Type 0} (xs ys : List A) (n : ℕ) → drop n xs ≡ drop n ys 
 next_left xs ys n e = sym (drop-drop 1 n xs) ∙ (ap (drop 1) e ∙ drop-drop 1 n ys)
 
 -- a round node is written whose place is in a set
-module _ (awake awake' : Awake) (vs : List RoundNode) (k : ℕ) (v : RoundNode) (here : bit_at awake'.nodes k ≡ 1)
-    (others : (n : ℕ) → n ≢ k → bit_at awake'.nodes n ≡ bit_at awake.nodes n) (rest : RestOutside awake vs) where
-  pub rest_put : RestOutside awake' (set vs k v)
-  rest_put = record { rest = λ n d lt clear. by n d lt clear (cases_eq n k) }
-    where
-      by : (n : ℕ) (d : RoundNode) → n < length (set vs k v) → bit_at awake'.nodes n ≡ 0 → (n ≡ k) ⊎ (n ≢ k)
-          → (get_or (set vs k v) n d).rests ≡ true
-      by n d lt clear (inl e) = absurd (omega (arith, sym clear ∙ (ap (bit_at awake'.nodes) e ∙ here)))
-      by n d lt clear (inr ne) =
-          ap (λ (r : RoundNode). r.rests) (get_or-set_other vs k n v d ne)
-          ∙ rest.rest n d (omega (arith, lt, length-set vs k v)) (sym (others n ne) ∙ clear)
-
 pub rest_kept : (awake : Awake) (vs : List RoundNode) (k : ℕ) (v : RoundNode) → bit_at awake.nodes k ≡ 1
     → RestOutside awake vs → RestOutside awake (set vs k v)
-rest_kept awake vs k v here rest = rest_put awake awake vs k v here (λ n ne. refl) rest
+rest_kept awake vs k v here rest = record { rest = λ n d lt clear. by n d lt clear (cases_eq n k) }
+  where
+    by : (n : ℕ) (d : RoundNode) → n < length (set vs k v) → bit_at awake.nodes n ≡ 0 → (n ≡ k) ⊎ (n ≢ k)
+        → (get_or (set vs k v) n d).rests ≡ true
+    by n d lt clear (inl e) = absurd (omega (arith, sym clear ∙ (ap (bit_at awake.nodes) e ∙ here)))
+    by n d lt clear (inr ne) =
+        ap (λ (r : RoundNode). r.rests) (get_or-set_other vs k n v d ne)
+        ∙ rest.rest n d (omega (arith, lt, length-set vs k v)) clear
+
+-- a round node is written whose place is put into one of two sets
+pub rest_put : (others awake awake' : Awake) (vs : List RoundNode) (k : ℕ) (v : RoundNode) → bit_at awake'.nodes k ≡ 1
+    → ((n : ℕ) → n ≢ k → bit_at awake'.nodes n ≡ bit_at awake.nodes n) → RestOutsideBoth others awake vs
+    → RestOutsideBoth others awake' (set vs k v)
+rest_put others awake awake' vs k v here same rest =
+    record { rest = λ n d lt clear none. by n d lt clear none (cases_eq n k) }
+  where
+    by : (n : ℕ) (d : RoundNode) → n < length (set vs k v) → bit_at others.nodes n ≡ 0 → bit_at awake'.nodes n ≡ 0
+        → (n ≡ k) ⊎ (n ≢ k) → (get_or (set vs k v) n d).rests ≡ true
+    by n d lt clear none (inl e) = absurd (omega (arith, sym none ∙ (ap (bit_at awake'.nodes) e ∙ here)))
+    by n d lt clear none (inr ne) =
+        ap (λ (r : RoundNode). r.rests) (get_or-set_other vs k n v d ne)
+        ∙ rest.rest n d (omega (arith, lt, length-set vs k v)) clear (sym (same n ne) ∙ none)
+
+-- outside all nodes there is none, and outside more sets there are fewer
+pub rest_outside_all : (awake : Awake) (vs : List RoundNode) → length vs ≤ most_nodes
+    → ((n : ℕ) → n < most_nodes → bit_at awake.nodes n ≡ 1) → RestOutside awake vs
+rest_outside_all awake vs few all =
+    record { rest = λ n d lt clear. absurd (omega (arith, sym clear ∙ all n (omega arith))) }
+
+pub rest_outside_more : (awake more : Awake) (vs : List RoundNode) → RestOutside awake vs
+    → RestOutsideBoth awake more vs
+rest_outside_more awake more vs rest = record { rest = λ n d lt clear none. rest.rest n d lt clear }
+
+-- nodes that rested have told nothing
+pub silent_outside : (awake : Awake) (vs ws : List RoundNode) → RestOutside awake vs → length ws ≡ length vs
+    → map told_of ws ≡ map told_of vs → SilentOutside awake ws
+silent_outside awake vs ws rest len told = record {
+  silent = λ n d lt clear.
+      same_told_at ws vs n (get_or ws n d) d lt (omega (arith, lt, len)) told (get_or_default ws n d (get_or ws n d) lt)
+      ∙ told_none (get_or vs n d) (rest.rest n d (omega (arith, lt, len)) clear);
+}
+  where
+    told_none : (r : RoundNode) → r.rests ≡ true → told_of r ≡ ([], [], [])
+    told_none r h = λ i. (rests_unsent r h i, rests_undone r h i, rests_untold r h i)
+
+-- a node that is not in a set was not in it before one was put in
+pub not_before : (awake awake' : Awake) (k : ℕ) (rests : Bool) → (rests ≡ false → bit_at awake'.nodes k ≡ 1)
+    → (rests ≡ true → bit_at awake'.nodes k ≡ bit_at awake.nodes k)
+    → ((n : ℕ) → n ≢ k → bit_at awake'.nodes n ≡ bit_at awake.nodes n) → (n : ℕ) → bit_at awake'.nodes n ≡ 0
+    → bit_at awake.nodes n ≡ 0
+not_before awake awake' k rests put unless others n none = by (cases_eq n k)
+  where
+    here : (b : Bool) → rests ≡ b → bit_at awake'.nodes k ≡ 0 → bit_at awake.nodes k ≡ 0
+    here true e z = sym (unless e) ∙ z
+    here false e z = absurd (omega (arith, sym z ∙ put e))
+
+    by : (n ≡ k) ⊎ (n ≢ k) → bit_at awake.nodes n ≡ 0
+    by (inl e) = ap (bit_at awake.nodes) e ∙ here rests refl (sym (ap (bit_at awake'.nodes) e) ∙ none)
+    by (inr ne) = sym (others n ne) ∙ none
 
 -- one round node more of which a fact holds
 pub all_more : (P : RoundNode → Type 0) (vs : List RoundNode) (k : ℕ) (v : RoundNode) → P v → AllBefore P k vs
@@ -168,37 +225,39 @@ module _ (awake : Awake) (vs : List RoundNode) (rest : RestOutside awake vs) (k 
       by (inl lt) = h i d lt within
       by (inr from) = rests_ready (get_or vs i d) (rest.rest i d within (none i from below))
 
-  -- they add nothing to what all have sent, done or told
-  pub flat_over : {A : Type 0} (f : RoundNode → List A) → ((r : RoundNode) → r.rests ≡ true → f r ≡ [])
-      → flat_map f (take j vs) ≡ flat_map f (take k vs)
-  flat_over f empty =
-      over (λ n. flat_map f (take n vs) ≡ flat_map f (take k vs)) k j le
-      (λ n from below so_far. by n (none n from below) (cases_lt n (length vs)) ∙ so_far) refl
-    where
-      by : (n : ℕ) → bit_at awake.nodes n ≡ 0 → (n < length vs) ⊎ (length vs ≤ n)
-          → flat_map f (take (n + 1) vs) ≡ flat_map f (take n vs)
-      by n clear (inl lt) =
-          let d : RoundNode = some_of vs n lt in
-          flat_more f vs n d lt
-          ∙ (ap (λ (ys : List _). flat_map f (take n vs) ++ ys)
-          (empty (get_or vs n d) (rest.rest n d lt clear)) ∙ append-nil (flat_map f (take n vs)))
-      by n clear (inr past) = ap (flat_map f) (past_end vs n past)
+-- nodes that are passed over add nothing to what all have sent, done or told
+pub flat_over : {A : Type 0} (f : RoundNode → List A) (awake : Awake) (vs : List RoundNode)
+    → ((n : ℕ) (d : RoundNode) → n < length vs → bit_at awake.nodes n ≡ 0 → f (get_or vs n d) ≡ []) → (k j : ℕ) → k ≤ j
+    → NoneFrom k j awake → flat_map f (take j vs) ≡ flat_map f (take k vs)
+flat_over f awake vs empty k j le none =
+    over (λ n. flat_map f (take n vs) ≡ flat_map f (take k vs)) k j le
+    (λ n from below so_far. by n (none n from below) (cases_lt n (length vs)) ∙ so_far) refl
+  where
+    by : (n : ℕ) → bit_at awake.nodes n ≡ 0 → (n < length vs) ⊎ (length vs ≤ n)
+        → flat_map f (take (n + 1) vs) ≡ flat_map f (take n vs)
+    by n clear (inl lt) =
+        let d : RoundNode = some_of vs n lt in
+        flat_more f vs n d lt
+        ∙ (ap (λ (ys : List _). flat_map f (take n vs) ++ ys) (empty n d lt clear)
+        ∙ append-nil (flat_map f (take n vs)))
+    by n clear (inr past) = ap (flat_map f) (past_end vs n past)
 
 -- what is left of a list behind more of it
 pub left_over : {A : Type 0} (xs ys : List A) (k j : ℕ) → k ≤ j → drop k xs ≡ drop k ys → drop j xs ≡ drop j ys
 left_over xs ys k j le h = over (λ n. drop n xs ≡ drop n ys) k j le (λ n from below e. next_left xs ys n e) h
 
--- nodes that are passed over rest on
-pub rest_over : (awake kept : Awake) (vs ws : List RoundNode) → RestOutside awake vs → (k j : ℕ) → k ≤ j
-    → NoneFrom k j awake → length ws ≡ length vs → drop k ws ≡ drop k vs → RestBefore k kept ws
-    → RestBefore j kept ws
-rest_over awake kept vs ws rest k j le none len left h i d below within clear = by (cases_lt i k)
+-- nodes that are passed over rest on, if they were not put into the other set
+pub rest_over : (nodes before awake : Awake) (vs ws : List RoundNode) → RestOutsideBoth nodes before vs
+    → ((n : ℕ) → bit_at awake.nodes n ≡ 0 → bit_at before.nodes n ≡ 0) → (k j : ℕ) → k ≤ j
+    → NoneFrom k j nodes → length ws ≡ length vs → drop k ws ≡ drop k vs → RestBefore k awake ws
+    → RestBefore j awake ws
+rest_over nodes before awake vs ws rest more k j le none len left h i d below within clear = by (cases_lt i k)
   where
     by : (i < k) ⊎ (k ≤ i) → (get_or ws i d).rests ≡ true
     by (inl lt) = h i d lt within clear
     by (inr from) =
         ap (λ (r : RoundNode). r.rests) (same_at ws vs i d (left_over ws vs k i from left))
-        ∙ rest.rest i d (omega (arith, within, len)) (none i from below)
+        ∙ rest.rest i d (omega (arith, within, len)) (none i from below) (more i clear)
 
 -- nodes that are passed over have their part of a round as it is
 pub parts_over : (rule : RoundRule) (awake : Awake) (vs ws : List RoundNode) → RestOutside awake ws → (k j : ℕ) → k ≤ j

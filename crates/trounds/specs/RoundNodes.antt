@@ -1,8 +1,7 @@
 -- Round nodes, each with its inboxes and its outbox: the station of one, its part of a round so far, and its room.
 -- Source: own choice, how rounds are shared out.
 use Rattle.std.specs.Prelude.{◌≡◌, ℕ, ◌+◌, ◌<◌, ◌≤◌, ◌++◌, length, List, [], map, vec_len, vec_capacity, slice_index_or}
-use Rattle.std.specs.Int.{bit_at}
-use Rattle.std.specs.Prelude.{IfSome, true, false, All, ◌*◌, ◌^◌, Option, option_map}
+use Rattle.std.specs.Prelude.{IfSome, false, All, ◌*◌, ◌^◌, Option, option_map}
 use Rattle.tnet.specs.Answers.{KeepsInput}
 use Rattle.tword.specs.Limits.{most_nodes}
 use Rattle.tproc.specs.declared.offer.Offer.{Offer}
@@ -12,7 +11,6 @@ use Rattle.tplan.specs.declared.event.Act.TheVariants.{Run, Take}
 use Rattle.tplan.specs.declared.event.Event.{Event}
 use Rattle.tplan.specs.declared.event.Note.{Note}
 use Rattle.trounds.specs.declared.account.Account.{Account}
-use Rattle.trounds.specs.declared.awake.Awake.{Awake}
 use Rattle.trounds.specs.declared.round_node.Sending.{Sending}
 use Rattle.trounds.specs.declared.round_node.RoundNode.{RoundNode}
 use Rattle.trounds.specs.declared.rule.RoundRule.{RoundRule}
@@ -109,14 +107,10 @@ pub record IsReady (r : RoundNode) : Type 0 where
   pub bytes : r.rests ≡ false → HasBytes 0 r
   pub is_fresh : part_so_far r ≡ fresh (station_of r)
 
--- the nodes that are not in a set rest: they have nothing to do, and nothing of their last round is left
-pub record RestOutside (awake : Awake) (round_nodes : List RoundNode) : Type 0 where
-  pub rest : (n : ℕ) (d : RoundNode) → n < length round_nodes → bit_at awake.nodes n ≡ 0
-      → (slice_index_or round_nodes n d).rests ≡ true
-
 -- round nodes from the first one of a worker on are ready for a round: each worker has `size` of them
 pub record IsReadyFrom (worker size : ℕ) (round_nodes : List RoundNode) : Type 0 where
   pub workers : worker + length round_nodes < 2 ^ 64
+  pub few : length round_nodes ≤ most_nodes
   pub numbered : AreNumbered (worker * size) (stations_of round_nodes)
   pub ready : All IsReady round_nodes
 
