@@ -22,3 +22,6 @@ pub mod PartTurns
 pub mod TakenOut
 pub mod PartPackets
 pub mod PartRests
+-- which nodes may have something to do
+pub mod AwakeBits
+pub mod Skipped

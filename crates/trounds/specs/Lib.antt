@@ -9,3 +9,4 @@ pub mod Parts
 pub mod Copies
 pub mod Rows
 pub mod RoundNodes
+pub mod AwakeNodes

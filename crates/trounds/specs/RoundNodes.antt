@@ -110,6 +110,7 @@ pub record IsReady (r : RoundNode) : Type 0 where
 -- round nodes from the first one of a worker on are ready for a round: each worker has `size` of them
 pub record IsReadyFrom (worker size : ℕ) (round_nodes : List RoundNode) : Type 0 where
   pub workers : worker + length round_nodes < 2 ^ 64
+  pub few : length round_nodes ≤ most_nodes
   pub numbered : AreNumbered (worker * size) (stations_of round_nodes)
   pub ready : All IsReady round_nodes
 

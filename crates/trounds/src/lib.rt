@@ -6,6 +6,7 @@
 #![tactic(auto)]
 
 mod account;
+mod awake;
 pub mod event_rows;
 pub mod gate;
 mod holds;

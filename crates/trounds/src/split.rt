@@ -3,22 +3,50 @@
 ghost use Rattle.std.specs.Prelude.{◌≡◌, ◌*◌, ◌<◌, length};
 ghost use Rattle.std.specs.Thread.{IsSync};
 ghost use Rattle.trounds.specs.RoundNodes.{stations_of, parts_so_far, parts_by, IsReadyFrom};
+ghost use Rattle.trounds.specs.AwakeNodes.{RestOutside};
 
+use crate::awake::Awake;
 use crate::gate::Gate;
 use crate::round_node::RoundNode;
 use crate::shared_round::SharedRound;
 use std::thread::{Threads, join_mut};
 
-/// The share of one worker, which has entered: each of its nodes does its part of the round. Worker 0 has the first
-/// `size` nodes of the net, worker 1 the next, and so on.
-fn do_share<G: Gate>(shared: &SharedRound<'_, G>, _worker: usize, share: &mut [RoundNode])
+/// The share of one worker, which has entered: each of its nodes that is in the set does its part of the round, and the
+/// others rest. Worker 0 has the first `size` nodes of the net, worker 1 the next, and so on.
+fn do_share<G: Gate>(
+    shared: &SharedRound<'_, G>,
+    _worker: usize,
+    awake: Awake,
+    share: &mut [RoundNode],
+)
     requires entered { G.has_entered shared.now.gate.now _worker shared.now.rule.round }
     requires ready { IsReadyFrom _worker shared.now.size share.old }
-    ensures { parts_so_far share.new ≡ parts_by shared.now.rule (stations_of share.old) }
+    requires rest { RestOutside awake share.old }
+    ensures parts { parts_so_far share.new ≡ parts_by shared.now.rule (stations_of share.old) }
+    ensures rest { RestOutside awake share.new }
 {
-    for place in 0..share.len() {
+    let mut left = awake;
+    let mut place = left.first();
+    while place < share.len() {
         share[place].part_of_round(&shared.rule);
+        place = left.after(place);
     }
+}
+
+/// A worker enters, and does its share, of which the nodes that are not in the set rest.
+pub fn enter_awake<G: Gate>(
+    shared: &SharedRound<'_, G>,
+    worker: usize,
+    awake: Awake,
+    share: &mut [RoundNode],
+)
+    requires ready { IsReadyFrom worker shared.now.size share.old }
+    requires rest { RestOutside awake share.old }
+    ensures parts { parts_so_far share.new ≡ parts_by shared.now.rule (stations_of share.old) }
+    ensures rest { RestOutside awake share.new }
+{
+    shared.gate.enter(worker, shared.rule.round);
+    do_share(shared, worker, awake, share);
 }
 
 /// A worker enters, and does its share.
@@ -26,8 +54,7 @@ fn enter_share<G: Gate>(shared: &SharedRound<'_, G>, worker: usize, share: &mut 
     requires { IsReadyFrom worker shared.now.size share.old }
     ensures { parts_so_far share.new ≡ parts_by shared.now.rule (stations_of share.old) }
 {
-    shared.gate.enter(worker, shared.rule.round);
-    do_share(shared, worker, share);
+    enter_awake(shared, worker, Awake::all(), share);
 }
 
 /// One round of each node, without threads: shares one after another, the first for this worker, the next for the next.

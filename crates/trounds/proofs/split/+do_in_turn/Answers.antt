@@ -5,6 +5,7 @@ use Rattle.trounds.proofs.split.+do_in_turn.Goals as goal
 pub enter_share-requires-2 : goal.enter_share-requires-2
 enter_share-requires-2 g t c = record {
   workers = search rules;
+  few = search rules;
   numbered = numbered_front (c.args.worker * c.args.shared.now.size) c.args.shared.now.size c.args.share.now
       c.requires.numbered _ c.split_at_mut-front.ensures.front;
   ready = search rules;
@@ -17,6 +18,7 @@ do_in_turn-requires g t c κs within = (
     search rules,
     record {
       workers = search rules;
+      few = search rules;
       numbered = behind_shares c.args.worker 1 c.args.shared.now.size c.args.shared.now.size c.args.share.now _
           c.requires.numbered (omega arith) c.split_at_mut-front.ensures.back;
       ready = search rules;

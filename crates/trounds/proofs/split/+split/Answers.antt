@@ -5,6 +5,7 @@ use Rattle.trounds.proofs.split.+split.Goals as goal
 pub do_shares-do_both-requires-clause-front : goal.do_shares-do_both-requires-clause-front
 do_shares-do_both-requires-clause-front g t c κs within = record {
   workers = search rules;
+  few = search rules;
   numbered = numbered_front (c.args.worker * c.args.shared.now.size) (c.half_of-half.result * c.args.shared.now.size)
       c.args.share.now c.requires.numbered _ c.split_at_mut-front.ensures.front;
   ready = search rules;
@@ -13,6 +14,7 @@ do_shares-do_both-requires-clause-front g t c κs within = record {
 pub do_shares-do_both-requires-clause-back : goal.do_shares-do_both-requires-clause-back
 do_shares-do_both-requires-clause-back g t c κs within = record {
   workers = search rules;
+  few = search rules;
   numbered = behind_shares c.args.worker c.half_of-half.result c.args.shared.now.size _ c.args.share.now _
       c.requires.numbered refl c.split_at_mut-front.ensures.back;
   ready = search rules;
