@@ -17,8 +17,7 @@ use crate::ends::{InEnd, OutEnd, Slots};
 use crate::log::{Log, TurnFault, act, receive};
 use crate::stamp::Sent;
 use tlink::{Node, NodeEvent, Packet};
-use tnet::Row;
-use tplan::End;
+use tnet::Wires;
 
 /// A link of one of a worker's own nodes.
 #[derive(Clone, Copy)]
@@ -138,46 +137,46 @@ fn put(slot: &mut Option<OutEnd>, stamp: u64, packet: Option<Packet>)
 }
 
 /// A link on which packets are emitted.
-#[derive(Drop)]
+#[derive(Clone, Copy)]
 pub struct Emitter {
     /// The number of its node.
     pub number: u8,
-    /// The far ends of the node's links.
-    pub far: Row<Option<End>>,
     /// Where the other end of its ring is, if it is at hand.
     pub own: Option<OwnLink>,
 }
 
-/// An event that emits is done, if it is enabled and there is room in its ring.
+/// An event that emits is done, if there is room in its ring and it is enabled.
 #[inline(always)]
 pub fn emit_at(
     node: &mut Node,
     slot: &mut Option<OutEnd>,
     ins: &mut Vec<Slots<InEnd>>,
     log: &mut Log,
-    emitter: &Emitter,
+    wires: &Wires,
+    emitter: Emitter,
     event: NodeEvent,
 ) -> Result<bool, TurnFault>
     requires { (o : OutView) → option_map out_view slot.old ≡ Some o
-        → SameRingBack emitter.now.own o (ins_view ins.old.items) }
+        → SameRingBack emitter.own o (ins_view ins.old.items) }
     ensures ins { ins_view ins.new.items ≡ ins_view ins.old.items }
     ensures did { Whether result
-        (Emitted emitter.now.number emitter.now.far event emitter.now.own node.old node.new (log_view log.old)
+        (Emitted emitter.number wires.now event emitter.own node.old node.new (log_view log.old)
         (log_view log.new) (option_map out_view slot.old) (option_map out_view slot.new) (ins_view ins.old.items))
         ((node.new ≡ node.old) × (log_view log.new ≡ log_view log.old)
         × (option_map out_view slot.new ≡ option_map out_view slot.old)) }
     ensures rests { result ≡ Ok false → is_node_enabled event node.old ≡ true
-        → AnswersRoom emitter.now.own (option_map out_view slot.old) (ins_view ins.old.items) false }
-    ensures left { IfErr result (LeftWithRoom event emitter.now.own node.old log.old.clock
+        → AnswersRoom emitter.own (option_map out_view slot.old) (ins_view ins.old.items) false }
+    ensures left { IfErr result (LeftWithRoom event emitter.own node.old log.old.clock
         (option_map out_view slot.old) (ins_view ins.old.items)) }
 {
-    if !node.enabled(event) {
-        return Ok(false);
-    }
     if !room(slot, ins, emitter.own) {
         return Ok(false);
     }
-    let (stamp, packet) = act(node, log, emitter.number, &emitter.far, event)?;
-    put(slot, stamp, packet);
-    Ok(true)
+    match act(node, log, emitter.number, wires, event)? {
+        None => Ok(false),
+        Some((stamp, packet)) => {
+            put(slot, stamp, packet);
+            Ok(true)
+        }
+    }
 }
