@@ -2,13 +2,15 @@
 //! seen.
 
 ghost use Rattle.std.specs.Prelude.{◌≡◌, ◌+◌, ◌<◌, [], ◌++◌, option_map};
-ghost use Rattle.std.specs.Prelude.{IsTrue, IfSome, IfErr, Ok, true, false, Option, Some, None};
+ghost use Rattle.std.specs.Prelude.{IsSome, IsTrue, IfSome, IfErr, Ok, true, false, Option, Some, None};
 ghost use Rattle.rtrb.specs.Ring.{known_items, known_free};
 ghost use Rattle.tlink.specs.Events.{is_node_enabled};
 ghost use Rattle.tfree.specs.Slots.{slot_at};
 ghost use Rattle.tfree.specs.declared.steps.OwnLink as spec;
 ghost use Rattle.tfree.specs.Ends.{in_view, out_view, ins_view, outs_view, seen_of, IsFront, HasFree};
-ghost use Rattle.tfree.specs.Views.{InView, OutView, with_put};
+ghost use Rattle.tword.specs.Limits.{most_nodes};
+ghost use Rattle.tfree.specs.Kept.{expecting};
+ghost use Rattle.tfree.specs.Views.{InView, OutView, got_of, with_put};
 ghost use Rattle.tfree.specs.Logs.{log_view, Whether, sent_as};
 ghost use Rattle.tfree.specs.Steps.{SameRing, SameRingBack, Received, NoneDue, Emitted, AnswersRoom};
 ghost use Rattle.tfree.specs.Steps.{LeftAtFront, LeftWithRoom};
@@ -17,7 +19,8 @@ use crate::ends::{InEnd, OutEnd, Slots};
 use crate::log::{Log, TurnFault, act, receive};
 use crate::stamp::Sent;
 use tlink::{Node, NodeEvent, Packet};
-use tnet::Wires;
+use tnet::{Row, Wires};
+use tword::limits::MOST_NODES;
 
 /// A link of one of a worker's own nodes.
 #[derive(Clone, Copy)]
@@ -77,6 +80,9 @@ pub fn receive_at(
         → NoneDue taker.link taker.own node.old (option_map in_view slot.old) (outs_view outs.old.items) }
     ensures left { IfErr result (LeftAtFront taker.link taker.own node.old log.old.clock (option_map in_view slot.old)
         (seen_of slot.new) (outs_view outs.old.items)) }
+    ensures all { (q : spec.OwnLink) (o : OutView) → IsSome slot.old → taker.own ≡ Some q
+        → slot_at (outs_view outs.old.items) q.node q.link ≡ Some o
+        → got_of (option_map in_view slot.new) ++ seen_of slot.new ≡ o.put }
 {
     match slot {
         None => Ok(false),
@@ -84,6 +90,17 @@ pub fn receive_at(
             None => Ok(false),
             Some(front) => receive(node, end, log, taker.number, taker.link, front),
         },
+    }
+}
+
+/// Whether a packet may lie in a ring, behind a look at it: where its other end is at hand, whether one is seen.
+#[inline(always)]
+pub fn may_hold(slot: &Option<InEnd>, own: Option<OwnLink>) -> bool
+    ensures { result ≡ false → (q : spec.OwnLink) → own ≡ Some q → seen_of slot.now ≡ [] }
+{
+    match slot {
+        None => false,
+        Some(end) => own.is_none() || end.consumer.cached_slots() > 0,
     }
 }
 
@@ -133,6 +150,17 @@ fn put(slot: &mut Option<OutEnd>, stamp: u64, packet: Option<Packet>)
             None => {}
             Some(packet) => out.put(Sent { packet, stamp }),
         },
+    }
+}
+
+/// Packets may lie at a link from now on, if there is one.
+#[inline(always)]
+pub fn expect(may_lie: &mut [Row<bool>; MOST_NODES], own: Option<OwnLink>)
+    requires { (q : spec.OwnLink) → own ≡ Some q → (q.node < most_nodes) × (q.link < 4) }
+    ensures { may_lie.new ≡ expecting own may_lie.old }
+{
+    if let Some(own) = own {
+        may_lie[own.node][own.link] = true;
     }
 }
 
