@@ -2,7 +2,7 @@
 -- they took and put.
 -- Source: own choice.
 use Rattle.std.specs.Prelude.{ℕ, ◌≡◌, ◌+◌, ◌<◌, ◌≤◌, ◌⊎◌, IsTrue, List, [], ◌∷◌, ◌++◌, All, fold, length, Option}
-use Rattle.std.specs.Prelude.{Some, None, is_some, slice_get, slice_set}
+use Rattle.std.specs.Prelude.{Bool, true, false, Some, None, is_some, slice_get, slice_index_or, slice_set}
 use Rattle.std.specs.declared.alloc.Global.{Global}
 use Rattle.tlink.specs.declared.event.NodeEvent.{NodeEvent}
 use Rattle.tlink.specs.declared.event.NodeEvent.TheVariants.{Run, Send, Data, Take, Ack}
@@ -139,3 +139,24 @@ share_with number count first owned opened ins outs =
 pub record IsOwnLink (s : Share) (far : Option End) (own : Option OwnLink) : Type 0 where
   pub there : (q : OwnLink) → own ≡ Some q → (far ≡ Some (own_end s q.node q.link)) × (q.node < s.owned) × (q.link < 4)
   pub none : own ≡ None → (f : End) → far ≡ Some f → IsMine s f.node → ⊥
+
+-- what a table says of a link
+abbrev pub flag_at : List (List Bool) → (node link : ℕ) → Bool
+flag_at rows node link = slice_index_or (slice_index_or rows node []) link false
+
+-- a table in which what is said of a link is set
+abbrev pub with_flag : (node link : ℕ) → Bool → List (List Bool) → List (List Bool)
+with_flag node link b rows = slice_set rows node (slice_set (slice_index_or rows node []) link b)
+
+-- a table that says that packets may lie at this link, if there is one
+abbrev pub expecting : Option OwnLink → List (List Bool) → List (List Bool)
+expecting None rows = rows
+expecting (Some q) rows = with_flag q.node q.link true rows
+
+-- where a table says that no packet may lie, the worker has taken all that it put in itself
+pub record AreEmptied (s : Share) (may_lie : List (List Bool)) (ins : List (List (Option InView)))
+    (outs : List (List (Option OutView))) : Type 0 where
+  pub rows : AreRowsOfFour most_nodes may_lie
+  pub all : (i l j k : ℕ) → i < s.owned → l < 4 → j < s.owned → k < 4 → flag_at may_lie i l ≡ false
+      → far_end s.opened.wires (own_end s i l) ≡ Some (own_end s j k)
+      → got_of (slot_at ins i l) ≡ put_of (slot_at outs j k)

@@ -5,14 +5,13 @@ use Rattle.std.specs.Prelude.{Some, None, IsSome, option_map}
 use Rattle.tlink.specs.declared.event.NodeEvent.{NodeEvent}
 use Rattle.tlink.specs.Node.{NodeState}
 use Rattle.tlink.specs.Events.{happens, is_node_enabled}
-use Rattle.tplan.specs.declared.plan.End.{End}
+use Rattle.tplan.specs.declared.plan.Wire.{Wire}
 use Rattle.tfree.specs.declared.stamp.Sent.{Sent}
 use Rattle.tfree.specs.declared.steps.OwnLink.{OwnLink}
 use Rattle.tfree.specs.declared.log.TurnFault.{TurnFault}
 use Rattle.tfree.specs.Lists.{event_taking}
 use Rattle.tfree.specs.Views.{InView, OutView, got_of, put_of, with_put, with_got}
-use Rattle.tnet.specs.FarEnds.{far_in_row}
-use Rattle.tnet.specs.Stations.{note_of, listed}
+use Rattle.tfree.specs.WorkerNotes.{told_at}
 use Rattle.tfree.specs.Logs.{LogView, Acted, packet_of, sent_as}
 use Rattle.tfree.specs.Ends.{IsFront}
 use Rattle.tfree.specs.Slots.{slot_at}
@@ -65,9 +64,9 @@ pub record AnswersRoom (own : Option OwnLink) (x : Option OutView) (ins : List (
       → room ≡ nat_lt (length o.put) (length w.got + 2)
 
 -- an event that emits was done, where there was room
-pub record Emitted (n : ℕ) (far : List (Option End)) (e : NodeEvent) (own : Option OwnLink) (node node' : NodeState)
+pub record Emitted (n : ℕ) (wires : List Wire) (e : NodeEvent) (own : Option OwnLink) (node node' : NodeState)
     (v v' : LogView) (x x' : Option OutView) (ins : List (List (Option InView))) : Type 0 where
-  pub acted : Acted (listed (note_of n (far_in_row far) e node)) n e 0 node node' v v'
+  pub acted : Acted (told_at wires n e node) n e 0 node node' v v'
   pub put : x' ≡ option_map (with_put (sent_as (packet_of (happens e node)) v'.clock)) x
   pub room : AnswersRoom own x ins true
 

@@ -2,13 +2,15 @@
 //! seen.
 
 ghost use Rattle.std.specs.Prelude.{◌≡◌, ◌+◌, ◌<◌, [], ◌++◌, option_map};
-ghost use Rattle.std.specs.Prelude.{IsTrue, IfSome, IfErr, Ok, true, false, Option, Some, None};
+ghost use Rattle.std.specs.Prelude.{IsSome, IsTrue, IfSome, IfErr, Ok, true, false, Option, Some, None};
 ghost use Rattle.rtrb.specs.Ring.{known_items, known_free};
 ghost use Rattle.tlink.specs.Events.{is_node_enabled};
 ghost use Rattle.tfree.specs.Slots.{slot_at};
 ghost use Rattle.tfree.specs.declared.steps.OwnLink as spec;
 ghost use Rattle.tfree.specs.Ends.{in_view, out_view, ins_view, outs_view, seen_of, IsFront, HasFree};
-ghost use Rattle.tfree.specs.Views.{InView, OutView, with_put};
+ghost use Rattle.tword.specs.Limits.{most_nodes};
+ghost use Rattle.tfree.specs.Kept.{expecting};
+ghost use Rattle.tfree.specs.Views.{InView, OutView, got_of, with_put};
 ghost use Rattle.tfree.specs.Logs.{log_view, Whether, sent_as};
 ghost use Rattle.tfree.specs.Steps.{SameRing, SameRingBack, Received, NoneDue, Emitted, AnswersRoom};
 ghost use Rattle.tfree.specs.Steps.{LeftAtFront, LeftWithRoom};
@@ -17,8 +19,8 @@ use crate::ends::{InEnd, OutEnd, Slots};
 use crate::log::{Log, TurnFault, act, receive};
 use crate::stamp::Sent;
 use tlink::{Node, NodeEvent, Packet};
-use tnet::Row;
-use tplan::End;
+use tnet::{Row, Wires};
+use tword::limits::MOST_NODES;
 
 /// A link of one of a worker's own nodes.
 #[derive(Clone, Copy)]
@@ -78,6 +80,9 @@ pub fn receive_at(
         → NoneDue taker.link taker.own node.old (option_map in_view slot.old) (outs_view outs.old.items) }
     ensures left { IfErr result (LeftAtFront taker.link taker.own node.old log.old.clock (option_map in_view slot.old)
         (seen_of slot.new) (outs_view outs.old.items)) }
+    ensures all { (q : spec.OwnLink) (o : OutView) → IsSome slot.old → taker.own ≡ Some q
+        → slot_at (outs_view outs.old.items) q.node q.link ≡ Some o
+        → got_of (option_map in_view slot.new) ++ seen_of slot.new ≡ o.put }
 {
     match slot {
         None => Ok(false),
@@ -85,6 +90,17 @@ pub fn receive_at(
             None => Ok(false),
             Some(front) => receive(node, end, log, taker.number, taker.link, front),
         },
+    }
+}
+
+/// Whether a packet may lie in a ring, behind a look at it: where its other end is at hand, whether one is seen.
+#[inline(always)]
+pub fn may_hold(slot: &Option<InEnd>, own: Option<OwnLink>) -> bool
+    ensures { result ≡ false → (q : spec.OwnLink) → own ≡ Some q → seen_of slot.now ≡ [] }
+{
+    match slot {
+        None => false,
+        Some(end) => own.is_none() || end.consumer.cached_slots() > 0,
     }
 }
 
@@ -137,47 +153,58 @@ fn put(slot: &mut Option<OutEnd>, stamp: u64, packet: Option<Packet>)
     }
 }
 
+/// Packets may lie at a link from now on, if there is one.
+#[inline(always)]
+pub fn expect(may_lie: &mut [Row<bool>; MOST_NODES], own: Option<OwnLink>)
+    requires { (q : spec.OwnLink) → own ≡ Some q → (q.node < most_nodes) × (q.link < 4) }
+    ensures { may_lie.new ≡ expecting own may_lie.old }
+{
+    if let Some(own) = own {
+        may_lie[own.node][own.link] = true;
+    }
+}
+
 /// A link on which packets are emitted.
-#[derive(Drop)]
+#[derive(Clone, Copy)]
 pub struct Emitter {
     /// The number of its node.
     pub number: u8,
-    /// The far ends of the node's links.
-    pub far: Row<Option<End>>,
     /// Where the other end of its ring is, if it is at hand.
     pub own: Option<OwnLink>,
 }
 
-/// An event that emits is done, if it is enabled and there is room in its ring.
+/// An event that emits is done, if there is room in its ring and it is enabled.
 #[inline(always)]
 pub fn emit_at(
     node: &mut Node,
     slot: &mut Option<OutEnd>,
     ins: &mut Vec<Slots<InEnd>>,
     log: &mut Log,
-    emitter: &Emitter,
+    wires: &Wires,
+    emitter: Emitter,
     event: NodeEvent,
 ) -> Result<bool, TurnFault>
     requires { (o : OutView) → option_map out_view slot.old ≡ Some o
-        → SameRingBack emitter.now.own o (ins_view ins.old.items) }
+        → SameRingBack emitter.own o (ins_view ins.old.items) }
     ensures ins { ins_view ins.new.items ≡ ins_view ins.old.items }
     ensures did { Whether result
-        (Emitted emitter.now.number emitter.now.far event emitter.now.own node.old node.new (log_view log.old)
+        (Emitted emitter.number wires.now event emitter.own node.old node.new (log_view log.old)
         (log_view log.new) (option_map out_view slot.old) (option_map out_view slot.new) (ins_view ins.old.items))
         ((node.new ≡ node.old) × (log_view log.new ≡ log_view log.old)
         × (option_map out_view slot.new ≡ option_map out_view slot.old)) }
     ensures rests { result ≡ Ok false → is_node_enabled event node.old ≡ true
-        → AnswersRoom emitter.now.own (option_map out_view slot.old) (ins_view ins.old.items) false }
-    ensures left { IfErr result (LeftWithRoom event emitter.now.own node.old log.old.clock
+        → AnswersRoom emitter.own (option_map out_view slot.old) (ins_view ins.old.items) false }
+    ensures left { IfErr result (LeftWithRoom event emitter.own node.old log.old.clock
         (option_map out_view slot.old) (ins_view ins.old.items)) }
 {
-    if !node.enabled(event) {
-        return Ok(false);
-    }
     if !room(slot, ins, emitter.own) {
         return Ok(false);
     }
-    let (stamp, packet) = act(node, log, emitter.number, &emitter.far, event)?;
-    put(slot, stamp, packet);
-    Ok(true)
+    match act(node, log, emitter.number, wires, event)? {
+        None => Ok(false),
+        Some((stamp, packet)) => {
+            put(slot, stamp, packet);
+            Ok(true)
+        }
+    }
 }

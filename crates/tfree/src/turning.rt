@@ -58,14 +58,19 @@ impl Pace {
         }
     }
 
-    /// What so many workers make next, where so many turns are left to make. One alone waits for no other.
+    /// What so many workers make next, where so many turns are left to make. One alone waits for no other, and makes
+    /// all turns that are left of the stage at once.
     fn task(self, turns: u32, slice: u32, workers: usize) -> Task
         requires { 0 < turns }
         ensures { (0 < result.turns) × (result.turns ≤ turns) × (result.slice ≡ slice) }
     {
         if !self.apart {
             return Task {
-                turns: 1,
+                turns: if workers == 1 {
+                    self.left.min(turns)
+                } else {
+                    1
+                },
                 slice,
                 patience: 1,
                 apart: false,
@@ -88,10 +93,11 @@ impl Pace {
     fn next(self, stint: Stint, workers: usize) -> Self {
         let events = self.events.saturating_add(stint.events);
         let apart = events >= workers.saturating_mul(EVENTS_WORTH_A_THREAD);
-        if !self.apart && !apart && self.left > 1 {
+        let made = stint.made.max(1);
+        if !self.apart && !apart && self.left > made {
             return Pace {
                 stage: self.stage,
-                left: self.left - 1,
+                left: self.left - made,
                 apart: false,
                 events,
             };
