@@ -1,7 +1,8 @@
 -- What one event of a node does at its rings.
 -- Source: own choice.
 use Rattle.std.specs.Prelude.{ℕ, ◌≡◌, ◌+◌, ◌<◌, Bool, true, false, IsTrue, nat_lt, List, [], ◌∷◌, ◌++◌, length, Option}
-use Rattle.std.specs.Prelude.{Some, None, IsSome, option_map}
+use Rattle.std.specs.Prelude.{Some, None, IsSome, option_map, Result, MatchResult, MatchOption}
+use Rattle.tlink.specs.declared.event.Packet.{Packet}
 use Rattle.tlink.specs.declared.event.NodeEvent.{NodeEvent}
 use Rattle.tlink.specs.Node.{NodeState}
 use Rattle.tlink.specs.Events.{happens, is_node_enabled}
@@ -62,6 +63,15 @@ pub record AnswersRoom (own : Option OwnLink) (x : Option OutView) (ins : List (
   pub certain : length (put_of x) < 2 → IsTrue room
   pub exact : (q : OwnLink) (o : OutView) (w : InView) → x ≡ Some o → own ≡ Some q → slot_at ins q.node q.link ≡ Some w
       → room ≡ nat_lt (length o.put) (length w.got + 2)
+
+-- an event that takes no packet was done, and this is its stamp and the packet that it emits; or nothing was done
+abbrev pub Acts : List Wire → ℕ → NodeEvent → (node node' : NodeState) → (v v' : LogView)
+    → Result (Option (ℕ × Option Packet)) TurnFault → Type 0
+Acts wires n e node node' v v' r =
+    MatchResult r (λ done. MatchOption done ((node' ≡ node) × (v' ≡ v))
+    (λ d. Acted (told_at wires n e node) n e 0 node node' v v' × (d.0 ≡ v'.clock)
+    × (d.1 ≡ packet_of (happens e node))))
+    (λ _. (node' ≡ node) × (v' ≡ v))
 
 -- an event that emits was done, where there was room
 pub record Emitted (n : ℕ) (wires : List Wire) (e : NodeEvent) (own : Option OwnLink) (node node' : NodeState)
