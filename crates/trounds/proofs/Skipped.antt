@@ -1,11 +1,12 @@
 -- Loops over the nodes that may have something to do: each node that is passed over rests, and what holds so far holds
 -- behind it too.
 use Rattle.std.proofs.Common.{◌≡◌, ◌≢◌, ℕ, zero, suc, ◌+◌, ◌<◌, ◌≤◌, refl, sym, ap, ◌∙◌, subst, List, [], ◌∷◌, ◌++◌}
-use Rattle.std.proofs.Common.{length, get_or, set, map, take, drop, true, false, Bool, ◌⊎◌, inl, inr, arith, length-set, length-append, length-drop, ◌-◌}
+use Rattle.std.proofs.Common.{length, get_or, set, map, take, drop, true, false, Bool, ◌⊎◌, inl, inr, arith, length-set}
+use Rattle.std.proofs.Common.{length-drop}
 use Rattle.std.specs.Int.{bit_at}
 use Rattle.std.specs.List.{flat_map, list_all}
 use Rattle.std.proofs.lemmas.Bool.{cases_eq, cases_lt}
-use Rattle.std.proofs.lemmas.List.{length-take, get_or-take, get_or-drop, get_or_append_left, get_or-append-add}
+use Rattle.std.proofs.lemmas.List.{length-take, get_or-take, get_or-drop}
 use Rattle.std.proofs.lemmas.List.{take_all, get_or_default, nil_from_length, length-map, drop-drop, append-nil}
 use Rattle.std.proofs.lemmas.List.{get_or-set_same, get_or-set_other, set-get_or}
 use Rattle.trounds.specs.declared.awake.Awake.{Awake}
@@ -205,10 +206,6 @@ rest_more kept kept' vs k v here others rest i d lt within clear = by (cases_eq 
     by (inr ne) =
         ap (λ (r : RoundNode). r.rests) (get_or-set_other vs k i v d ne)
         ∙ rest i d (omega arith) (omega (arith, within, length-set vs k v)) (sym (others i ne) ∙ clear)
-
-pub rest_all : (k : ℕ) (kept : Awake) (vs : List RoundNode) → length vs ≤ k → RestBefore k kept vs
-    → RestOutside kept vs
-rest_all k kept vs end rest = record { rest = λ n d lt clear. rest n d (omega arith) lt clear }
 
 module _ (awake : Awake) (vs : List RoundNode) (rest : RestOutside awake vs) (k j : ℕ) (le : k ≤ j)
     (none : NoneFrom k j awake) where

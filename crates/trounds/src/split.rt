@@ -141,12 +141,14 @@ fn do_both<R: Threads + Sync, G: Gate + Sync>(
     ensures back_rest { RestOutside behind back.new }
 {
     let mut first = ||
-        requires { IsSync R.row × IsSync G.row × IsReadyFrom worker shared.now.size front.now × RestOutside awake front.now }
+        requires { IsSync R.row × IsSync G.row × IsReadyFrom worker shared.now.size front.now
+            × RestOutside awake front.now }
         ensures { (parts_so_far front.exit.now ≡ parts_by shared.entry.now.rule (stations_of front.entry.now))
             × RestOutside awake front.exit.now }
     { do_shares(rt, shared, worker, awake, front) };
     let mut second = ||
-        requires { IsSync R.row × IsSync G.row × IsReadyFrom next shared.now.size back.now × RestOutside behind back.now }
+        requires { IsSync R.row × IsSync G.row × IsReadyFrom next shared.now.size back.now
+            × RestOutside behind back.now }
         ensures { (parts_so_far back.exit.now ≡ parts_by shared.entry.now.rule (stations_of back.entry.now))
             × RestOutside behind back.exit.now }
     { do_shares(rt, shared, next, behind, back) };
