@@ -28,7 +28,7 @@ impl Awake {
         self.nodes.trailing_zeros() as usize
     }
 
-    /// The next node behind one, or a number that no node has. What is not behind it is taken out.
+    /// The next node behind the first one, which is taken out, or a number that no node has.
     #[inline(always)]
     pub fn after(&mut self, node: usize) -> usize
         requires node { node < most_nodes }
