@@ -2,10 +2,11 @@
 -- behind it too.
 use Rattle.std.proofs.Common.{◌≡◌, ◌≢◌, ℕ, zero, suc, ◌+◌, ◌<◌, ◌≤◌, refl, sym, ap, ◌∙◌, subst, List, [], ◌∷◌, ◌++◌}
 use Rattle.std.proofs.Common.{length, get_or, set, map, take, drop, true, false, Bool, ◌⊎◌, inl, inr, arith, length-set}
+use Rattle.std.proofs.Common.{length-drop}
 use Rattle.std.specs.Int.{bit_at}
-use Rattle.tword.specs.Limits.{most_nodes}
 use Rattle.std.specs.List.{flat_map, list_all}
 use Rattle.std.proofs.lemmas.Bool.{cases_eq, cases_lt}
+use Rattle.std.proofs.lemmas.List.{length-take, get_or-take, get_or-drop}
 use Rattle.std.proofs.lemmas.List.{take_all, get_or_default, nil_from_length, length-map, drop-drop, append-nil}
 use Rattle.std.proofs.lemmas.List.{get_or-set_same, get_or-set_other, set-get_or}
 use Rattle.trounds.specs.declared.awake.Awake.{Awake}
@@ -122,15 +123,28 @@ rest_put others awake awake' vs k v here same rest =
         ap (λ (r : RoundNode). r.rests) (get_or-set_other vs k n v d ne)
         ∙ rest.rest n d (omega (arith, lt, length-set vs k v)) clear (sym (same n ne) ∙ none)
 
--- outside all nodes there is none, and outside more sets there are fewer
-pub rest_outside_all : (awake : Awake) (vs : List RoundNode) → length vs ≤ most_nodes
-    → ((n : ℕ) → n < most_nodes → bit_at awake.nodes n ≡ 1) → RestOutside awake vs
-rest_outside_all awake vs few all =
-    record { rest = λ n d lt clear. absurd (omega (arith, sym clear ∙ all n (omega arith))) }
-
+-- outside more sets there are fewer nodes
 pub rest_outside_more : (awake more : Awake) (vs : List RoundNode) → RestOutside awake vs
     → RestOutsideBoth awake more vs
 rest_outside_more awake more vs rest = record { rest = λ n d lt clear none. rest.rest n d lt clear }
+
+-- the nodes that rest among the first ones of a list, and among those behind them
+pub rest_front : (awake : Awake) (share front : List RoundNode) (k : ℕ) → front ≡ take k share
+    → RestOutside awake share → RestOutside awake front
+rest_front awake share front k is rest = subst (RestOutside awake) (sym is) (record {
+  rest = λ n d lt clear.
+      let within : n < k = omega (arith, lt, length-take k share) in
+      ap (λ (r : RoundNode). r.rests) (get_or-take k share n d within)
+      ∙ rest.rest n d (omega (arith, lt, length-take k share)) clear;
+})
+
+pub rest_back : (awake behind : Awake) (k : ℕ) → ((n : ℕ) → bit_at behind.nodes n ≡ bit_at awake.nodes (k + n))
+    → (share back : List RoundNode) → back ≡ drop k share → RestOutside awake share → RestOutside behind back
+rest_back awake behind k same share back is rest = subst (RestOutside behind) (sym is) (record {
+  rest = λ n d lt clear.
+      ap (λ (r : RoundNode). r.rests) (get_or-drop k share n d)
+      ∙ rest.rest (k + n) d (omega (arith, lt, length-drop k share)) (sym (same n) ∙ clear);
+})
 
 -- nodes that rested have told nothing
 pub silent_outside : (awake : Awake) (vs ws : List RoundNode) → RestOutside awake vs → length ws ≡ length vs
@@ -192,10 +206,6 @@ rest_more kept kept' vs k v here others rest i d lt within clear = by (cases_eq 
     by (inr ne) =
         ap (λ (r : RoundNode). r.rests) (get_or-set_other vs k i v d ne)
         ∙ rest i d (omega arith) (omega (arith, within, length-set vs k v)) (sym (others i ne) ∙ clear)
-
-pub rest_all : (k : ℕ) (kept : Awake) (vs : List RoundNode) → length vs ≤ k → RestBefore k kept vs
-    → RestOutside kept vs
-rest_all k kept vs end rest = record { rest = λ n d lt clear. rest n d (omega arith) lt clear }
 
 module _ (awake : Awake) (vs : List RoundNode) (rest : RestOutside awake vs) (k j : ℕ) (le : k ≤ j)
     (none : NoneFrom k j awake) where

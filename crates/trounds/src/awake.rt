@@ -1,6 +1,6 @@
 //! Which nodes of a net may have something to do.
 
-ghost use Rattle.std.specs.Prelude.{◌≡◌, ◌≢◌, ◌<◌, ℕ, true, false};
+ghost use Rattle.std.specs.Prelude.{◌≡◌, ◌≢◌, ◌+◌, ◌<◌, ℕ, true, false};
 ghost use Rattle.std.specs.Int.{bit_at};
 ghost use Rattle.tword.specs.Limits.{most_nodes};
 ghost use Rattle.trounds.specs.AwakeNodes.{IsLeft};
@@ -20,14 +20,6 @@ impl Awake {
         Awake { nodes: 0 }
     }
 
-    /// All nodes that a net can have.
-    #[inline(always)]
-    pub fn all() -> Self
-        ensures { (n : ℕ) → n < most_nodes → bit_at result.nodes n ≡ 1 }
-    {
-        Awake { nodes: u64::MAX }
-    }
-
     /// The first node, or a number that no node has.
     #[inline(always)]
     pub fn first(self) -> usize
@@ -36,7 +28,7 @@ impl Awake {
         self.nodes.trailing_zeros() as usize
     }
 
-    /// The next node behind one, or a number that no node has. What is not behind it is taken out.
+    /// The next node behind the first one, which is taken out, or a number that no node has.
     #[inline(always)]
     pub fn after(&mut self, node: usize) -> usize
         requires node { node < most_nodes }
@@ -48,6 +40,17 @@ impl Awake {
         let left = self.nodes & !(1u64 << node);
         self.nodes = left;
         left.trailing_zeros() as usize
+    }
+
+    /// The nodes behind the first ones, which are so many, counted from 0 again.
+    #[inline(always)]
+    pub fn behind(self, count: usize) -> Self
+        requires { count < most_nodes }
+        ensures { (n : ℕ) → bit_at result.nodes n ≡ bit_at self.nodes (count + n) }
+    {
+        Awake {
+            nodes: self.nodes >> count,
+        }
     }
 
     /// A node is put in, unless it rests.
