@@ -1,12 +1,12 @@
 -- Instructions by code, after which their process goes on.
-use Rattle.std.proofs.Common.{◌≡◌, ℕ, ◌<◌, ◌^◌, refl, ap, Option, Some, None, Result, Ok, Bool, true, false}
-use Rattle.std.proofs.Common.{pos, subst, ◌||◌}
+use Rattle.std.proofs.Common.{◌≡◌, ℕ, ◌<◌, ◌^◌, refl, ap, Option, Some, None, Result, Bool, true, false}
+use Rattle.std.proofs.Common.{pos, ◌||◌}
 use Rattle.std.specs.Prelude.{is_some}
 use Rattle.tword.specs.declared.breaks.Break.{Break}
 use Rattle.tword.specs.declared.kind.Kind.{Kind}
 use Rattle.tword.specs.Stores.{Store}
 use Rattle.tword.specs.Claims.{Claims}
-use Rattle.tword.specs.Actions.{Action, answer, run}
+use Rattle.tword.specs.Actions.{run}
 use Rattle.tcode.specs.declared.instruction.Function.{Function}
 use Rattle.tcode.specs.declared.instruction.Function.TheVariants.{J, Ldlp, Ldnl, Ldc, Ldnlp, Ldl, Adc, Call, Cj, Ajw}
 use Rattle.tcode.specs.declared.instruction.Function.TheVariants.{Eqc, Stl, Stnl, Opr}
@@ -17,15 +17,10 @@ use Rattle.tcode.specs.Chains.{is_listed}
 use Rattle.tcode.specs.Codes.{Decodes}
 use Rattle.tcode.proofs.ChainWords.{reduced-word}
 use Rattle.tcpu.specs.declared.registers.Registers.{Registers}
-use Rattle.tcpu.specs.declared.registers.Next.{Next}
-use Rattle.tcpu.specs.declared.registers.Next.TheVariants.{Go, Jumped, Schedule, Halt}
-use Rattle.tcpu.specs.Outcomes.{Outcome, with_error}
+use Rattle.tcpu.specs.Outcomes.{with_error}
 use Rattle.tcpu.specs.Effects.{effect, effect_at, selected_effect}
-use Rattle.tcpu.specs.Local.{outcome_of}
 use Rattle.tcpu.specs.Stretches.{gone, gone_by}
 use Rattle.tcpu.specs.Rows.{CodeGone}
-use Rattle.tcpu.proofs.Quiet.{IsQuiet}
-use Rattle.tcpu.proofs.Stretches.{IsGoing}
 
 -- Error stays where it is not set
 pub unflagged : (r : Registers) → with_error false r ≡ r
@@ -34,22 +29,6 @@ unflagged r = ap (λ (b : Bool). record r { error = b }) (by r.error)
     by : (b : Bool) → (b || false) ≡ b
     by true = refl
     by false = refl
-
--- what only answers, and lets the process go on
-pub answered : (x : Action Outcome) (r : Registers) (next : Next) (s : Store) (c : Claims) → IsQuiet IsGoing x
-    → x ≡ answer (r, next) → gone (run x s c) ≡ Some (r, s)
-answered x r next s c q e = by next (subst (IsQuiet IsGoing) e q) e
-  where
-    by : (next : Next) → IsGoing (r, next) → x ≡ answer (r, next) → gone (run x s c) ≡ Some (r, s)
-    by Go g f = rw f refl
-    by Jumped g f = rw f refl
-    by (Schedule o) g f = absurd g
-    by Halt g f = absurd g
-
--- what was done, and lets the process go on
-pub gone_so : (x : Action Outcome) (r : Registers) (s s' : Store) (c : Claims) → run x s c ≡ outcome_of (Ok Go) r s'
-    → gone (run x s c) ≡ Some (r, s')
-gone_so x r s s' c e = rw e refl
 
 -- what selects no operation breaks a rule
 selected : (o : Option Operation) (before r r' : Registers) (s s' : Store) (c : Claims)

@@ -1,38 +1,10 @@
 -- Instructions after which their process goes on.
-use Rattle.std.proofs.Common.{◌≡◌, ◌+◌, ◌-◌, ◌<◌, ◌≤◌, ℕ, zero, suc, arith, refl, sym, ap, ◌∙◌, Option, Some, Result, Ok, Err}
-use Rattle.std.proofs.Common.{Bool, true, false}
-use Rattle.tword.specs.declared.breaks.Break.{Break}
+use Rattle.std.proofs.Common.{◌≡◌, ◌+◌, ◌-◌, ◌<◌, ◌≤◌, ℕ, zero, suc, arith, sym, ap, ◌∙◌, Option, Some}
 use Rattle.tword.specs.Stores.{Store}
 use Rattle.tword.specs.Claims.{Claims}
 use Rattle.tcpu.specs.declared.registers.Registers.{Registers}
-use Rattle.tcpu.specs.declared.registers.Next.{Next}
-use Rattle.tcpu.specs.declared.registers.Next.TheVariants.{Go, Jumped, Schedule, Halt}
-use Rattle.tcpu.specs.Outcomes.{Outcome}
-use Rattle.tcpu.specs.Operations.{looped}
 use Rattle.tword.specs.declared.kind.Kind.{Kind}
-use Rattle.tcpu.specs.Local.{outcome_of}
-use Rattle.tcpu.specs.Stretches.{goes, gone, gone_on, gone_one}
-use Rattle.tcpu.proofs.Quiet.{IsQuiet}
-
--- what an instruction came to tells whether the process goes on
-pub went : (x : Result (Outcome × Store) Break) (r : Registers) (step : Result Next Break) (s : Store) (b : Bool)
-    → x ≡ outcome_of step r s → b ≡ goes step → b ≡ true → gone x ≡ Some (r, s)
-went x r (Ok Go) s b e f t = rw e refl
-went x r (Ok Jumped) s b e f t = rw e refl
-went x r (Ok (Schedule o)) s b e f t = cc
-went x r (Ok Halt) s b e f t = cc
-went x r (Err k) s b e f t = cc
-
--- the process goes on
-abbrev pub IsGoing : Outcome → Type 0
-IsGoing (r, Go) = Unit {0}
-IsGoing (r, Jumped) = Unit {0}
-IsGoing (r, _) = ⊥
-
--- a loop goes round or ends
-pub loop_goes : (left index : ℕ) (t : Bool) (r : Registers) → IsQuiet IsGoing (looped left index t r)
-loop_goes left index true r = tt
-loop_goes left index false r = tt
+use Rattle.tcpu.specs.Stretches.{gone_on, gone_one}
 
 -- one more behind those that were done
 pub gone_next : (k : ℕ) (kind kind' : Kind) (claims : Claims) (r mid : Registers) (s at : Store)

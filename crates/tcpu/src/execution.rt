@@ -350,7 +350,7 @@ fn plain_chain(
 /// Does the function of a code, Iptr being behind it, if it is one of the most common ones and its process goes on
 /// behind it: whether it was done. Else nothing is changed.
 #[inline(always)]
-#[tactic(auto, unfolding(tcode::specs::Table::function_at, crate::specs::Functions::function_effect), using(crate::proofs::Rows::answered, crate::proofs::Rows::gone_so))]
+#[tactic(auto, unfolding(tcode::specs::Table::function_at, crate::specs::Functions::function_effect))]
 fn plain(
     kind: &Kind,
     registers: &mut Registers,
@@ -387,7 +387,7 @@ fn plain(
 
 /// Does a local operation, as `plain` does a function.
 #[inline(always)]
-#[tactic(auto, unfolding(tcode::specs::Table::operation_at, crate::specs::Operations::operation_effect), using(crate::proofs::Rows::answered, crate::proofs::Rows::gone_so, crate::proofs::Stretches::loop_goes))]
+#[tactic(auto, unfolding(tcode::specs::Table::operation_at, crate::specs::Operations::operation_effect))]
 fn plain_operation(
     kind: &Kind,
     registers: &mut Registers,
