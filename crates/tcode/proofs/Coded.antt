@@ -1,5 +1,5 @@
 -- Chains of one byte and of two, by code, operand and length.
-use Rattle.std.proofs.Common.{◌≡◌, ℕ, ◌+◌, ◌/◌, ◌%◌, ◌^◌, ◌<◌, refl, ap, ◌∙◌, true, pos, negsuc, arith, ℤ, length}
+use Rattle.std.proofs.Common.{◌≡◌, ℕ, ◌+◌, ◌/◌, ◌%◌, ◌^◌, ◌<◌, refl, ap, sym, zero, suc, ◌∙◌, true, pos, negsuc, arith, ℤ, length}
 use Rattle.std.proofs.Common.{◌-ℤ◌, ◌*ℤ◌}
 use Rattle.std.proofs.Common.{Option, Some, None, Result, Ok}
 use Rattle.std.specs.Prelude.{if◌then◌else◌, ◌==◌}
@@ -17,6 +17,8 @@ use Rattle.tcode.specs.Table.{function_at, function_entry}
 use Rattle.tcode.specs.Chains.{Last, is_listed, pfix}
 use Rattle.tcode.specs.Decoding.{complete, decode, IsFetched}
 use Rattle.tcode.specs.Codes.{Decodes}
+use Rattle.tcode.specs.declared.code_table.CodeEntry.{CodeEntry}
+use Rattle.tcode.specs.Known.{IsFetchedWhole, TellsItsBytes, TellsItsChain, prefix_word}
 use Rattle.tcode.proofs.ChainWords.{reduced-word}
 use Rattle.tcode.proofs.RoundTrip.{function_at-entry}
 use Rattle.tcode.proofs.StoreSteps.{fetched-ends, prefix-goes}
@@ -73,3 +75,31 @@ decoded_so kind decoded i a code behind e is ends =
 pub fetched_so : (s store : Store) (claims : Claims) (a b : ℕ) → s ≡ store
     → span_break (length s) claims Reads (byte_span a) ≡ None → byte_at s a ≡ Some b → IsFetched store claims a b
 fetched_so s store claims a b same free is = rw (← same, free, is) refl
+
+reduced_below : (z : ℤ) → reduced z < 2 ^ 32
+reduced_below (pos n) = omega arith
+reduced_below (negsuc n) = omega arith
+
+-- an entry tells what is decoded where its bytes are fetched
+pub known_so : (kind : Kind) (store : Store) (claims : Claims) (e : CodeEntry) → TellsItsBytes e
+    → IsFetchedWhole store claims e
+    → Decodes kind e.address (function_at e.code) e.operand e.behind (value_of (run (decode kind e.address) store claims))
+known_so kind store claims e tells fetched = by e.length refl
+  where
+    Goal : Type 0
+    Goal =
+        Decodes kind e.address (function_at e.code) e.operand e.behind
+        (value_of (run (decode kind e.address) store claims))
+
+    by : (n : ℕ) → e.length ≡ n → Goal
+    by zero is = rw (tells.none is) tt
+    by (suc zero) is =
+        one_byte kind store claims e.address e.first e.operand e.behind (function_at e.code) (fetched.first (omega is))
+        (ap function_at (sym (tells.one is).0)) (tells.one is).1 (tells.behind ∙ ap (plus e.address) is)
+    by (suc (suc zero)) is =
+        let two : TellsItsChain e = tells.two is in
+        two_bytes kind store claims e.address e.first (e.first % 16) (prefix_word e.first) (plus e.address 1) e.second
+        e.operand e.behind (function_at e.code) (fetched.first (omega is)) two.prefix refl (reduced_below _) refl refl
+        (fetched.second (omega is)) (ap function_at (sym two.code)) two.operand
+        (tells.behind ∙ ap (plus e.address) is)
+    by (suc (suc (suc n))) is = absurd (omega (arith, is, tells.length))

@@ -7,10 +7,12 @@ ghost use Rattle.tcode.specs.Decoding.{IsFetched, fetch};
 ghost use Rattle.tcode.specs.Decoding as spec;
 ghost use Rattle.tcode.specs.Table.{function_at};
 ghost use Rattle.tcode.specs.Codes.{Decodes};
+ghost use Rattle.tcode.specs.Known.{IsFetchedWhole, TellsItsBytes};
 ghost use Rattle.tword.specs.Actions.{run, run_from, value_of};
 ghost use Rattle.tword.specs.Open.{AreOpenCounts};
 ghost use Rattle.tword.specs.Words.{reduced};
 
+use crate::code_table::CodeEntry;
 use crate::codes::{NFIX, PFIX, code_of, function_of, operation_of};
 use crate::instruction::{DecodeFault, Function, Instruction};
 use tword::{Break, Kind, Marks, Memory, Word};
@@ -124,55 +126,56 @@ fn decode_chain(
     Err(Break::LongPrefix)
 }
 
-/// The code of the function and the operand of the instruction at an address, and the address behind it, for those who
-/// do many instructions in a row: as `decode` finds them, but whether the operation is listed for the kind is left open.
-/// Only chains of one byte or two are found, where the counts of open words show at once that these may be fetched.
-#[inline(always)]
-pub fn chain_at(
+/// The instruction at an address with its bytes, as it is kept: one of one byte or two, where the counts of open words
+/// show at once that these may be fetched. Whether its operation is listed for the kind is left open.
+pub(crate) fn short_code_at(
     memory: &Memory,
     marks: &Marks,
     counts: &[u16],
     iptr: Word,
-) -> Option<(u8, Word, Word)>
+) -> Option<CodeEntry>
     requires { AreOpenCounts counts.now (length memory.now.bytes) marks.now }
-    ensures { IfSome result (λ chain. Decodes memory.now.kind iptr (function_at chain.0) chain.1 chain.2
-        (value_of (run (spec.decode memory.now.kind iptr) memory.now.bytes marks.now))) }
+    ensures at { IfSome result (λ entry. entry.address ≡ iptr) }
+    ensures tells { IfSome result (λ entry. TellsItsBytes entry) }
+    ensures fetched { IfSome result (λ entry. IsFetchedWhole memory.now.bytes marks.now entry) }
+    ensures some { IfSome result (λ entry. 0 < entry.length) }
 {
-    let byte = memory.bytes.open_byte(marks, counts, iptr)?;
-    // One way out, so that a switch over the codes is not copied for each.
-    let chain = if is_prefix(byte / 16) {
-        prefixed_chain_at(memory, marks, counts, iptr, byte)?
-    } else {
-        let operand = Word::new(u32::from(byte % 16));
-        (byte / 16, operand, iptr.plus(Word::new(1)))
-    };
-    Some(chain)
+    let first = memory.bytes.open_byte(marks, counts, iptr)?;
+    if is_prefix(first / 16) {
+        let second = memory.bytes.open_byte(marks, counts, iptr.plus(Word::new(1)))?;
+        return prefixed_code(iptr, first, second);
+    }
+    Some(CodeEntry {
+        address: iptr,
+        operand: Word::new(u32::from(first % 16)),
+        behind: iptr.plus(Word::new(1)),
+        code: first / 16,
+        length: 1,
+        first,
+        second: 0,
+    })
 }
 
-/// The code of the function and the operand of the instruction at an address where a prefix was fetched, and the
-/// address behind it, as `chain_at` finds them.
-#[inline(always)]
-fn prefixed_chain_at(
-    memory: &Memory,
-    marks: &Marks,
-    counts: &[u16],
-    iptr: Word,
-    prefix: u8,
-) -> Option<(u8, Word, Word)>
-    requires counts { AreOpenCounts counts.now (length memory.now.bytes) marks.now }
-    requires fetched { IsFetched memory.now.bytes marks.now iptr prefix }
-    requires prefix { function_at (prefix / 16) ≡ None }
-    ensures { IfSome result (λ chain. Decodes memory.now.kind iptr (function_at chain.0) chain.1 chain.2
-        (value_of (run (spec.decode memory.now.kind iptr) memory.now.bytes marks.now))) }
+/// An instruction of a prefix and one byte more, as it is kept, unless that is a prefix too.
+fn prefixed_code(address: Word, first: u8, second: u8) -> Option<CodeEntry>
+    requires { function_at (first / 16) ≡ None }
+    ensures at { IfSome result (λ entry. entry.address ≡ address) }
+    ensures tells { IfSome result (λ entry. TellsItsBytes entry) }
+    ensures bytes { IfSome result (λ entry. (entry.length ≡ 2) × (entry.first ≡ first) × (entry.second ≡ second)) }
 {
-    let value = prefixed(prefix / 16, u32::from(prefix % 16));
-    let second = iptr.plus(Word::new(1));
-    let last = memory.bytes.open_byte(marks, counts, second)?;
-    if is_prefix(last / 16) {
+    if is_prefix(second / 16) {
         return None;
     }
-    let operand = Word::new(value.wrapping_add(u32::from(last % 16)));
-    Some((last / 16, operand, iptr.plus(Word::new(2))))
+    let value = prefixed(first / 16, u32::from(first % 16));
+    Some(CodeEntry {
+        address,
+        operand: Word::new(value.wrapping_add(u32::from(second % 16))),
+        behind: address.plus(Word::new(2)),
+        code: second / 16,
+        length: 2,
+        first,
+        second,
+    })
 }
 
 /// Whether four bits are the code of a prefix.
@@ -184,9 +187,9 @@ fn is_prefix(code: u8) -> bool
     code == PFIX || code == NFIX
 }
 
-/// The code of the function and the operand of the instruction at an address, and the address behind it, as `chain_at`
-/// finds them, of any chain.
-pub fn any_chain_at(memory: &Memory, marks: &Marks, iptr: Word) -> Option<(u8, Word, Word)>
+/// The code of the function and the operand of the instruction at an address, and the address behind it: as `decode`
+/// finds them.
+pub(crate) fn any_chain_at(memory: &Memory, marks: &Marks, iptr: Word) -> Option<(u8, Word, Word)>
     ensures { IfSome result (λ chain. Decodes memory.now.kind iptr (function_at chain.0) chain.1 chain.2
         (value_of (run (spec.decode memory.now.kind iptr) memory.now.bytes marks.now))) }
 {
