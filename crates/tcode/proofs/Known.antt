@@ -14,7 +14,8 @@ use Rattle.tword.proofs.Hiding.{overlap-parts}
 use Rattle.tword.proofs.Outside.{outside_byte, outside_word}
 use Rattle.tword.proofs.Passing.{span_break-none, word_break-aligned, word_break-passes}
 use Rattle.tcode.specs.declared.code_table.CodeEntry.{CodeEntry}
-use Rattle.tcode.specs.Known.{AreCoded, AreFetched, IsFetchedWhole, IsMarked, OfEachByte, StandsWhereMarked, word_place}
+use Rattle.tcode.specs.Known.{AreCoded, AreFetched, IsFetchedWhole, IsMarked, Knows, OfEachByte, StandsWhereMarked}
+use Rattle.tcode.specs.Known.{word_place}
 
 -- the word of this address is not marked
 abbrev pub IsUnmarked : List ℕ → ℕ → Type 0
@@ -100,3 +101,9 @@ fetched_on entries words s t c coded fetched size stands = λ k e is.
       first = λ l. fetched_as c _ _ _ _ _ _ size (stands _ (marked.first l)) (whole.first l);
       second = λ l. fetched_as c _ _ _ _ _ _ size (stands _ (marked.second l)) (whole.second l);
     }
+
+-- and is known as it was
+pub knows_on : (entries : List CodeEntry) (words : List ℕ) (s t : Store) (c : Claims) → Knows entries words s c
+    → length t ≡ length s → StandsWhereMarked words s t → Knows entries words t c
+knows_on entries words s t c k size stands =
+    record { coded = k.coded; fetched = fetched_on entries words s t c k.coded k.fetched size stands }
