@@ -1,6 +1,6 @@
 -- Decoded code that is kept beside a memory, where writes leave each marked word as it is.
-use Rattle.std.proofs.Common.{◌≡◌, ℕ, ◌+◌, ◌/◌, ◌%◌, ◌<◌, ◌≤◌, refl, ap, ◌∙◌, [], ◌∷◌, List, Option, Bool, true, false, not, length}
-use Rattle.std.proofs.Common.{Ok, None, unwrap_or, arith}
+use Rattle.std.proofs.Common.{◌≡◌, ℕ, ◌+◌, ◌%◌, ◌<◌, ◌≤◌, refl, ap, ◌∙◌, [], ◌∷◌, List, Option, Bool, true, false, not}
+use Rattle.std.proofs.Common.{length, Ok, None, unwrap_or, arith}
 use Rattle.std.specs.Prelude.{◌==◌, slice_index}
 use Rattle.std.proofs.lemmas.Bool.{eqb-true}
 use Rattle.tword.specs.Words.{mem_start, minus}

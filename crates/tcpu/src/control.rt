@@ -1,7 +1,8 @@
 //! Jumps, calls, loops and the workspace pointer.
 #![tactic(auto, unfolding(crate::specs::Functions::function_effect, crate::specs::Operations::operation_effect))]
 
-ghost use Rattle.std.specs.Prelude.{ℕ, ◌≡◌, List, Some, None, IfSome, Ok, OnOk, OnErr, false, length, slice_index, true};
+ghost use Rattle.std.specs.Prelude.{ℕ, ◌≡◌, List, Some, None, IfSome, Ok, OnOk, OnErr, false, length, true};
+ghost use Rattle.std.specs.Prelude.{slice_index};
 ghost use Rattle.tword.specs.Open.{AreOpenCounts};
 ghost use Rattle.tword.specs.Actions.{answer, or_break, run};
 ghost use Rattle.tword.specs.Stores.{word_at, with_word};
@@ -102,7 +103,8 @@ impl Registers {
         Ok(Next::Go)
     }
 
-    /// `call`, where the counts show at once that its four writes pass, and it writes no marked word: whether it was done.
+    /// `call`, where the counts show at once that its four writes pass, and none is of a marked word: whether it was
+    /// done.
     #[inline(always)]
     pub(crate) fn open_call(
         &mut self,
@@ -220,8 +222,8 @@ impl Registers {
         self.wptr = self.wptr.plus(Word::new(16));
     }
 
-    /// `lend`, where the counts show at once that its writes pass, and it writes no marked word: what follows, if it was
-    /// done.
+    /// `lend`, where the counts show at once that its writes pass, and none is of a marked word: what follows, if it
+    /// was done.
     #[inline(always)]
     pub(crate) fn open_loop_end(
         &mut self,

@@ -210,8 +210,8 @@ fn operate(
 }
 
 /// Does instructions in a row, at most so many, as long as each is one of the most common ones and its process goes on
-/// behind it: how many were done. The next one is left as it is, whatever it would do. Those that are done are looked up
-/// in a table of decoded code, and learned where they are not there; none of them writes a word with kept code.
+/// behind it: how many were done. The next one is left as it is, whatever it would do. Instructions are looked up in a
+/// table of decoded code, and learned where they are not there; one that writes a word with kept code is not done.
 // The registers are worked on in a place of their own, so that they need not lie in memory.
 #[inline(never)]
 pub fn local_row(

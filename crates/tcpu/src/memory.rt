@@ -118,8 +118,8 @@ impl Registers {
         true
     }
 
-    /// `stl`, where the counts show at once that its write passes, and it writes no marked word: whether it
-    /// was done.
+    /// `stl`, where the counts show at once that its write passes, and it is of no marked word: whether it was
+    /// done.
     #[inline(always)]
     pub(crate) fn store_open_local(
         &mut self,
@@ -144,8 +144,8 @@ impl Registers {
         true
     }
 
-    /// `stnl`, where the counts show at once that its write passes, and it writes no marked word: whether it
-    /// was done.
+    /// `stnl`, where the counts show at once that its write passes, and it is of no marked word: whether it was
+    /// done.
     #[inline(always)]
     pub(crate) fn store_open_non_local(
         &mut self,
@@ -186,8 +186,8 @@ impl Registers {
         true
     }
 
-    /// `sb`, where the counts show at once that its write passes, and it writes no marked word: whether it
-    /// was done.
+    /// `sb`, where the counts show at once that its write passes, and it is of no marked word: whether it was
+    /// done.
     #[inline(always)]
     pub(crate) fn store_open_byte(
         &mut self,
