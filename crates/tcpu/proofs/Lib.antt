@@ -10,3 +10,5 @@ pub mod Marked
 pub mod Stretches
 -- so by the codes of their functions
 pub mod Rows
+-- local effects write within the bytes that they may write
+pub mod Writing

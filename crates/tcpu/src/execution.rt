@@ -11,7 +11,9 @@ ghost use Rattle.tcpu.specs.Operations.{operation_effect};
 ghost use Rattle.tcpu.specs.Stretches as spec;
 ghost use Rattle.tcpu.specs.Stretches.{gone_on, gone_one};
 ghost use Rattle.tcpu.specs.Rows.{CodeGone, SelectedGone};
+ghost use Rattle.tcpu.specs.Written.{written};
 ghost use Rattle.tword.specs.Open.{AreOpenCounts};
+ghost use Rattle.tword.specs.Outside.{StandsOutside};
 ghost use Rattle.tcode.specs.Table.{function_at, operation_at};
 
 use crate::registers::{Next, Registers, Step};
@@ -37,6 +39,8 @@ pub fn local(
     ensures kept { OnErr result ((memory.new ≡ memory.old) × (registers.new ≡ registers.old)) }
     ensures left { IfOk result
         (λ next. StandsWhereLeft next memory.old.bytes registers.old memory.new.bytes registers.new) }
+    ensures written { StandsOutside (written memory.old.kind instruction.function instruction.operand registers.old)
+        memory.old.bytes memory.new.bytes }
     ensures sized { length memory.new.bytes ≡ length memory.old.bytes }
     ensures kind { memory.new.kind ≡ memory.old.kind }
 {
@@ -66,12 +70,14 @@ fn act_or_stay(
         ≡ outcome_of result registers.new memory.new }
     ensures kept { OnErr result ((memory.new ≡ memory.old) × (registers.new ≡ registers.old)) }
     ensures left { IfOk result (λ next. StandsWhereLeft next memory.old registers.old memory.new registers.new) }
+    ensures written { StandsOutside (written kind.now instruction.function instruction.operand registers.old)
+        memory.old memory.new }
     ensures sized { length memory.new ≡ length memory.old }
 {
     let start = registers.iptr;
     let function = instruction.function;
     let operand = instruction.operand;
-    registers.iptr = start.plus(Word::new(u32::from(instruction.length)));
+    registers.iptr = registers.behind(instruction.length);
     match act(kind, registers, memory, marks, start, function, operand) {
         Ok(next) => Ok(next),
         Err(broken) => {
