@@ -3,12 +3,11 @@ use Rattle.std.proofs.Common.{◌≡◌, ℕ, ◌+◌, ◌%◌, ◌<◌, ◌≤�
 use Rattle.std.proofs.Common.{length, Ok, None, unwrap_or, arith}
 use Rattle.std.specs.Prelude.{◌==◌, slice_index}
 use Rattle.std.proofs.lemmas.Bool.{eqb-true}
-use Rattle.tword.specs.Words.{mem_start, minus}
 use Rattle.tword.specs.Stores.{Store, as_cells, byte_at, with_cells, with_word}
 use Rattle.tword.specs.declared.span.Span.{Span}
 use Rattle.tword.specs.Claims.{Claims, overlap}
 use Rattle.tword.specs.Actions.{or_break}
-use Rattle.tword.specs.Touches.{Reads, Writes, byte_span, is_aligned, is_inside, span_break, word_break, word_span}
+use Rattle.tword.specs.Touches.{Reads, Writes, byte_span, is_inside, span_break, word_break, word_span}
 use Rattle.tword.specs.Outside.{StandsOutside}
 use Rattle.tword.proofs.Hiding.{overlap-parts}
 use Rattle.tword.proofs.Outside.{outside_byte, outside_word}
