@@ -98,6 +98,7 @@ fn go_on(state: &mut State, claimed: &mut ClaimedMemory, most: u32) -> u32
         &mut state.registers,
         &mut claimed.memory,
         &claimed.marks,
+        &mut claimed.codes,
         most,
     )
 }
