@@ -94,12 +94,12 @@ known_so kind store claims e tells fetched = by e.length refl
     by : (n : ℕ) → e.length ≡ n → Goal
     by zero is = rw (tells.none is) tt
     by (suc zero) is =
-        one_byte kind store claims e.address e.first e.operand e.behind (function_at e.code) (fetched.first (omega is))
+        one_byte kind store claims e.address e.first e.operand e.behind (function_at e.code) (fetched.first (omega (arith, is)))
         (ap function_at (sym (tells.one is).0)) (tells.one is).1 (tells.behind ∙ ap (plus e.address) is)
     by (suc (suc zero)) is =
         let two : TellsItsChain e = tells.two is in
         two_bytes kind store claims e.address e.first (e.first % 16) (prefix_word e.first) (plus e.address 1) e.second
-        e.operand e.behind (function_at e.code) (fetched.first (omega is)) two.prefix refl (reduced_below _) refl refl
-        (fetched.second (omega is)) (ap function_at (sym two.code)) two.operand
+        e.operand e.behind (function_at e.code) (fetched.first (omega (arith, is))) two.prefix refl (reduced_below _) refl refl
+        (fetched.second (omega (arith, is))) (ap function_at (sym two.code)) two.operand
         (tells.behind ∙ ap (plus e.address) is)
     by (suc (suc (suc n))) is = absurd (omega (arith, is, tells.length))

@@ -4,7 +4,7 @@ use Rattle.std.specs.Prelude.{ℕ, ◌≡◌, ◌≢◌, ◌<◌, ◌≤◌, ◌
 use Rattle.std.specs.Prelude.{pos, negsuc, ◌-ℤ◌, ◌*ℤ◌, if◌then◌else◌, ◌==◌}
 use Rattle.tword.specs.declared.span.Span.{Span}
 use Rattle.tword.specs.Words.{mem_start, minus, plus, reduced}
-use Rattle.tword.specs.Stores.{Store}
+use Rattle.tword.specs.Stores.{Store, byte_at}
 use Rattle.tword.specs.Claims.{Claims, overlap}
 use Rattle.tword.specs.Touches.{byte_span}
 use Rattle.tcode.specs.Chains.{pfix}
@@ -77,3 +77,7 @@ pub record Knows (entries : List CodeEntry) (words : List ℕ) (store : Store) (
 abbrev pub AreForgotten : Span → (old new : List CodeEntry) → Type 0
 AreForgotten span old new = (k : ℕ) (e : CodeEntry) → slice_get new k ≡ Some e → 0 < e.length
     → (slice_get old k ≡ Some e) × OfEachByte (λ a. overlap (byte_span a) span ≡ false) e
+
+-- each byte of a marked word is as it was
+abbrev pub StandsWhereMarked : List ℕ → Store → Store → Type 0
+StandsWhereMarked words s s' = (a : ℕ) → IsMarked words a → byte_at s' a ≡ byte_at s a

@@ -1,6 +1,6 @@
 //! Decoded code that is kept beside a memory.
 
-ghost use Rattle.std.specs.Prelude.{ℕ, ◌≡◌, ◌≢◌, ◌<◌, ◌≤◌, ◌*◌, IfOk, IfSome, Some, false, not, true};
+ghost use Rattle.std.specs.Prelude.{ℕ, ◌≡◌, ◌≢◌, ◌<◌, ◌≤◌, ◌/◌, IfOk, IfSome, Some, false, not, true};
 ghost use Rattle.std.specs.Prelude.{slice_get, slice_index, ◌==◌};
 ghost use Rattle.tcode.specs.Codes.{Decodes};
 ghost use Rattle.tcode.specs.Decoding as spec;
@@ -45,6 +45,7 @@ pub struct CodeEntry {
 
 impl CodeEntry {
     /// No instruction.
+    #[tactic(auto, unfolding(crate::specs::Table::function_at))]
     fn none() -> CodeEntry
         ensures none { result.length ≡ 0 }
         ensures tells { TellsItsBytes result }
@@ -199,7 +200,7 @@ impl CodeTable {
         let start = u64::from(start.get());
         let end = start + u64::from(size);
         let first = u64::max(start, u64::from(self.low)) / 4;
-        let behind = u64::min(end, u64::from(self.last) + 1).div_ceil(4);
+        let behind = (u64::min(end, u64::from(self.last) + 1) + 3) / 4;
         for word in first..behind {
             self.forget_word(word as u32);
         }
@@ -208,20 +209,23 @@ impl CodeTable {
     /// Forgets each instruction that has a byte of a word.
     fn forget_word(&mut self, word: u32)
         requires { word < 1073741824 }
-        ensures forgets { AreForgotten (record { start = 4 * word; size = 4 }) self.old.entries.items self.new.entries.items }
+        ensures forgets { (k : ℕ) (e : CodeEntry) → slice_get self.new.entries.items k ≡ Some e → 0 < e.length
+            → (slice_get self.old.entries.items k ≡ Some e) × known.OfEachByte (λ a. a / 4 ≢ word) e }
         ensures low { self.new.low ≡ self.old.low }
         ensures last { self.new.last ≡ self.old.last }
     {
         let address = Word::new(word * 4);
-        let place = word_place(address);
-        if place >= self.words.len() || self.words[place] == 0 {
+        if !is_marked(self.words.as_slice(), address) {
             return;
         }
         // An instruction of two bytes may begin at the address before.
         for k in 0..5 {
             self.drop_at(address.minus(Word::new(1)).plus(Word::new(k)));
         }
-        self.words[place] = 0;
+        let place = word_place(address);
+        if place < self.words.len() {
+            self.words[place] = 0;
+        }
     }
 
     /// Forgets the instruction at an address, if it is kept.

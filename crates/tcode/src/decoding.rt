@@ -142,7 +142,9 @@ pub(crate) fn short_code_at(
 {
     let first = memory.bytes.open_byte(marks, counts, iptr)?;
     if is_prefix(first / 16) {
-        let second = memory.bytes.open_byte(marks, counts, iptr.plus(Word::new(1)))?;
+        let second = memory
+            .bytes
+            .open_byte(marks, counts, iptr.plus(Word::new(1)))?;
         return prefixed_code(iptr, first, second);
     }
     Some(CodeEntry {

@@ -1,12 +1,14 @@
 //! Jumps, calls, loops and the workspace pointer.
 #![tactic(auto, unfolding(crate::specs::Functions::function_effect, crate::specs::Operations::operation_effect))]
 
-ghost use Rattle.std.specs.Prelude.{◌≡◌, Some, None, IfSome, Ok, OnOk, OnErr, false, length, true};
+ghost use Rattle.std.specs.Prelude.{ℕ, ◌≡◌, List, Some, None, IfSome, Ok, OnOk, OnErr, false, length, true};
+ghost use Rattle.std.specs.Prelude.{slice_index};
 ghost use Rattle.tword.specs.Open.{AreOpenCounts};
 ghost use Rattle.tword.specs.Actions.{answer, or_break, run};
 ghost use Rattle.tword.specs.Stores.{word_at, with_word};
 ghost use Rattle.tword.specs.Touches.{Writes, word_break, first_break, is_inside, word_span};
 ghost use Rattle.tword.specs.Words.{plus, minus};
+ghost use Rattle.tcode.specs.Known.{StandsWhereMarked, word_place};
 ghost use Rattle.tcpu.specs.Functions.{function_effect};
 ghost use Rattle.tcpu.specs.Local.{DoesFunction, DoesOperation};
 ghost use Rattle.tcpu.specs.Local.{outcome_of};
@@ -15,7 +17,7 @@ ghost use Rattle.tword.specs.Claims.{Claims};
 
 use crate::registers::{Next, Registers, Step};
 use crate::word_arithmetic::{is_word_address, word_address};
-use tcode::{Function, Operation};
+use tcode::{Function, Operation, is_marked};
 use tword::{Break, Bytes, Marks, Word};
 
 impl Registers {
@@ -101,26 +103,29 @@ impl Registers {
         Ok(Next::Go)
     }
 
-    /// `call`, where the counts show at once that its four writes pass: whether it was done.
+    /// `call`, where the counts show at once that its four writes pass, and none is of a marked word: whether it was
+    /// done.
     #[inline(always)]
     pub(crate) fn open_call(
         &mut self,
         memory: &mut Bytes,
         marks: &Marks,
         counts: &[u16],
+        words: &[u8],
         operand: Word,
     ) -> bool
         requires { AreOpenCounts counts.now (length memory.old) marks.now }
         ensures done { result ≡ true
             → DoesFunction Function.Call operand self.old memory.old marks.now (Ok Next.Go) self.new memory.new }
         ensures kept { result ≡ false → (memory.new ≡ memory.old) × (self.new ≡ self.old) }
+        ensures marked { StandsWhereMarked words.now memory.old memory.new }
         ensures sized { length memory.new ≡ length memory.old }
     {
         let wptr = self.wptr;
-        if !memory.is_clear_word(marks, counts, wptr.below(4))
-            || !memory.is_clear_word(marks, counts, wptr.below(3))
-            || !memory.is_clear_word(marks, counts, wptr.below(2))
-            || !memory.is_clear_word(marks, counts, wptr.below(1))
+        if !may_set_word(memory, marks, counts, words, wptr.below(4))
+            || !may_set_word(memory, marks, counts, words, wptr.below(3))
+            || !may_set_word(memory, marks, counts, words, wptr.below(2))
+            || !may_set_word(memory, marks, counts, words, wptr.below(1))
         {
             return false;
         }
@@ -217,24 +222,27 @@ impl Registers {
         self.wptr = self.wptr.plus(Word::new(16));
     }
 
-    /// `lend`, where the counts show at once that its writes pass: what follows, if it was done.
+    /// `lend`, where the counts show at once that its writes pass, and none is of a marked word: what follows, if it
+    /// was done.
     #[inline(always)]
     pub(crate) fn open_loop_end(
         &mut self,
         memory: &mut Bytes,
         marks: &Marks,
         counts: &[u16],
+        words: &[u8],
     ) -> Option<Next>
         requires { AreOpenCounts counts.now (length memory.old) marks.now }
         ensures done { IfSome result
             (λ next. DoesOperation Operation.Lend self.old memory.old marks.now (Ok next) self.new memory.new) }
         ensures kept { result ≡ None → (memory.new ≡ memory.old) × (self.new ≡ self.old) }
+        ensures marked { StandsWhereMarked words.now memory.old memory.new }
         ensures sized { length memory.new ≡ length memory.old }
     {
         let index = self.b;
         let count = index.plus(Word::new(4));
-        if !memory.is_clear_word(marks, counts, count)
-            || !memory.is_clear_word(marks, counts, index)
+        if !may_set_word(memory, marks, counts, words, count)
+            || !may_set_word(memory, marks, counts, words, index)
         {
             return None;
         }
@@ -251,6 +259,11 @@ impl Registers {
             → word_break (length memory.old) claims Writes self.old.b ≡ None
             → run (looped left (word_at memory.old self.old.b) (is_positive_word left) self.old) memory.old claims
             ≡ outcome_of (Ok result) self.new memory.new }
+        ensures marked { (words : List ℕ) (claims : Claims)
+            → word_break (length memory.old) claims Writes (plus self.old.b 4) ≡ None
+            → word_break (length memory.old) claims Writes self.old.b ≡ None
+            → slice_index words (word_place (plus self.old.b 4)) ≡ 0 → slice_index words (word_place self.old.b) ≡ 0
+            → StandsWhereMarked words memory.old memory.new }
         ensures sized { length memory.new ≡ length memory.old }
     {
         let index = self.b;
@@ -303,4 +316,15 @@ impl Registers {
         memory.may_write_word(marks, self.b)?;
         Ok(memory.word(count).minus(Word::new(1)))
     }
+}
+
+/// Whether the counts show at once that a write of the word at an address passes, and the word is not marked.
+#[inline(always)]
+fn may_set_word(memory: &Bytes, marks: &Marks, counts: &[u16], words: &[u8], address: Word) -> bool
+    requires { AreOpenCounts counts.now (length memory.now) marks.now }
+    ensures free { result ≡ true → word_break (length memory.now) marks.now Writes address ≡ None }
+    ensures inside { result ≡ true → is_inside (length memory.now) (word_span address) ≡ true }
+    ensures unmarked { result ≡ true → slice_index words.now (word_place address) ≡ 0 }
+{
+    memory.is_clear_word(marks, counts, address) && !is_marked(words, address)
 }

@@ -4,17 +4,20 @@ ghost use Rattle.std.specs.Prelude.{◌≡◌, ◌<◌, ◌≤◌, IfOk, OnErr, 
 ghost use Rattle.tword.specs.Actions.{run, value_of};
 ghost use Rattle.tcode.specs.Codes.{Decodes};
 ghost use Rattle.tcode.specs.Decoding.{decode};
+ghost use Rattle.tcode.specs.Known.{AreFetched, Knows, StandsWhereMarked};
 ghost use Rattle.tcpu.specs.Effects.{effect, effect_at, local_or_left};
 ghost use Rattle.tcpu.specs.Local.{outcome_of, StandsWhereLeft};
 ghost use Rattle.tcpu.specs.Operations.{operation_effect};
 ghost use Rattle.tcpu.specs.Stretches as spec;
 ghost use Rattle.tcpu.specs.Stretches.{gone_on, gone_one};
 ghost use Rattle.tcpu.specs.Rows.{CodeGone, SelectedGone};
+ghost use Rattle.tcpu.specs.Written.{written};
 ghost use Rattle.tword.specs.Open.{AreOpenCounts};
+ghost use Rattle.tword.specs.Outside.{StandsOutside};
 ghost use Rattle.tcode.specs.Table.{function_at, operation_at};
 
 use crate::registers::{Next, Registers, Step};
-use tcode::{Function, Instruction, Operation, any_chain_at, chain_at, operation_of};
+use tcode::{CodeEntry, CodeTable, Function, Instruction, Operation, known_at, operation_of};
 use tword::{Break, Bytes, Kind, Marks, Memory, Word};
 
 /// Does an instruction, as the tables of the Compiler Writer's Guide say, of those that the kind of the memory's node
@@ -36,6 +39,8 @@ pub fn local(
     ensures kept { OnErr result ((memory.new ≡ memory.old) × (registers.new ≡ registers.old)) }
     ensures left { IfOk result
         (λ next. StandsWhereLeft next memory.old.bytes registers.old memory.new.bytes registers.new) }
+    ensures written { StandsOutside (written memory.old.kind instruction.function instruction.operand registers.old)
+        memory.old.bytes memory.new.bytes }
     ensures sized { length memory.new.bytes ≡ length memory.old.bytes }
     ensures kind { memory.new.kind ≡ memory.old.kind }
 {
@@ -65,12 +70,14 @@ fn act_or_stay(
         ≡ outcome_of result registers.new memory.new }
     ensures kept { OnErr result ((memory.new ≡ memory.old) × (registers.new ≡ registers.old)) }
     ensures left { IfOk result (λ next. StandsWhereLeft next memory.old registers.old memory.new registers.new) }
+    ensures written { StandsOutside (written kind.now instruction.function instruction.operand registers.old)
+        memory.old memory.new }
     ensures sized { length memory.new ≡ length memory.old }
 {
     let start = registers.iptr;
     let function = instruction.function;
     let operand = instruction.operand;
-    registers.iptr = start.plus(Word::new(u32::from(instruction.length)));
+    registers.iptr = registers.behind(instruction.length);
     match act(kind, registers, memory, marks, start, function, operand) {
         Ok(next) => Ok(next),
         Err(broken) => {
@@ -209,25 +216,34 @@ fn operate(
 }
 
 /// Does instructions in a row, at most so many, as long as each is one of the most common ones and its process goes on
-/// behind it: how many were done. The next one is left as it is, whatever it would do.
+/// behind it: how many were done. The next one is left as it is, whatever it would do. Instructions are looked up in a
+/// table of decoded code, and learned where they are not there; one that writes a word with kept code is not done.
 // The registers are worked on in a place of their own, so that they need not lie in memory.
 #[inline(never)]
-pub fn local_row(registers: &mut Registers, memory: &mut Memory, marks: &Marks, most: u32) -> u32
+pub fn local_row(
+    registers: &mut Registers,
+    memory: &mut Memory,
+    marks: &Marks,
+    codes: &mut CodeTable,
+    most: u32,
+) -> u32
+    requires fetched { AreFetched codes.old.entries.items memory.old.bytes marks.now }
     ensures done { gone_on result memory.old.kind marks.now registers.old memory.old.bytes
         ≡ Some (registers.new, memory.new.bytes) }
     ensures within { result ≤ most }
+    ensures fetched { AreFetched codes.new.entries.items memory.new.bytes marks.now }
     ensures sized { length memory.new.bytes ≡ length memory.old.bytes }
     ensures kind { memory.new.kind ≡ memory.old.kind }
 {
     let mut now = *registers;
     let counts = marks.open_counts(memory.size());
-    let done = row_of(&mut now, memory, marks, counts, most);
+    let done = row_of(&mut now, memory, marks, counts, codes, most);
     *registers = now;
     done
 }
 
-/// Does instructions in a row, as `local_row` does: how many. Where the short rows stop at a chain that wants a closer
-/// look, its instruction is done by itself.
+/// Does instructions in a row, as `local_row` does: how many. Where the short rows stop at an instruction that is not
+/// in the table, it is learned, and done by itself.
 #[inline(always)]
 #[tactic(auto, unfolding(crate::specs::Stretches::gone_on), using(crate::proofs::Stretches::gone_next, crate::proofs::Stretches::gone_further))]
 fn row_of(
@@ -235,25 +251,38 @@ fn row_of(
     memory: &mut Memory,
     marks: &Marks,
     counts: &[u16],
+    codes: &mut CodeTable,
     most: u32,
 ) -> u32
-    requires { AreOpenCounts counts.now (length memory.old.bytes) marks.now }
+    requires counts { AreOpenCounts counts.now (length memory.old.bytes) marks.now }
+    requires fetched { AreFetched codes.old.entries.items memory.old.bytes marks.now }
     ensures done { gone_on result memory.old.kind marks.now registers.old memory.old.bytes
         ≡ Some (registers.new, memory.new.bytes) }
     ensures within { result ≤ most }
+    ensures fetched { AreFetched codes.new.entries.items memory.new.bytes marks.now }
     ensures sized { length memory.new.bytes ≡ length memory.old.bytes }
     ensures kind { memory.new.kind ≡ memory.old.kind }
 {
     let mut done = 0;
     while done < most {
-        let (count, is_long) = short_row(registers, memory, marks, counts, most - done);
+        let entries = codes.entries.as_slice();
+        let words = codes.words.as_slice();
+        let (count, is_unknown) = short_row(
+            registers,
+            memory,
+            marks,
+            counts,
+            entries,
+            words,
+            most - done,
+        );
         done += count;
-        if !is_long {
+        if !is_unknown {
             return done;
         }
         // So that only this copy need lie in memory.
         let mut now = *registers;
-        let goes_on = plain_closely(&mut now, memory, marks, counts);
+        let goes_on = plain_closely(&mut now, memory, marks, counts, codes);
         *registers = now;
         if !goes_on {
             return done;
@@ -263,31 +292,35 @@ fn row_of(
     done
 }
 
-/// Does instructions in a row whose chains are short, as `local_row` does: how many, and whether the next one's chain
-/// wants a closer look.
+/// Does instructions in a row that are in the table, as `local_row` does: how many, and whether the next one is not
+/// there.
 #[inline(always)]
-#[tactic(auto, unfolding(crate::specs::Stretches::gone_on), using(crate::proofs::Stretches::gone_down))]
+#[tactic(auto, unfolding(crate::specs::Stretches::gone_on))]
 fn short_row(
     registers: &mut Registers,
     memory: &mut Memory,
     marks: &Marks,
     counts: &[u16],
+    entries: &[CodeEntry],
+    words: &[u8],
     most: u32,
 ) -> (u32, bool)
-    requires { AreOpenCounts counts.now (length memory.old.bytes) marks.now }
+    requires counts { AreOpenCounts counts.now (length memory.old.bytes) marks.now }
+    requires knows { Knows entries.now words.now memory.old.bytes marks.now }
     ensures done { gone_on result.0 memory.old.kind marks.now registers.old memory.old.bytes
         ≡ Some (registers.new, memory.new.bytes) }
     ensures within { result.0 ≤ most }
     ensures more { result.1 ≡ true → result.0 < most }
+    ensures knows { Knows entries.now words.now memory.new.bytes marks.now }
     ensures sized { length memory.new.bytes ≡ length memory.old.bytes }
     ensures kind { memory.new.kind ≡ memory.old.kind }
 {
     let mut left = most;
     while left > 0 {
-        let Some(chain) = chain_at(memory, marks, counts, registers.iptr) else {
+        let Some(chain) = known_at(entries, words, memory, marks, registers.iptr) else {
             return (most - left, true);
         };
-        if !plain_chain(registers, memory, marks, counts, chain) {
+        if !plain_chain(registers, memory, marks, counts, words, chain) {
             return (most - left, false);
         }
         left -= 1;
@@ -295,8 +328,8 @@ fn short_row(
     (most, false)
 }
 
-/// Does the instruction at Iptr, whatever its chain, if it is one of the most common ones and its process goes on
-/// behind it: whether it was done. Else nothing is changed.
+/// Learns the instruction at Iptr, and does it if it is one of the most common ones and its process goes on behind it:
+/// whether it was done. Else no register and no byte is changed.
 #[cold]
 #[inline(never)]
 fn plain_closely(
@@ -304,16 +337,22 @@ fn plain_closely(
     memory: &mut Memory,
     marks: &Marks,
     counts: &[u16],
+    codes: &mut CodeTable,
 ) -> bool
-    requires { AreOpenCounts counts.now (length memory.old.bytes) marks.now }
+    requires counts { AreOpenCounts counts.now (length memory.old.bytes) marks.now }
+    requires fetched { AreFetched codes.old.entries.items memory.old.bytes marks.now }
     ensures done { result ≡ true → gone_one memory.old.kind marks.now (Some (registers.old, memory.old.bytes))
         ≡ Some (registers.new, memory.new.bytes) }
     ensures kept { result ≡ false → (memory.new ≡ memory.old) × (registers.new ≡ registers.old) }
+    ensures fetched { AreFetched codes.new.entries.items memory.new.bytes marks.now }
     ensures sized { length memory.new.bytes ≡ length memory.old.bytes }
     ensures kind { memory.new.kind ≡ memory.old.kind }
 {
-    match any_chain_at(memory, marks, registers.iptr) {
-        Some(chain) => plain_chain(registers, memory, marks, counts, chain),
+    match codes.learn(memory, marks, counts, registers.iptr) {
+        Some(chain) => {
+            let words = codes.words.as_slice();
+            plain_chain(registers, memory, marks, counts, words, chain)
+        }
         None => false,
     }
 }
@@ -325,6 +364,7 @@ fn plain_chain(
     memory: &mut Memory,
     marks: &Marks,
     counts: &[u16],
+    words: &[u8],
     chain: (u8, Word, Word),
 ) -> bool
     requires counts { AreOpenCounts counts.now (length memory.old.bytes) marks.now }
@@ -333,6 +373,7 @@ fn plain_chain(
     ensures done { result ≡ true → gone_one memory.old.kind marks.now (Some (registers.old, memory.old.bytes))
         ≡ Some (registers.new, memory.new.bytes) }
     ensures kept { result ≡ false → (memory.new ≡ memory.old) × (registers.new ≡ registers.old) }
+    ensures marked { StandsWhereMarked words.now memory.old.bytes memory.new.bytes }
     ensures sized { length memory.new.bytes ≡ length memory.old.bytes }
     ensures kind { memory.new.kind ≡ memory.old.kind }
 {
@@ -340,7 +381,16 @@ fn plain_chain(
     let (code, operand, behind) = chain;
     registers.iptr = behind;
     let bytes = &mut memory.bytes;
-    if plain(&memory.kind, registers, bytes, marks, counts, code, operand) {
+    if plain(
+        &memory.kind,
+        registers,
+        bytes,
+        marks,
+        counts,
+        words,
+        code,
+        operand,
+    ) {
         return true;
     }
     registers.iptr = start;
@@ -357,6 +407,7 @@ fn plain(
     memory: &mut Bytes,
     marks: &Marks,
     counts: &[u16],
+    words: &[u8],
     code: u8,
     operand: Word,
 ) -> bool
@@ -364,6 +415,7 @@ fn plain(
     ensures done { result ≡ true → CodeGone kind.now (function_at code) operand registers.old memory.old marks.now
         registers.new memory.new }
     ensures kept { result ≡ false → (memory.new ≡ memory.old) × (registers.new ≡ registers.old) }
+    ensures marked { StandsWhereMarked words.now memory.old memory.new }
     ensures sized { length memory.new ≡ length memory.old }
 {
     match code {
@@ -374,13 +426,13 @@ fn plain(
         0x5 => did(registers.load_non_local_pointer(operand)),
         0x7 => registers.load_open_local(memory, marks, counts, operand),
         0x8 => registers.add_small_constant(operand),
-        0x9 => registers.open_call(memory, marks, counts, operand),
+        0x9 => registers.open_call(memory, marks, counts, words, operand),
         0xa => did(registers.conditional_jump(operand)),
         0xb => did(registers.adjust_workspace(operand)),
         0xc => did(registers.equals_constant(operand)),
-        0xd => registers.store_open_local(memory, marks, counts, operand),
-        0xe => registers.store_open_non_local(memory, marks, counts, operand),
-        0xf => plain_operation(kind, registers, memory, marks, counts, operand),
+        0xd => registers.store_open_local(memory, marks, counts, words, operand),
+        0xe => registers.store_open_non_local(memory, marks, counts, words, operand),
+        0xf => plain_operation(kind, registers, memory, marks, counts, words, operand),
         _ => false,
     }
 }
@@ -394,12 +446,14 @@ fn plain_operation(
     memory: &mut Bytes,
     marks: &Marks,
     counts: &[u16],
+    words: &[u8],
     operand: Word,
 ) -> bool
     requires { AreOpenCounts counts.now (length memory.old) marks.now }
     ensures done { result ≡ true → SelectedGone (operation_at kind.now operand) registers.old memory.old marks.now
         registers.new memory.new }
     ensures kept { result ≡ false → (memory.new ≡ memory.old) × (registers.new ≡ registers.old) }
+    ensures marked { StandsWhereMarked words.now memory.old memory.new }
     ensures sized { length memory.new ≡ length memory.old }
 {
     match operand.get() {
@@ -414,10 +468,12 @@ fn plain_operation(
         0x0c => registers.subtract_small(),
         0x1b => did(registers.load_pointer_to_instruction()),
         0x20 => registers.open_return(memory, marks, counts),
-        0x21 => registers.open_loop_end(memory, marks, counts).is_some(),
+        0x21 => registers
+            .open_loop_end(memory, marks, counts, words)
+            .is_some(),
         0x32 => did(registers.complement()),
         0x33 => did(registers.exclusive_or()),
-        0x3b => registers.store_open_byte(memory, marks, counts),
+        0x3b => registers.store_open_byte(memory, marks, counts, words),
         0x3c => goes(registers.general_adjust_workspace(memory, marks)),
         0x40 => did(registers.shift_right()),
         0x41 => did(registers.shift_left()),

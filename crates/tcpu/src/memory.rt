@@ -3,11 +3,12 @@
 
 ghost use Rattle.std.specs.Prelude.{◌≡◌, Ok, OnErr, false, length, true};
 ghost use Rattle.tword.specs.Open.{AreOpenCounts};
+ghost use Rattle.tcode.specs.Known.{StandsWhereMarked};
 ghost use Rattle.tcpu.specs.Local.{DoesFunction, DoesOperation};
 
 use crate::registers::{Next, Registers, Step};
 use crate::word_arithmetic::word_address;
-use tcode::{Function, Operation};
+use tcode::{Function, Operation, is_marked};
 use tword::{Bytes, Marks, Word};
 
 impl Registers {
@@ -117,44 +118,52 @@ impl Registers {
         true
     }
 
-    /// `stl`, where the counts show at once that its write passes: whether it was done.
+    /// `stl`, where the counts show at once that its write passes, and it is of no marked word: whether it was
+    /// done.
     #[inline(always)]
     pub(crate) fn store_open_local(
         &mut self,
         memory: &mut Bytes,
         marks: &Marks,
         counts: &[u16],
+        words: &[u8],
         operand: Word,
     ) -> bool
         requires { AreOpenCounts counts.now (length memory.old) marks.now }
         ensures done { result ≡ true
             → DoesFunction Function.Stl operand self.old memory.old marks.now (Ok Next.Go) self.new memory.new }
         ensures kept { result ≡ false → (memory.new ≡ memory.old) × (self.new ≡ self.old) }
+        ensures marked { StandsWhereMarked words.now memory.old memory.new }
         ensures sized { length memory.new ≡ length memory.old }
     {
-        if !memory.set_open_word(marks, counts, word_address(self.wptr, operand), self.a) {
+        let address = word_address(self.wptr, operand);
+        if is_marked(words, address) || !memory.set_open_word(marks, counts, address, self.a) {
             return false;
         }
         self.pop();
         true
     }
 
-    /// `stnl`, where the counts show at once that its write passes: whether it was done.
+    /// `stnl`, where the counts show at once that its write passes, and it is of no marked word: whether it was
+    /// done.
     #[inline(always)]
     pub(crate) fn store_open_non_local(
         &mut self,
         memory: &mut Bytes,
         marks: &Marks,
         counts: &[u16],
+        words: &[u8],
         operand: Word,
     ) -> bool
         requires { AreOpenCounts counts.now (length memory.old) marks.now }
         ensures done { result ≡ true
             → DoesFunction Function.Stnl operand self.old memory.old marks.now (Ok Next.Go) self.new memory.new }
         ensures kept { result ≡ false → (memory.new ≡ memory.old) × (self.new ≡ self.old) }
+        ensures marked { StandsWhereMarked words.now memory.old memory.new }
         ensures sized { length memory.new ≡ length memory.old }
     {
-        if !memory.set_open_word(marks, counts, word_address(self.a, operand), self.b) {
+        let address = word_address(self.a, operand);
+        if is_marked(words, address) || !memory.set_open_word(marks, counts, address, self.b) {
             return false;
         }
         self.pop();
@@ -177,22 +186,25 @@ impl Registers {
         true
     }
 
-    /// `sb`, where the counts show at once that its write passes: whether it was done.
+    /// `sb`, where the counts show at once that its write passes, and it is of no marked word: whether it was
+    /// done.
     #[inline(always)]
     pub(crate) fn store_open_byte(
         &mut self,
         memory: &mut Bytes,
         marks: &Marks,
         counts: &[u16],
+        words: &[u8],
     ) -> bool
         requires { AreOpenCounts counts.now (length memory.old) marks.now }
         ensures done { result ≡ true
             → DoesOperation Operation.Sb self.old memory.old marks.now (Ok Next.Go) self.new memory.new }
         ensures kept { result ≡ false → (memory.new ≡ memory.old) × (self.new ≡ self.old) }
+        ensures marked { StandsWhereMarked words.now memory.old memory.new }
         ensures sized { length memory.new ≡ length memory.old }
     {
         let low = (self.b.get() % 256) as u8;
-        if !memory.set_open_byte(marks, counts, self.a, low) {
+        if is_marked(words, self.a) || !memory.set_open_byte(marks, counts, self.a, low) {
             return false;
         }
         self.pop();

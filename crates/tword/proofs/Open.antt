@@ -1,5 +1,5 @@
 -- What the counts of the words that programs may use tell of a touch.
-use Rattle.std.proofs.Common.{◌≡◌, ℕ, ◌+◌, ◌-◌, ◌*◌, ◌/◌, ◌%◌, ◌<◌, ◌≤◌, ◌^◌, refl, sym, ◌∙◌, ap, List, length, arith}
+use Rattle.std.proofs.Common.{◌≡◌, ℕ, ◌+◌, ◌-◌, ◌/◌, ◌%◌, ◌<◌, ◌≤◌, ◌^◌, refl, sym, ◌∙◌, ap, List, length, arith}
 use Rattle.std.proofs.Common.{true, false, Option, Some, None, get_or, map}
 use Rattle.std.specs.Prelude.{slice_index, slice_get, option_map, nat_le, nat_lt, ◌==◌}
 use Rattle.std.proofs.lemmas.Bool.{le-leb, le-ltb}

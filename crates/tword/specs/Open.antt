@@ -1,7 +1,8 @@
 -- Counts of the words that programs may use, as those ask them who touch many words in a row.
 -- Source: own choice, what the code keeps beside the claims.
-use Rattle.std.specs.Prelude.{ℕ, ◌≡◌, ◌<◌, ◌≤◌, ◌+◌, ◌*◌, List, None, length, slice_index}
-use Rattle.tword.specs.Words.{mem_start}
+use Rattle.std.specs.Prelude.{ℕ, ◌≡◌, ◌<◌, ◌≤◌, ◌+◌, ◌*◌, ◌/◌, ◌==◌, ◌&&◌, Bool, List, None, length, nat_lt}
+use Rattle.std.specs.Prelude.{slice_index}
+use Rattle.tword.specs.Words.{mem_start, minus}
 use Rattle.tword.specs.Claims.{Claims}
 use Rattle.tword.specs.Touches.{Mode, claim_break}
 
@@ -16,3 +17,8 @@ pub record AreOpenCounts (counts : List ℕ) (size : ℕ) (claims : Claims) : Ty
   pub clear : (slot start bytes : ℕ) (mode : Mode) → slot < length counts → slice_index counts slot ≡ 0
       → open_word slot ≤ start → start + bytes ≤ open_word slot + 4
       → claim_break claims mode (record { start = start; size = bytes }) ≡ None
+
+-- the word of this address is counted, and its count is 0
+unfoldable pub is_clear : List ℕ → ℕ → Bool
+is_clear counts address =
+    nat_lt (minus address mem_start / 4) (length counts) && (slice_index counts (minus address mem_start / 4) == 0)

@@ -2,7 +2,7 @@
 
 ghost use Rattle.std.specs.Prelude.{◌≡◌, ◌↔◌, ◌≤◌, ◌<◌, ◌+◌, ◌/◌, ◌∷◌, [], ◌++◌, take, drop, Some, None, IfOk, OnOk};
 ghost use Rattle.std.specs.Prelude.{IfSome, IsErrOf, false, slice_index};
-ghost use Rattle.std.specs.Prelude.{length, replicate, slice_range, unwrap_or, is_some, true};
+ghost use Rattle.std.specs.Prelude.{length, replicate, slice_range, unwrap_or, is_some, true, ◌&&◌};
 ghost use Rattle.tword.specs.Accesses.{Changing, IsMemorySize};
 ghost use Rattle.tword.specs.declared.kind.Kind.TheVariants.{Two};
 ghost use Rattle.tword.specs.Actions.{or_break};
@@ -10,7 +10,8 @@ ghost use Rattle.std.specs.Int.{w32, from_le_bytes, to_le_bytes};
 ghost use Rattle.tword.specs.Stores.{as_cells, word_at, with_word, cells, with_cells, byte_at};
 ghost use Rattle.tword.specs.Stores as spec;
 ghost use Rattle.tword.specs.Touches.{Reads, Writes, span_break, word_break, is_inside, word_span, byte_span};
-ghost use Rattle.tword.specs.Open.{AreOpenCounts};
+ghost use Rattle.tword.specs.Touches.{is_aligned};
+ghost use Rattle.tword.specs.Open.{AreOpenCounts, is_clear};
 ghost use Rattle.tword.specs.Words.{mem_start, minus, most_neg};
 
 use crate::breaks::{Break, MemoryFault};
@@ -180,9 +181,11 @@ impl Bytes {
     /// The place of a word that programs may use, among the counts of such words, where its count shows that no claim
     /// has it.
     #[inline(always)]
+    #[tactic(auto, unfolding(crate::specs::Open::is_clear))]
     fn clear_place(counts: &[u16], address: Word) -> Option<usize>
-        ensures { IfSome result (λ place. (place ≡ minus address mem_start) × (place / 4 < length counts.now)
+        ensures is { IfSome result (λ place. (place ≡ minus address mem_start) × (place / 4 < length counts.now)
             × (slice_index counts.now (place / 4) ≡ 0)) }
+        ensures found { is_some result ≡ is_clear counts.now address }
     {
         let place = address.get().wrapping_sub(MEM_START) as usize;
         let slot = place / 4;
@@ -199,6 +202,7 @@ impl Bytes {
         requires { AreOpenCounts counts.now (length self.now) marks.now }
         ensures free { IfSome result (λ byte. span_break (length self.now) marks.now Reads (byte_span address) ≡ None) }
         ensures is { IfSome result (λ byte. byte_at self.now address ≡ Some byte) }
+        ensures found { is_some result ≡ is_clear counts.now address }
     {
         let place = Bytes::clear_place(counts, address)?;
         Some(self.bytes[place + CLOSED as usize])
@@ -210,6 +214,7 @@ impl Bytes {
         requires { AreOpenCounts counts.now (length self.now) marks.now }
         ensures free { IfSome result (λ word. word_break (length self.now) marks.now Reads address ≡ None) }
         ensures is { IfSome result (λ word. word ≡ word_at self.now address) }
+        ensures found { is_some result ≡ (is_aligned address && is_clear counts.now address) }
     {
         let place = Bytes::clear_place(counts, address)?;
         if address.get() % 4 != 0 {
@@ -226,6 +231,7 @@ impl Bytes {
         ensures set { result ≡ true → self.new ≡ with_cells self.old address (as_cells (value ∷ [])) }
         ensures kept { result ≡ false → self.new ≡ self.old }
         ensures sized { length self.new ≡ length self.old }
+        ensures done { result ≡ is_clear counts.now address }
     {
         let Some(place) = Bytes::clear_place(counts, address) else {
             return false;
@@ -248,6 +254,7 @@ impl Bytes {
         ensures set { result ≡ true → self.new ≡ with_word self.old address value }
         ensures kept { result ≡ false → self.new ≡ self.old }
         ensures sized { length self.new ≡ length self.old }
+        ensures done { result ≡ (is_aligned address && is_clear counts.now address) }
     {
         let Some(place) = Bytes::clear_place(counts, address) else {
             return false;
@@ -269,6 +276,7 @@ impl Bytes {
         requires { AreOpenCounts counts.now (length self.now) marks.now }
         ensures free { result ≡ true → word_break (length self.now) marks.now Writes address ≡ None }
         ensures inside { result ≡ true → is_inside (length self.now) (word_span address) ≡ true }
+        ensures found { result ≡ (is_aligned address && is_clear counts.now address) }
     {
         // To ask for the size is to know that no memory ends at the last address.
         let _ = self.size();

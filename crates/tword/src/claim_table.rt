@@ -1,7 +1,7 @@
 //! How many claims have each word of a memory.
 
 ghost use Rattle.std.specs.Prelude.{◌≡◌, ◌+◌, ◌-◌, ◌%◌, ◌/◌, ◌*◌, ◌<◌, ◌≤◌, IfOk, IfSome, ℕ, length, slice_index};
-ghost use Rattle.std.specs.Prelude.{None, Some, sum, true};
+ghost use Rattle.std.specs.Prelude.{None, Some, min, sum, true};
 ghost use Rattle.tword.specs.Slots.{word_at, lowest_word, is_among, has_word};
 ghost use Rattle.tword.specs.Slots as spec;
 ghost use Rattle.tword.specs.Slots.{AreEmpty, Counts, CountsHaveRoom, IsEmpty, IsExchanged};
@@ -40,7 +40,8 @@ impl Model for ClaimTable {
 impl ClaimTable {
     /// No claims, for a memory of so many bytes: none has more than there are addresses from #80000000 on.
     pub fn new(alloc: Global, size: u32) -> Result<ClaimTable, AllocError>
-        ensures { IfOk result (λ t. (slot : ℕ) → slot < length t → slice_index t slot ≡ 0) }
+        ensures zeros { IfOk result (λ t. (slot : ℕ) → slot < length t → slice_index t slot ≡ 0) }
+        ensures sized { IfOk result (λ t. length t ≡ min (size / 4) lowest_word) }
     {
         let words = (size / 4).min(LOWEST as u32);
         Ok(ClaimTable {
@@ -80,12 +81,13 @@ impl ClaimTable {
             && self.counts[first + 2] == 0
     }
 
-    /// The counts of so many words at most, from this slot on.
+    /// The counts of so many words, from this slot on; of fewer where the table ends before.
     #[inline(always)]
     pub fn from_slot(&self, first: usize, most: usize) -> &[u16]
         ensures few { length result.now ≤ most }
         ensures are { (k : ℕ) → k < length result.now → (first + k < length self.now)
             × (slice_index result.now k ≡ slice_index self.now (first + k)) }
+        ensures sized { length result.now ≡ min most (length self.now - first) }
     {
         let slots = self.counts.len();
         if slots <= first {

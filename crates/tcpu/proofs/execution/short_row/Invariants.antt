@@ -1,4 +1,5 @@
 use Rattle.std.proofs.Common.{◌≡◌, ◌≤◌, ◌-◌, Some, length}
+use Rattle.tcode.specs.Known.{Knows}
 use Rattle.tcpu.specs.Stretches.{gone_on}
 use Rattle.tcpu.proofs.execution.short_row.Given as goal
 
@@ -8,6 +9,7 @@ invariant-loop-left l = record {
       gone_on (l.most - l.left) l.fn.memory.kind l.fn.marks l.fn.registers l.fn.memory.bytes
       ≡ Some (l.registers, l.memory.bytes);
   within : l.left ≤ l.most;
+  knows : Knows l.fn.entries l.fn.words l.memory.bytes l.fn.marks;
   sized : length l.memory.bytes ≡ length l.fn.memory.bytes;
   kind : l.memory.kind ≡ l.fn.memory.kind;
 }

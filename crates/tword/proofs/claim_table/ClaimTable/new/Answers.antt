@@ -2,8 +2,8 @@ use Rattle.std.proofs.Common.{rules, length, get_or, List, ℕ, ap, ◌∙◌, a
 use Rattle.std.proofs.lemmas.List.{get_or-replicate, length-replicate}
 use Rattle.tword.proofs.claim_table.ClaimTable.new.Goals as goal
 
-pub returns : goal.returns
-returns c = λ slot within.
+pub returns-clause-zeros : goal.returns-clause-zeros
+returns-clause-zeros c = λ slot within.
     let items = c.in_ok-vec.ensures.items_if_clones_equal (λ y e. search rules) in
     let size = ap (λ (xs : List ℕ). length xs) items ∙ length-replicate {A = ℕ} c.min-words.result 0 in
     ap (λ (xs : List ℕ). get_or xs slot 0) items

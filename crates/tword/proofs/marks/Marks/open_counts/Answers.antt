@@ -1,6 +1,4 @@
-use Rattle.std.proofs.Common.{◌≡◌, ℕ, ◌+◌, ◌-◌, ◌*◌, ◌/◌, ◌<◌, ◌≤◌, ◌∙◌, length, arith, sym}
-use Rattle.tword.specs.Claims.{Claims}
-use Rattle.tword.specs.Slots.{lowest_word, word_at}
+use Rattle.std.proofs.Common.{arith}
 use Rattle.tword.proofs.Open.{open_counts}
 use Rattle.tword.proofs.marks.Marks.open_counts.Goals as goal
 

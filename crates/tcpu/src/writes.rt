@@ -1,0 +1,32 @@
+//! Which bytes an instruction may write.
+
+ghost use Rattle.std.specs.Prelude.{◌≡◌};
+ghost use Rattle.tcpu.specs.Written as spec;
+
+use crate::registers::Registers;
+use crate::word_arithmetic::word_address;
+use tcode::{Function, Instruction, Operation, operation_of};
+use tword::{Kind, Span, Word};
+
+/// The bytes that an instruction may write, from the registers before it: `local` leaves all others as they are. Iptr
+/// does not matter. For an instruction that writes nothing the span is empty.
+#[inline(always)]
+#[tactic(auto, unfolding(crate::specs::Written::written, crate::specs::Written::written_by))]
+pub fn written(registers: &Registers, instruction: Instruction, kind: Kind) -> Span
+    ensures { result ≡ spec.written kind instruction.function instruction.operand registers.now }
+{
+    let operand = instruction.operand;
+    let (start, size) = match instruction.function {
+        Function::Stl => (word_address(registers.wptr, operand), 4),
+        Function::Stnl => (word_address(registers.a, operand), 4),
+        Function::Call => (registers.wptr.below(4), 16),
+        Function::Opr => match operation_of(operand, kind) {
+            Some(Operation::Sb) => (registers.a, 1),
+            Some(Operation::Lend) => (registers.b, 8),
+            Some(Operation::Move) => (registers.b, registers.a.get()),
+            _ => (Word::new(0), 0),
+        },
+        _ => (Word::new(0), 0),
+    };
+    Span { start, size }
+}
