@@ -8,9 +8,10 @@ use Rattle.tword.specs.declared.span.Span.{Span}
 use Rattle.tword.specs.Accesses.{Frees, with_input, with_output, without_input, without_output}
 use Rattle.tword.specs.Claims.{Claims, has_saved, is_input, is_saved, overlap, overlaps_claim, saved_words, saving}
 use Rattle.tword.specs.Outside.{StandsOutside}
-use Rattle.tword.specs.Stores.{Store, byte_at}
-use Rattle.tword.specs.Touches.{Reads, byte_span, span_break}
+use Rattle.tword.specs.Stores.{Store, byte_at, with_cells}
+use Rattle.tword.specs.Touches.{Reads, byte_span, is_inside, span_break}
 use Rattle.tword.specs.Words.{plus}
+use Rattle.tword.proofs.Outside.{outside_cells}
 use Rattle.tword.proofs.Passing.{Passes, span_break-none}
 use Rattle.tcode.specs.Decoding.{IsFetched}
 use Rattle.tcode.proofs.StoreSteps.{or_break-ok}
@@ -62,6 +63,14 @@ pub fetched_outside : (span : Span) (old new : List CodeEntry) (s t : Store) (c 
 fetched_outside span old new s t c size stands =
     kept_fetched span old new s t c c
     (λ a b clear. fetched_alike s t c c a b size (stands a clear) (λ h. h) (λ h. h))
+
+-- cells that are put where they fit
+pub fetched_cells : (a m : ℕ) (put : Store) (old new : List CodeEntry) (s t : Store) (c : Claims)
+    → t ≡ with_cells s a put → length put ≡ m → is_inside (length s) (record { start = a; size = m }) ≡ true
+    → length t ≡ length s → AreForgotten (record { start = a; size = m }) old new → AreFetched old s c
+    → AreFetched new t c
+fetched_cells a m put old new s t c made size inside same =
+    fetched_outside (record { start = a; size = m }) old new s t c same (rw made (outside_cells s a m put size inside))
 
 -- the words of one more workspace are saved
 pub fetched_saving : (w : ℕ) (old new : List CodeEntry) (s : Store) (c : Claims)
