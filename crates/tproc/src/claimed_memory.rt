@@ -252,7 +252,8 @@ impl ClaimedMemory {
         ensures claims { self.new.marks ≡ saving workspace self.old.marks }
     {
         self.marks.claim_saved_known(workspace);
-        self.codes.forget(workspace.below(3), 12);
+        let lowest = workspace.below(3);
+        self.codes.forget(lowest, 12);
     }
 
     /// The words of a workspace are free again.
@@ -286,9 +287,9 @@ impl ClaimedMemory {
         ensures shape { KeepsShape self.old.memory self.new.memory }
         ensures claims { self.new.marks ≡ self.old.marks }
     {
-        let address = workspace.below(k);
-        self.memory.bytes.set_word(address, value);
-        self.codes.forget(address, 4);
+        let word = workspace.below(k);
+        self.memory.bytes.set_word(word, value);
+        self.codes.forget(word, 4);
     }
 
     /// A link claims the buffer of its pending output.
