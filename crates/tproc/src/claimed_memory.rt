@@ -16,18 +16,22 @@ ghost use Rattle.tproc.specs.Placement.{IsWorkspace};
 ghost use Rattle.tproc.specs.Checks.{KeepsShape, may_touch};
 ghost use Rattle.tword.specs.Limits.{largest_memory, most_processes};
 ghost use Rattle.tword.specs.declared.kind.Kind.TheVariants.{Two};
+ghost use Rattle.tcode.specs.Known.{AreFetched};
 
 use std::alloc::Global;
+use tcode::CodeTable;
 use tword::{Break, Kind, Marks, Memory, MemoryFault, Span, Word};
 
-/// A memory with its claims. Of each change there is one call that checks it, or one for a caller that has checked
-/// it.
+/// A memory with its claims and its decoded code, of which each change forgets what it touches. Of each change there is
+/// one call that checks it, or one for a caller that has checked it.
 #[derive(Drop)]
 pub struct ClaimedMemory {
     pub memory: Memory,
     pub marks: Marks,
+    pub codes: CodeTable,
     ghost size: { length memory.bytes ≤ largest_memory Two },
     ghost inside: { (w : ℕ) → has_saved marks w ≡ true → is_inside (length memory.bytes) (saved_words w) ≡ true },
+    ghost fetched: { AreFetched codes.entries.items memory.bytes marks },
 }
 
 /// Whether a span keeps clear of the three words below a workspace.
@@ -57,12 +61,37 @@ impl ClaimedMemory {
         ensures sized { OnOk result (IsMemorySize kind size) }
         ensures bad_size { IsErrOf result MemoryFault.BadSize ↔ ¬ IsMemorySize kind size }
     {
-        let memory = Memory::new(alloc, size, kind)?;
-        let marks = Marks::new(alloc, size)?;
-        Ok(ClaimedMemory { memory, marks })
+        let mut claimed = ClaimedMemory::without_codes(alloc, size, kind)?;
+        claimed.codes = CodeTable::new(alloc, size)?;
+        Ok(claimed)
     }
 
-    /// A copy of the memory and its claims.
+    /// A memory as `new` makes it, but with no room for decoded code.
+    ///
+    /// # Errors
+    /// `BadSize` for a size that no memory of the kind has, else `OutOfMemory` where the allocator refuses.
+    pub(crate) fn without_codes(
+        alloc: Global,
+        size: u32,
+        kind: Kind,
+    ) -> Result<ClaimedMemory, MemoryFault>
+        ensures zeros { IfOk result
+            (λ claimed. claimed.memory ≡ record { bytes = replicate size (Some 0); kind = kind }) }
+        ensures free { IfOk result (λ claimed. claimed.marks ≡ no_claims) }
+        ensures sized { OnOk result (IsMemorySize kind size) }
+        ensures bad_size { IsErrOf result MemoryFault.BadSize ↔ ¬ IsMemorySize kind size }
+    {
+        let memory = Memory::new(alloc, size, kind)?;
+        let marks = Marks::new(alloc, size)?;
+        let codes = CodeTable::without_room(alloc);
+        Ok(ClaimedMemory {
+            memory,
+            marks,
+            codes,
+        })
+    }
+
+    /// A copy of the memory and its claims, with no room for decoded code.
     ///
     /// # Errors
     /// `OutOfMemory` where the allocator refuses.
@@ -73,7 +102,12 @@ impl ClaimedMemory {
     {
         let memory = self.memory.try_copy(alloc)?;
         let marks = self.marks.try_copy(alloc)?;
-        Ok(ClaimedMemory { memory, marks })
+        let codes = CodeTable::without_room(alloc);
+        Ok(ClaimedMemory {
+            memory,
+            marks,
+            codes,
+        })
     }
 
     /// Whether the words of a workspace are saved.
@@ -137,6 +171,7 @@ impl ClaimedMemory {
         ensures claims { self.new.marks ≡ self.old.marks }
     {
         self.memory.bytes.set_word(address, value);
+        self.codes.forget(address, 4);
     }
 
     /// Whether some bytes may be read.
@@ -184,6 +219,7 @@ impl ClaimedMemory {
         ensures claims { self.new.marks ≡ self.old.marks }
     {
         self.memory.bytes.copy(from, to, count);
+        self.codes.forget(to, count);
     }
 
     /// Whether a workspace may be descheduled.
@@ -203,6 +239,7 @@ impl ClaimedMemory {
         ensures claims { self.new.marks ≡ saving workspace self.old.marks }
     {
         self.marks.claim_saved_known(workspace);
+        self.codes.forget(workspace.below(3), 12);
     }
 
     /// Saves the words of a workspace that lie in the memory, where no claim has a byte of them.
@@ -215,6 +252,8 @@ impl ClaimedMemory {
         ensures claims { self.new.marks ≡ saving workspace self.old.marks }
     {
         self.marks.claim_saved_known(workspace);
+        let lowest = workspace.below(3);
+        self.codes.forget(lowest, 12);
     }
 
     /// The words of a workspace are free again.
@@ -248,7 +287,9 @@ impl ClaimedMemory {
         ensures shape { KeepsShape self.old.memory self.new.memory }
         ensures claims { self.new.marks ≡ self.old.marks }
     {
-        self.memory.bytes.set_word(workspace.below(k), value);
+        let word = workspace.below(k);
+        self.memory.bytes.set_word(word, value);
+        self.codes.forget(word, 4);
     }
 
     /// A link claims the buffer of its pending output.
@@ -267,6 +308,7 @@ impl ClaimedMemory {
         ensures claims { self.new.marks ≡ with_input link (record { start = buffer; size = size }) self.old.marks }
     {
         self.marks.claim_in_known(link, buffer, size);
+        self.codes.forget(buffer, size);
     }
 
     /// The output of a link claims nothing any more.
@@ -295,6 +337,7 @@ impl ClaimedMemory {
         ensures claims { self.new.marks ≡ self.old.marks }
     {
         self.memory.bytes.load(start, bytes);
+        self.codes.forget(start, bytes.len() as u32);
     }
 
     /// Sets a byte of the memory.
@@ -305,6 +348,7 @@ impl ClaimedMemory {
         ensures claims { self.new.marks ≡ self.old.marks }
     {
         self.memory.bytes.set_byte(address, byte);
+        self.codes.forget(address, 1);
     }
 
     /// The byte at an address, and `None` outside the memory alone.

@@ -25,7 +25,7 @@ use crate::priority::Priority;
 use crate::ran::Ran;
 use crate::state::State;
 use tcode::{Function, Instruction, Operation, decode};
-use tcpu::{Next, Registers, local};
+use tcpu::{Next, Registers, local, written};
 use tword::{Break, Word};
 
 /// The instruction with which a step begins.
@@ -60,7 +60,8 @@ fn jumps_otherwise(state: &State, claimed: &ClaimedMemory, i: Instruction) -> Re
     tcpu::jumps(&state.registers, &claimed.memory, &claimed.marks, i)
 }
 
-/// The effect of the instruction of a step, on registers that are worked on in place.
+/// The effect of the instruction of a step, on registers that are worked on in place. Decoded code of the bytes that it
+/// may write is forgotten.
 #[inline(always)]
 fn perform(state: &mut State, claimed: &mut ClaimedMemory, i: &Instruction) -> Result<Next, Break>
     ensures begins { Begins (effect claimed.old.memory.kind i.now state.old.registers) claimed.old
@@ -76,12 +77,15 @@ fn perform(state: &mut State, claimed: &mut ClaimedMemory, i: &Instruction) -> R
     ensures shape { KeepsShape claimed.old.memory claimed.new.memory }
     ensures claims { claimed.new.marks ≡ claimed.old.marks }
 {
-    local(
+    let span = written(&state.registers, *i, claimed.memory.kind());
+    let done = local(
         &mut state.registers,
         &mut claimed.memory,
         &claimed.marks,
         *i,
-    )
+    );
+    claimed.codes.forget(span.start, span.size);
+    done
 }
 
 /// Instructions of the current process in a row, on registers that are worked on in place: how many were done.
@@ -98,6 +102,7 @@ fn go_on(state: &mut State, claimed: &mut ClaimedMemory, most: u32) -> u32
         &mut state.registers,
         &mut claimed.memory,
         &claimed.marks,
+        &mut claimed.codes,
         most,
     )
 }
