@@ -1,12 +1,30 @@
 //! Which bytes an instruction may write.
 
-ghost use Rattle.std.specs.Prelude.{◌≡◌};
+ghost use Rattle.std.specs.Prelude.{◌≡◌, false};
+ghost use Rattle.tcpu.specs.Written.{nothing};
+ghost use Rattle.tcpu.specs.declared.registers.Registers as spec_registers;
 ghost use Rattle.tcpu.specs.Written as spec;
 
 use crate::registers::Registers;
 use crate::word_arithmetic::word_address;
 use tcode::{Function, Instruction, Operation, operation_of};
 use tword::{Kind, Span, Word};
+
+/// Whether an instruction may write bytes, whatever the registers.
+#[inline(always)]
+#[tactic(auto, unfolding(crate::specs::Written::written, crate::specs::Written::written_by))]
+pub fn may_write(instruction: Instruction, kind: Kind) -> bool
+    ensures { result ≡ false → (r : spec_registers.Registers) → spec.written kind instruction.function instruction.operand r ≡ nothing }
+{
+    match instruction.function {
+        Function::Stl | Function::Stnl | Function::Call => true,
+        Function::Opr => matches!(
+            operation_of(instruction.operand, kind),
+            Some(Operation::Sb | Operation::Lend | Operation::Move)
+        ),
+        _ => false,
+    }
+}
 
 /// The bytes that an instruction may write, from the registers before it: `local` leaves all others as they are. Iptr
 /// does not matter. For an instruction that writes nothing the span is empty.

@@ -13,6 +13,7 @@ use Rattle.tword.specs.Touches.{Reads, byte_span, is_inside, span_break}
 use Rattle.tword.specs.Words.{plus}
 use Rattle.tword.proofs.Outside.{outside_cells}
 use Rattle.tword.proofs.Passing.{Passes, span_break-none}
+use Rattle.tcpu.specs.Written.{nothing}
 use Rattle.tcode.specs.Decoding.{IsFetched}
 use Rattle.tcode.proofs.StoreSteps.{or_break-ok}
 use Rattle.tcode.specs.Known.{AreFetched, AreForgotten}
@@ -63,6 +64,11 @@ pub fetched_outside : (span : Span) (old new : List CodeEntry) (s t : Store) (c 
 fetched_outside span old new s t c size stands =
     kept_fetched span old new s t c c
     (λ a b clear. fetched_alike s t c c a b size (stands a clear) (λ h. h) (λ h. h))
+
+-- where nothing is written, nothing is forgotten
+pub forgotten_nothing : (span : Span) (entries : List CodeEntry) → span ≡ nothing → AreForgotten span entries entries
+forgotten_nothing span entries none k e g some =
+    rw none (g, record { first = λ l. refl; second = λ l. refl })
 
 -- cells that are put where they fit
 pub fetched_cells : (a m : ℕ) (put : Store) (old new : List CodeEntry) (s t : Store) (c : Claims)

@@ -16,6 +16,8 @@ ghost use Rattle.tproc.specs.SavedWords.{AreThreaded};
 ghost use Rattle.tproc.specs.Doing.{Begins, Does, Foresees, jumps_as, machine_of, moved_on, rest_of, with_registers};
 ghost use Rattle.tproc.specs.Requests.{MayDeschedule};
 ghost use Rattle.tcode.specs.Decoding as spec;
+ghost use Rattle.tcode.specs.Known.{AreForgotten};
+ghost use Rattle.tcpu.specs.Written.{written as written_bytes};
 
 use crate::channels::Side;
 use crate::claimed_memory::ClaimedMemory;
@@ -24,9 +26,9 @@ use crate::engine::Engine;
 use crate::priority::Priority;
 use crate::ran::Ran;
 use crate::state::State;
-use tcode::{Function, Instruction, Operation, decode};
-use tcpu::{Next, Registers, local, written};
-use tword::{Break, Word};
+use tcode::{CodeTable, Function, Instruction, Operation, decode};
+use tcpu::{Next, Registers, local, may_write, written};
+use tword::{Break, Kind, Word};
 
 /// The instruction with which a step begins.
 #[inline(always)]
@@ -77,15 +79,40 @@ fn perform(state: &mut State, claimed: &mut ClaimedMemory, i: &Instruction) -> R
     ensures shape { KeepsShape claimed.old.memory claimed.new.memory }
     ensures claims { claimed.new.marks ≡ claimed.old.marks }
 {
-    let span = written(&state.registers, *i, claimed.memory.kind());
-    let done = local(
+    forget_written(
+        &mut claimed.codes,
+        &state.registers,
+        i,
+        claimed.memory.kind(),
+    );
+    local(
         &mut state.registers,
         &mut claimed.memory,
         &claimed.marks,
         *i,
-    );
-    claimed.codes.forget(span.start, span.size);
-    done
+    )
+}
+
+/// Forgets decoded code of the bytes that an instruction may write, from the registers before it.
+// Most instructions write nothing, and ask no more.
+#[inline(always)]
+fn forget_written(codes: &mut CodeTable, registers: &Registers, i: &Instruction, kind: Kind)
+    ensures { AreForgotten (written_bytes kind i.now.function i.now.operand registers.now) codes.old.entries.items
+        codes.new.entries.items }
+{
+    if may_write(*i, kind) {
+        forget_written_closely(codes, registers, i, kind);
+    }
+}
+
+/// Forgets decoded code as `forget_written` does, whatever the instruction.
+#[inline(never)]
+fn forget_written_closely(codes: &mut CodeTable, registers: &Registers, i: &Instruction, kind: Kind)
+    ensures { AreForgotten (written_bytes kind i.now.function i.now.operand registers.now) codes.old.entries.items
+        codes.new.entries.items }
+{
+    let span = written(registers, *i, kind);
+    codes.forget(span.start, span.size);
 }
 
 /// Instructions of the current process in a row, on registers that are worked on in place: how many were done.

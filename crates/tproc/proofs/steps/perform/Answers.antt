@@ -5,16 +5,15 @@ use Rattle.tproc.proofs.steps.perform.Goals as goal
 
 pub returns-clause-begins : goal.returns-clause-begins
 returns-clause-begins c =
-    rw (← c.state.view_is) (begins_effect _ _ _ _ _ _ _ _ c.local-done.ensures.done)
+    rw (← c.state.view_is) (begins_effect _ _ _ _ _ _ _ _ c.local.ensures.done)
 
 pub returns-clause-told : goal.returns-clause-told
-returns-clause-told c = rw (← c.state.view_is) (told_effect _ _ _ _ _ _ _ _ c.local-done.ensures.done)
+returns-clause-told c = rw (← c.state.view_is) (told_effect _ _ _ _ _ _ _ _ c.local.ensures.done)
 
 pub returns-clause-stays : goal.returns-clause-stays
-returns-clause-stays c = rw (← c.state.view_is) (stays_effect _ _ _ _ _ _ _ _ c.local-done.ensures.done)
+returns-clause-stays c = rw (← c.state.view_is) (stays_effect _ _ _ _ _ _ _ _ c.local.ensures.done)
 
 pub invariant_of-claimed-clause-fetched : goal.invariant_of-claimed-clause-fetched
 invariant_of-claimed-clause-fetched c =
-    fetched_outside c.written-span.result _ _ _ _ _ c.local-done.ensures.sized
-    (rw (c.written-span.ensures, c.kind.ensures) c.local-done.ensures.written) c.forget.ensures
-    c.args.claimed.now.fetched
+    fetched_outside _ _ _ _ _ _ c.local.ensures.sized
+    (rw c.kind.ensures c.local.ensures.written) c.forget_written.ensures c.args.claimed.now.fetched
