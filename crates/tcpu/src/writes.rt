@@ -2,7 +2,7 @@
 
 ghost use Rattle.std.specs.Prelude.{◌≡◌, false};
 ghost use Rattle.tcpu.specs.Written.{nothing};
-ghost use Rattle.tcpu.specs.declared.registers.Registers as spec_registers;
+ghost use Rattle.tcpu.specs.declared.registers.Registers as declared;
 ghost use Rattle.tcpu.specs.Written as spec;
 
 use crate::registers::Registers;
@@ -14,7 +14,8 @@ use tword::{Kind, Span, Word};
 #[inline(always)]
 #[tactic(auto, unfolding(crate::specs::Written::written, crate::specs::Written::written_by))]
 pub fn may_write(instruction: Instruction, kind: Kind) -> bool
-    ensures { result ≡ false → (r : spec_registers.Registers) → spec.written kind instruction.function instruction.operand r ≡ nothing }
+    ensures { result ≡ false → (r : declared.Registers)
+        → spec.written kind instruction.function instruction.operand r ≡ nothing }
 {
     match instruction.function {
         Function::Stl | Function::Stnl | Function::Call => true,
