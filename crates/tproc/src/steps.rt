@@ -100,7 +100,7 @@ fn forget_written(codes: &mut CodeTable, registers: &Registers, i: &Instruction,
     ensures { AreForgotten (written_bytes kind i.now.function i.now.operand registers.now) codes.old.entries.items
         codes.new.entries.items }
 {
-    if may_write(*i, kind) {
+    if may_write(*i) {
         forget_written_closely(codes, registers, i, kind);
     }
 }
