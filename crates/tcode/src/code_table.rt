@@ -13,6 +13,7 @@ ghost use Rattle.tword.specs.Claims.{Claims, overlap};
 ghost use Rattle.tword.specs.Open.{AreOpenCounts};
 ghost use Rattle.tword.specs.Stores.{Store};
 ghost use Rattle.tword.specs.Touches.{byte_span};
+ghost use Rattle.tword.specs.declared.span.Span.{Span};
 ghost use Rattle.std.specs.Prelude.{length};
 
 use crate::codes::PFIX;
@@ -169,6 +170,14 @@ impl CodeTable {
         self.low = u32::min(self.low, address.get());
         self.last = u32::max(self.last, address.get());
         true
+    }
+
+    /// Whether an instruction may be kept.
+    #[inline(always)]
+    pub fn may_keep_any(&self) -> bool
+        ensures { result ≡ false → (span : Span) → AreForgotten span self.now.entries.items self.now.entries.items }
+    {
+        self.low <= self.last
     }
 
     /// Forgets each instruction that has a byte of a span.

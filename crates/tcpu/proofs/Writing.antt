@@ -1,6 +1,9 @@
 -- Local effects write within the bytes that they may write.
 use Rattle.std.proofs.Common.{◌≡◌, ℕ, ◌<◌, ◌≤◌, ◌^◌, refl, Bool, true, false, Option, Some, None, Ok}
-use Rattle.std.proofs.Common.{length, arith}
+use Rattle.std.proofs.Common.{length, arith, List, [], ◌∷◌, cond, sym, ◌≢◌}
+use Rattle.std.specs.Prelude.{◌&&◌, ◌==◌}
+use Rattle.std.specs.List.{find}
+use Rattle.std.proofs.lemmas.Bool.{and_parts, eqb-true}
 use Rattle.std.specs.Prelude.{IfSome}
 use Rattle.tword.specs.declared.kind.Kind.{Kind}
 use Rattle.tword.specs.declared.span.Span.{Span}
@@ -15,14 +18,14 @@ use Rattle.tcode.specs.declared.instruction.Function.{Function}
 use Rattle.tcode.specs.declared.instruction.Function.TheVariants as function
 use Rattle.tcode.specs.declared.instruction.Operation.{Operation}
 use Rattle.tcode.specs.declared.instruction.Operation.TheVariants as op
-use Rattle.tcode.specs.Table.{operation_at}
+use Rattle.tcode.specs.Table.{all_operations, is_of, operation_at, operation_entry}
 use Rattle.tcpu.specs.declared.registers.Registers.{Registers}
 use Rattle.tcpu.specs.declared.registers.Next.{Next}
 use Rattle.tcpu.specs.Outcomes.{Outcome}
 use Rattle.tcpu.specs.Functions.{function_effect}
 use Rattle.tcpu.specs.Operations.{operation_effect, looped, is_positive_word}
 use Rattle.tcpu.specs.Effects.{local_or_left, selected_effect, effect_at}
-use Rattle.tcpu.specs.Written.{written, written_by}
+use Rattle.tcpu.specs.Written.{nothing, written, written_by}
 
 -- a span lies in itself
 whole : (p : Span) → IsPart p p
@@ -99,3 +102,34 @@ pub outside_at : (kind : Kind) (f : Function) (k iptr : ℕ) (b r : Registers) (
 outside_at kind f k iptr b r c s s' next small e =
     run_from-outside (written kind f k b) (effect_at kind f k b (record b { iptr = iptr })) s s c (r, next) s' refl
     (effect_at-within (length s) c kind f k iptr b small) e
+
+-- the operation that an operand selects has it as its code
+found_by : (p : Operation → Bool) (os : List Operation) (o : Operation) → find p os ≡ Some o → p o ≡ true
+found_by p [] o e = cc
+found_by p (x ∷ os) o e = by (p x) refl e (found_by p os o)
+  where
+    by : (b : Bool) → p x ≡ b → cond b (Some x) (find p os) ≡ Some o → (find p os ≡ Some o → p o ≡ true) → p o ≡ true
+    by true is h more = let same : x ≡ o = cc in rw (← same) is
+    by false is h more = more h
+
+code_of : (kind : Kind) (operand : ℕ) (o : Operation) → operation_at kind operand ≡ Some o
+    → operand ≡ (operation_entry o).code
+unfolding operation_at
+code_of kind operand o e =
+    sym (eqb-true (operation_entry o).code operand (and_parts (is_of o kind) _
+    (found_by (λ x. is_of x kind && (operation_entry x).code == operand) all_operations o e)).1)
+
+writes_but : (o : Option Operation) (r : Registers) → (o ≡ Some op.Lend → ⊥) → (o ≡ Some op.Sb → ⊥)
+    → (o ≡ Some op.Move → ⊥) → written_by o r ≡ nothing
+unfolding written_by
+writes_but (Some op.Lend) r l b m = absurd (l refl)
+writes_but (Some op.Sb) r l b m = absurd (b refl)
+writes_but (Some op.Move) r l b m = absurd (m refl)
+writes_but _ r l b m = refl
+
+-- an operation writes nothing but by three operands
+pub writes_nothing : (kind : Kind) (operand : ℕ) (r : Registers) → operand ≢ 0x21 → operand ≢ 0x3b → operand ≢ 0x4a
+    → written_by (operation_at kind operand) r ≡ nothing
+writes_nothing kind operand r l b m =
+    writes_but (operation_at kind operand) r (λ e. l (code_of kind operand op.Lend e))
+    (λ e. b (code_of kind operand op.Sb e)) (λ e. m (code_of kind operand op.Move e))

@@ -1,7 +1,8 @@
 //! Which bytes an instruction may write.
 
-ghost use Rattle.std.specs.Prelude.{◌≡◌, false};
+ghost use Rattle.std.specs.Prelude.{◌≡◌, ◌≢◌, false};
 ghost use Rattle.tcpu.specs.Written.{nothing};
+ghost use Rattle.tword.specs.declared.kind.Kind.{Kind};
 ghost use Rattle.tcpu.specs.declared.registers.Registers as declared;
 ghost use Rattle.tcpu.specs.Written as spec;
 
@@ -10,21 +11,28 @@ use crate::word_arithmetic::word_address;
 use tcode::{Function, Instruction, Operation, operation_of};
 use tword::{Kind, Span, Word};
 
-/// Whether an instruction may write bytes, whatever the registers.
+/// Whether an instruction may write bytes, whatever the registers and the kind of the node.
 #[inline(always)]
-#[tactic(auto, unfolding(crate::specs::Written::written, crate::specs::Written::written_by))]
-pub fn may_write(instruction: Instruction, kind: Kind) -> bool
-    ensures { result ≡ false → (r : declared.Registers)
+#[tactic(auto, using(crate::proofs::Writing::writes_nothing), unfolding(crate::specs::Written::written))]
+pub fn may_write(instruction: Instruction) -> bool
+    ensures { result ≡ false → (kind : Kind) (r : declared.Registers)
         → spec.written kind instruction.function instruction.operand r ≡ nothing }
 {
     match instruction.function {
         Function::Stl | Function::Stnl | Function::Call => true,
-        Function::Opr => matches!(
-            operation_of(instruction.operand, kind),
-            Some(Operation::Sb | Operation::Lend | Operation::Move)
-        ),
+        Function::Opr => writes_by_operand(instruction.operand.get()),
         _ => false,
     }
+}
+
+/// Whether an operand selects `lend`, `sb` or `move`.
+#[inline(always)]
+fn writes_by_operand(operand: u32) -> bool
+    ensures lend { result ≡ false → operand ≢ 0x21 }
+    ensures sb { result ≡ false → operand ≢ 0x3b }
+    ensures copy { result ≡ false → operand ≢ 0x4a }
+{
+    operand == 0x21 || operand == 0x3b || operand == 0x4a
 }
 
 /// The bytes that an instruction may write, from the registers before it: `local` leaves all others as they are. Iptr

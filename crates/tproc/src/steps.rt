@@ -94,13 +94,13 @@ fn perform(state: &mut State, claimed: &mut ClaimedMemory, i: &Instruction) -> R
 }
 
 /// Forgets decoded code of the bytes that an instruction may write, from the registers before it.
-// Most instructions write nothing, and ask no more.
+// Where nothing is kept, and for most instructions, nothing more is asked.
 #[inline(always)]
 fn forget_written(codes: &mut CodeTable, registers: &Registers, i: &Instruction, kind: Kind)
     ensures { AreForgotten (written_bytes kind i.now.function i.now.operand registers.now) codes.old.entries.items
         codes.new.entries.items }
 {
-    if may_write(*i, kind) {
+    if codes.may_keep_any() && may_write(*i) {
         forget_written_closely(codes, registers, i, kind);
     }
 }
