@@ -14,7 +14,7 @@ use Rattle.tcode.specs.declared.code_table.CodeEntry.{CodeEntry}
 
 -- how many entries a table has
 abbrev pub entry_count : ℕ
-entry_count = 1024
+entry_count = 256
 
 -- the place of the word of an address among the words that programs may use
 abbrev pub word_place : ℕ → ℕ

@@ -23,7 +23,7 @@ use tword::limits::{MEM_START, MOST_NEG};
 use tword::{Marks, Memory, Word};
 
 /// How many entries a table has (own choice).
-const ENTRIES: usize = 1_024;
+const ENTRIES: usize = 256;
 
 /// An instruction that was decoded, with its bytes: one or two, or none, where nothing is kept.
 #[derive(Clone, Copy, Debug)]

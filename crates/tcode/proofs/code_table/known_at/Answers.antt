@@ -9,7 +9,7 @@ use Rattle.tcode.proofs.code_table.known_at.Goals as goal
 pub returns-then-eq : goal.returns-then-eq
 returns-then-eq c =
     let e : CodeEntry = c.in_ok-entry.entry.now in
-    let place = c.get.result % 1024 in
+    let place = c.get.result % 256 in
     let look = c.in_ok-entry.ensures.lookup in
     let at : slice_get c.args.entries.now place ≡ Some e =
     slice_get_read c.args.entries.now (length c.args.entries.now) place e refl (ltb-true _ _ (sym look.0))

@@ -16,7 +16,7 @@ not_same a b same differs = ff (differs ∙ eq-eqb a b same)
 pub invariant_of-self : goal.invariant_of-self
 invariant_of-self c =
     let old = c.args.self.now in
-    let place : ℕ = c.get.result % 1024 in
+    let place : ℕ = c.get.result % 256 in
     record {
       coded =
           set_all (λ k e. TellsItsBytes e × OfEachByte (IsMarked old.words.items) e) old.entries.items place
@@ -31,13 +31,13 @@ invariant_of-self c =
 pub returns-then-eq-clause-dropped : goal.returns-then-eq-clause-dropped
 returns-then-eq-clause-dropped c =
     let old = c.args.self.now in
-    dropped old.low old.last old.entries.items old.placed (c.get.result % 1024) c.args.address
+    dropped old.low old.last old.entries.items old.placed (c.get.result % 256) c.args.address
     (ap (λ n. n % entry_count) c.get.ensures) c.none.result c.none.ensures.none
 
 pub returns-else-place-len-clause-dropped : goal.returns-else-place-len-clause-dropped
 returns-else-place-len-clause-dropped c =
     let old = c.args.self.now in
-    let place : ℕ = c.get.result % 1024 in
+    let place : ℕ = c.get.result % 256 in
     let there : place ≡ c.args.address % entry_count = ap (λ n. n % entry_count) c.get.ensures in
     elim c.else-place-len.branch [
       | else-place-len-via-then-place-len+else-eq w ↦

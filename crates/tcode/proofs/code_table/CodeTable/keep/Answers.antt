@@ -7,7 +7,7 @@ use Rattle.tcode.proofs.code_table.CodeTable.keep.Goals as goal
 pub invariant_of-self : goal.invariant_of-self
 invariant_of-self c =
     let new = c.mark_bytes.new.self in
-    let place : ℕ = c.get.result % 1024 in
+    let place : ℕ = c.get.result % 256 in
     record {
       coded =
           set_all (λ k e. TellsItsBytes e × OfEachByte (IsMarked new.words.items) e) new.entries.items place c.args.entry
@@ -21,5 +21,5 @@ invariant_of-self c =
 
 pub returns-then-mark_bytes : goal.returns-then-mark_bytes
 returns-then-mark_bytes c = λ store claims old whole.
-    set_all (λ k e. IsFetchedWhole store claims e) c.mark_bytes.new.self.entries.items (c.get.result % 1024) c.args.entry
+    set_all (λ k e. IsFetchedWhole store claims e) c.mark_bytes.new.self.entries.items (c.get.result % 256) c.args.entry
     (rw c.mark_bytes.ensures.same old) whole
