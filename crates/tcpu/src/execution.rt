@@ -15,6 +15,7 @@ ghost use Rattle.tcpu.specs.Written.{written};
 ghost use Rattle.tword.specs.Open.{AreOpenCounts};
 ghost use Rattle.tword.specs.Outside.{StandsOutside};
 ghost use Rattle.tcode.specs.Table.{function_at, operation_at};
+ghost use Rattle.tcode.specs.declared.instruction.Function.TheVariants.{Opr};
 
 use crate::registers::{Next, Registers, Step};
 use tcode::{CodeEntry, CodeTable, Function, Instruction, Operation, known_at, operation_of};
@@ -117,16 +118,38 @@ fn act(
         Function::Eqc => Ok(registers.equals_constant(operand)),
         Function::Stl => registers.store_local(memory, marks, operand),
         Function::Stnl => registers.store_non_local(memory, marks, operand),
-        Function::Opr => match operation_of(operand, *kind) {
-            Some(operation) => operate(registers, memory, marks, start, operation),
-            // Whoever makes an instruction without decoding it may name an operation that the kind does not have.
-            None => Err(Break::NoSuchOperation),
+        // So that the answer of this call alone lies in memory.
+        Function::Opr => match operate_apart(kind, registers, memory, marks, start, operand) {
+            Ok(next) => Ok(next),
+            Err(broken) => Err(broken),
         },
     }
 }
 
+/// Does the operation that an operand selects, or leaves it to the scheduler, out of line.
+#[inline(never)]
+fn operate_apart(
+    kind: &Kind,
+    registers: &mut Registers,
+    memory: &mut Bytes,
+    marks: &Marks,
+    start: Word,
+    operand: Word,
+) -> Step
+    ensures done { run (effect_at kind.now Opr operand (record registers.old { iptr = start }) registers.old) memory.old
+        marks.now ≡ outcome_of result registers.new memory.new }
+    ensures kept { OnErr result ((memory.new ≡ memory.old) × (registers.new ≡ registers.old)) }
+    ensures sized { length memory.new ≡ length memory.old }
+{
+    match operation_of(operand, *kind) {
+        Some(operation) => operate(registers, memory, marks, start, operation),
+        // Whoever makes an instruction without decoding it may name an operation that the kind does not have.
+        None => Err(Break::NoSuchOperation),
+    }
+}
+
 /// Does an operation, or leaves it to the scheduler.
-#[inline]
+#[inline(always)]
 #[tactic(auto, unfolding(crate::specs::Operations::operation_effect))]
 fn operate(
     registers: &mut Registers,
