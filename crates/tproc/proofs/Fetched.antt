@@ -1,5 +1,5 @@
 -- What is kept as decoded code is still fetched, where it has no byte of what has changed.
-use Rattle.std.proofs.Common.{◌≡◌, ℕ, zero, suc, refl, sym, ◌∙◌, List, [], ◌∷◌, length, set, Bool, true}
+use Rattle.std.proofs.Common.{◌≡◌, ◌≤◌, ℕ, zero, suc, refl, sym, ◌∙◌, List, [], ◌∷◌, length, set, Bool, true}
 use Rattle.std.proofs.Common.{false, not, Option, Some, None, arith}
 use Rattle.std.specs.Prelude.{◌==◌, unwrap_or}
 use Rattle.std.specs.List.{list_any}
@@ -9,8 +9,12 @@ use Rattle.tword.specs.Accesses.{Frees, with_input, with_output, without_input, 
 use Rattle.tword.specs.Claims.{Claims, has_saved, is_input, is_saved, overlap, overlaps_claim, saved_words, saving}
 use Rattle.tword.specs.Outside.{StandsOutside}
 use Rattle.tword.specs.Stores.{Store, byte_at, with_cells}
-use Rattle.tword.specs.Touches.{Reads, byte_span, is_inside, span_break}
-use Rattle.tword.specs.Words.{plus}
+use Rattle.tword.specs.Actions.{is_slot}
+use Rattle.tword.specs.Touches.{Reads, byte_span, is_inside, span_break, word_span}
+use Rattle.tword.specs.Words.{plus, word_below}
+use Rattle.tword.proofs.Blind.{Clear}
+use Rattle.tword.proofs.Descheduling.{saved_word-clear}
+use Rattle.tword.proofs.Hiding.{overlap-parts, overlap_back}
 use Rattle.tword.proofs.Outside.{outside_cells}
 use Rattle.tword.proofs.Passing.{Passes, span_break-none}
 use Rattle.tcpu.specs.Written.{nothing}
@@ -48,9 +52,9 @@ kept_fetched span old new s t c d each forgotten fetched k e there =
     }
 
 -- where nothing is forgotten all bytes have to be
-all_fetched : (entries : List CodeEntry) (s : Store) (c d : Claims)
-    → ((a b : ℕ) → IsFetched s c a b → IsFetched s d a b) → AreFetched entries s c → AreFetched entries s d
-all_fetched entries s c d each fetched k e there =
+all_fetched : (entries : List CodeEntry) (s t : Store) (c d : Claims)
+    → ((a b : ℕ) → IsFetched s c a b → IsFetched t d a b) → AreFetched entries s c → AreFetched entries t d
+all_fetched entries s t c d each fetched k e there =
     record {
       first = λ l. each e.address e.first ((fetched k e there).first l);
       second = λ l. each (plus e.address 1) e.second ((fetched k e there).second l);
@@ -77,6 +81,70 @@ pub fetched_cells : (a m : ℕ) (put : Store) (old new : List CodeEntry) (s t : 
     → AreFetched new t c
 fetched_cells a m put old new s t c made size inside same =
     fetched_outside (record { start = a; size = m }) old new s t c same (rw made (outside_cells s a m put size inside))
+
+-- ---- what no fetch finds
+
+-- a byte that is fetched passes its touch
+fetched_passes : (s : Store) (c : Claims) (a b : ℕ) → IsFetched s c a b → Passes (length s) c Reads (byte_span a)
+fetched_passes s c a b h = span_break-none (length s) c Reads (byte_span a) (or_break-ok _ _ _ h).0
+
+-- so it is in no saved word, nor in a span within the three of a workspace
+not_saved : (s : Store) (c : Claims) (w a b : ℕ) → has_saved c w ≡ true → IsFetched s c a b
+    → overlap (saved_words w) (byte_span a) ≡ false
+not_saved s c w a b saved h = overlap_back (byte_span a) (saved_words w) (by (overlap (byte_span a) (saved_words w)) refl)
+  where
+    by : (t : Bool) → overlap (byte_span a) (saved_words w) ≡ t → overlap (byte_span a) (saved_words w) ≡ false
+    by false e = e
+    by true e =
+        absurd (both_ways (is_saved c (byte_span a)) (fetched_passes s c a b h).unsaved
+        (found (λ v. overlap (byte_span a) (saved_words v)) w c.saved e saved))
+
+not_slot : (s : Store) (c : Claims) (w k a b : ℕ) → length s ≤ 16777216 → is_slot k ≡ true
+    → is_inside (length s) (saved_words w) ≡ true → has_saved c w ≡ true → IsFetched s c a b
+    → overlap (byte_span a) (word_span (word_below w k)) ≡ false
+not_slot s c w k a b small slot inside saved h =
+    let clear : list_any (overlaps_claim (saved_words w)) (Some (byte_span a) ∷ []) ≡ false =
+    rw (not_saved s c w a b saved h) refl in
+    let p : Clear (length s) (Some (byte_span a) ∷ []) (word_span (word_below w k)) =
+    saved_word-clear (Some (byte_span a) ∷ []) (length s) w k (omega (arith, small)) inside slot clear in
+    overlap_back (word_span (word_below w k)) (byte_span a)
+    (or_parts (overlap (word_span (word_below w k)) (byte_span a)) false p.apart).0
+
+-- nor is it one of a pending input
+not_input : (s : Store) (c : Claims) (i a b : ℕ) → is_input c (byte_span i) ≡ true → IsFetched s c a b
+    → overlap (byte_span a) (byte_span i) ≡ false
+not_input s c i a b input h = by (overlap (byte_span a) (byte_span i)) refl
+  where
+    by : (t : Bool) → overlap (byte_span a) (byte_span i) ≡ t → overlap (byte_span a) (byte_span i) ≡ false
+    by false e = e
+    by true e =
+        let p = overlap-parts (byte_span a) (byte_span i) e in
+        let same : a ≡ i = omega (arith, p.2, p.3) in
+        absurd (both_ways (is_input c (byte_span i)) (rw same at (fetched_passes s c a b h).still) input)
+
+-- so what is set in a saved word leaves all that is fetched
+pub fetched_beside_slot : (w k : ℕ) (put : Store) (entries : List CodeEntry) (s t : Store) (c : Claims)
+    → length s ≤ 16777216 → is_slot k ≡ true → is_inside (length s) (saved_words w) ≡ true → has_saved c w ≡ true
+    → t ≡ with_cells s (word_below w k) put → length put ≡ 4
+    → is_inside (length s) (word_span (word_below w k)) ≡ true → length t ≡ length s → AreFetched entries s c
+    → AreFetched entries t c
+fetched_beside_slot w k put entries s t c small slot lies saved made size inside same =
+    let stands : StandsOutside (word_span (word_below w k)) s t =
+    rw made (outside_cells s (word_below w k) 4 put size inside) in
+    all_fetched entries s t c c
+    (λ a b h. fetched_alike s t c c a b same (stands a (not_slot s c w k a b small slot lies saved h)) (λ i. i) (λ i. i) h)
+
+-- and so does a byte of a pending input
+pub fetched_beside_input : (i : ℕ) (put : Store) (entries : List CodeEntry) (s t : Store) (c : Claims)
+    → is_input c (byte_span i) ≡ true → t ≡ with_cells s i put → length put ≡ 1
+    → is_inside (length s) (byte_span i) ≡ true → length t ≡ length s → AreFetched entries s c
+    → AreFetched entries t c
+fetched_beside_input i put entries s t c input made size inside same =
+    let stands : StandsOutside (byte_span i) s t = rw made (outside_cells s i 1 put size inside) in
+    all_fetched entries s t c c
+    (λ a b h. fetched_alike s t c c a b same (stands a (not_input s c i a b input h)) (λ i. i) (λ i. i) h)
+
+-- ---- what claims change
 
 -- the words of one more workspace are saved
 pub fetched_saving : (w : ℕ) (old new : List CodeEntry) (s : Store) (c : Claims)
@@ -105,7 +173,7 @@ fetched_input l span old new s c =
 pub fetched_without_input : (l : ℕ) (entries : List CodeEntry) (s : Store) (c : Claims) → AreFetched entries s c
     → AreFetched entries s (without_input l c)
 fetched_without_input l entries s c =
-    all_fetched entries s c (without_input l c)
+    all_fetched entries s s c (without_input l c)
     (λ a b. fetched_alike s s c (without_input l c) a b refl refl
     (with_claim (overlaps_claim (byte_span a)) c.inputs l None refl) (λ h. h))
 
@@ -113,13 +181,13 @@ fetched_without_input l entries s c =
 pub fetched_output : (l : ℕ) (span : Span) (entries : List CodeEntry) (s : Store) (c : Claims)
     → AreFetched entries s c → AreFetched entries s (with_output l span c)
 fetched_output l span entries s c =
-    all_fetched entries s c (with_output l span c)
+    all_fetched entries s s c (with_output l span c)
     (λ a b. fetched_alike s s c (with_output l span c) a b refl refl (λ h. h) (λ h. h))
 
 pub fetched_without_output : (l : ℕ) (entries : List CodeEntry) (s : Store) (c : Claims) → AreFetched entries s c
     → AreFetched entries s (without_output l c)
 fetched_without_output l entries s c =
-    all_fetched entries s c (without_output l c)
+    all_fetched entries s s c (without_output l c)
     (λ a b. fetched_alike s s c (without_output l c) a b refl refl (λ h. h) (λ h. h))
 
 -- the words of a workspace are free
@@ -138,7 +206,7 @@ fewer_saved f old (x ∷ new) among h =
 pub fetched_freed : (w : ℕ) (entries : List CodeEntry) (s : Store) (c d : Claims) → Frees w c d
     → d.inputs ≡ c.inputs → AreFetched entries s c → AreFetched entries s d
 fetched_freed w entries s c d frees inputs =
-    all_fetched entries s c d
+    all_fetched entries s s c d
     (λ a b. fetched_alike s s c d a b refl refl (λ h. rw inputs h)
     (fewer_saved (λ v. overlap (byte_span a) (saved_words v)) c.saved d.saved
     (λ v k. (and_parts (not (v == w)) (has_saved c v) (sym (frees v) ∙ k)).1)))

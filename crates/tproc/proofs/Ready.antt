@@ -4,16 +4,17 @@ use Rattle.std.proofs.Common.{[], ◌∷◌, ◌||◌, ◌==◌, Bool, true, fal
 use Rattle.std.proofs.Common.{get_or, arith}
 use Rattle.std.specs.Prelude.{IfSome, IfOk, IsSome, All, find, option_map, nat_le, unwrap_or}
 use Rattle.std.specs.List.{list_any}
-use Rattle.std.proofs.lemmas.Bool.{eq-eqb, or_right, leb-true, leb-false}
+use Rattle.std.proofs.lemmas.Bool.{both_ways, eq-eqb, or_right, leb-true, leb-false}
 use Rattle.tword.specs.declared.breaks.Break.{Break}
 use Rattle.tword.specs.Words.{most_neg}
 use Rattle.tword.specs.Stores.{Store, place, word_at, byte_at, with_word, with_cells, as_cells, cells}
-use Rattle.tword.specs.Claims.{Claims, overlap, saved_words, saving}
+use Rattle.tword.specs.Claims.{Claims, is_input, overlap, saved_words, saving}
 use Rattle.tword.specs.Touches.{Writes, is_inside, span_break, word_break, byte_span, deschedule_break, copy_break}
 use Rattle.tword.specs.Actions.{Action, answer, breaks, requiring, unmet, touching_word, touching_byte, touching}
 use Rattle.tword.specs.Actions.{writing_word, writing_byte, copying, descheduling, reading_saved, setting_saved, unless}
 use Rattle.tword.specs.Actions.{run, run_from, saved_word_at, with_saved_word, set_saved_word, ◌>>=◌, value_of}
 use Rattle.tword.proofs.Answering.{answering, run_from-answering}
+use Rattle.tword.proofs.Hiding.{overlap-from}
 use Rattle.tword.proofs.SameClaims.{SameClaims, run_from-same}
 use Rattle.tcode.specs.declared.instruction.Instruction.{Instruction}
 use Rattle.tcode.specs.Decoding.{decode}
@@ -24,7 +25,7 @@ use Rattle.tproc.specs.declared.waiter.LinkEnd.{LinkEnd}
 use Rattle.tproc.specs.declared.waiter.Reason.{Reason}
 use Rattle.tproc.specs.declared.waiter.Reason.TheVariants.{LinkInput, LinkOutput}
 use Rattle.tproc.specs.declared.waiter.Waiter.{Waiter}
-use Rattle.tproc.specs.Machine.{Control, Machine, workspace_of, descheduled, claims_of}
+use Rattle.tproc.specs.Machine.{Control, Machine, buffer_of, workspace_of, descheduled, claims_of}
 use Rattle.tproc.specs.ProcessStatus.{is_among, reason_of}
 use Rattle.tproc.specs.Queues.{iptr_word, admit, enqueue, add_process}
 use Rattle.tproc.specs.LinkChannels.{link_end, quiet_end}
@@ -38,6 +39,7 @@ use Rattle.tproc.specs.Agreement.{Agrees}
 use Rattle.tproc.specs.declared.engine.Engine.{Engine}
 use Rattle.tproc.specs.Doing.{CameOf, Does, Stepped, as_step, adding, machine_of}
 use Rattle.tproc.proofs.ClaimState.{HasWaiter}
+use Rattle.tproc.proofs.LinkClaims.{apart_from_input}
 use Rattle.tproc.proofs.Pending.{at_some}
 use Rattle.tproc.proofs.Occurs.{found}
 use Rattle.tproc.proofs.Opening.{added_keeps_placed, loaded_keeps_placed}
@@ -202,6 +204,19 @@ input_byte n l k o p e h =
     let b : (most_neg ≤ o.buffer) × (place o.buffer + o.length ≤ length n.store) =
     buffer_inside (length n.store) o w.1 in
     (omega (arith, b.0, h), omega (arith, b.0, b.1, h))
+
+-- and is claimed as one of an input
+pub input_byte_claimed : (c : Claims) (m : Control) (l k : ℕ) (o : Offer) → Agrees c m → (link_end m l).input ≡ Some o
+    → k < o.length → is_input c (byte_span (o.buffer + k)) ≡ true
+input_byte_claimed c m l k o agrees e h = by (is_input c (byte_span (o.buffer + k))) refl
+  where
+    by : (b : Bool) → is_input c (byte_span (o.buffer + k)) ≡ b → is_input c (byte_span (o.buffer + k)) ≡ true
+    by true f = f
+    by false f =
+        absurd (both_ways (overlap (byte_span (o.buffer + k)) (buffer_of o))
+        (apart_from_input (byte_span (o.buffer + k)) m.links l o e (rw agrees.on.inputs at f))
+        (overlap-from (byte_span (o.buffer + k)) (buffer_of o) (omega arith) (omega (arith, h)) (omega (arith, h))
+        (omega arith)))
 
 -- parts of an action may be joined in any way
 module _ {A B C : Type 0} (f : A → Action B) (g : B → Action C) where

@@ -6,7 +6,7 @@ ghost use Rattle.tword.specs.Accesses.{Changing, Frees, IsMemorySize, no_claims,
 ghost use Rattle.tword.specs.Accesses.{without_output, without_input};
 ghost use Rattle.tword.specs.declared.breaks.Break.TheVariants.{SavedWord};
 ghost use Rattle.tword.specs.Stores.{word_at, with_word, with_cells, cells, as_cells, byte_at};
-ghost use Rattle.tword.specs.Claims.{saving, has_saved, saved_words, overlap};
+ghost use Rattle.tword.specs.Claims.{saving, has_saved, is_input, saved_words, overlap};
 ghost use Rattle.tword.specs.Touches.{Reads, Writes, claim_break, span_break, word_break, copy_break};
 ghost use Rattle.tword.specs.Touches.{deschedule_break};
 ghost use Rattle.tword.specs.Touches.{is_inside, byte_span};
@@ -278,7 +278,8 @@ impl ClaimedMemory {
         self.memory.bytes.word(workspace.below(k))
     }
 
-    /// Sets word `-k` of a workspace whose words are saved.
+    /// Sets word `-k` of a workspace whose words are saved. No decoded code is forgotten: no byte of a saved word is
+    /// fetched.
     #[tactic(auto, using(crate::proofs::Touching::saved_word_inside))]
     pub fn set_saved_word(&mut self, workspace: Word, k: u32, value: Word)
         requires slot { is_slot k ≡ true }
@@ -287,9 +288,7 @@ impl ClaimedMemory {
         ensures shape { KeepsShape self.old.memory self.new.memory }
         ensures claims { self.new.marks ≡ self.old.marks }
     {
-        let word = workspace.below(k);
-        self.memory.bytes.set_word(word, value);
-        self.codes.forget(word, 4);
+        self.memory.bytes.set_word(workspace.below(k), value);
     }
 
     /// A link claims the buffer of its pending output.
@@ -340,15 +339,15 @@ impl ClaimedMemory {
         self.codes.forget(start, bytes.len() as u32);
     }
 
-    /// Sets a byte of the memory.
-    pub fn set_byte(&mut self, address: Word, byte: u8)
-        requires { is_inside (length self.old.memory.bytes) (byte_span address) ≡ true }
+    /// Sets a byte in the buffer of a pending input. No decoded code is forgotten: no such byte is fetched.
+    pub fn set_input_byte(&mut self, address: Word, byte: u8)
+        requires inside { is_inside (length self.old.memory.bytes) (byte_span address) ≡ true }
+        requires input { is_input self.old.marks (byte_span address) ≡ true }
         ensures cells { self.new.memory.bytes ≡ with_cells self.old.memory.bytes address (as_cells (byte ∷ [])) }
         ensures shape { KeepsShape self.old.memory self.new.memory }
         ensures claims { self.new.marks ≡ self.old.marks }
     {
         self.memory.bytes.set_byte(address, byte);
-        self.codes.forget(address, 1);
     }
 
     /// The byte at an address, and `None` outside the memory alone.

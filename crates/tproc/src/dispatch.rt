@@ -38,6 +38,8 @@ pub fn start_queued(
 
 impl Engine {
     /// The first process that may run is dispatched: a high one, the interrupted one, a low one.
+    // In line, so that it costs little where there is none.
+    #[inline(always)]
     pub fn dispatch(&mut self) -> Ran
         requires { AreThreaded (machine_of self.old) }
         ensures { Does (dispatch self.old.state.high self.old.state) self.old (Ok result) self.new }

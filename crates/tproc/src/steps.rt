@@ -169,7 +169,8 @@ impl Engine {
         }
     }
 
-    /// An operation of the scheduler, whose instruction has this length.
+    /// An operation of the scheduler, whose instruction has this length, out of line.
+    #[inline(never)]
     fn scheduled(&mut self, o: Operation, priority: Priority, size: u8) -> Result<Ran, Break>
         requires runs { RunsAt (number priority) self.old.state }
         ensures { Does (operation_step o (number priority) (counted_by o (number priority) (moved_on size
@@ -233,7 +234,11 @@ impl Engine {
                 self.jumped(priority);
                 Ok(Ran::Instruction)
             }
-            Next::Schedule(o) => self.scheduled(o, priority, i.length),
+            // So that the answer of this call alone lies in memory.
+            Next::Schedule(o) => match self.scheduled(o, priority, i.length) {
+                Ok(ran) => Ok(ran),
+                Err(broken) => Err(broken),
+            },
             Next::Halt => {
                 self.state.count_one(priority);
                 self.state.halt();
