@@ -8,6 +8,8 @@ use Rattle.tlink.specs.declared.event.Emitted.{Emitted}
 use Rattle.tlink.specs.declared.event.Mark.TheVariants.{Nothing, Halted}
 use Rattle.tlink.specs.declared.event.StepFault.{StepFault}
 use Rattle.tlink.specs.declared.event.StepFault.TheVariants.{NotEnabled, Frozen}
+use Rattle.tlink.specs.declared.links.Told.{Told}
+use Rattle.tlink.specs.declared.links.Told.TheVariants as told
 use Rattle.tlink.specs.Node.{NodeState, frozen}
 use Rattle.tlink.specs.Events.{Answer, node_left_by, node_answered}
 
@@ -29,3 +31,10 @@ run_told (Err b) = Err (Frozen b)
 abbrev pub run_left : Result Ran Break → NodeState → NodeState
 run_left (Ok r) n = n
 run_left (Err b) n = frozen b n
+
+-- what a caller of a node is told by what a run told
+abbrev pub told_answer : Told → Result Emitted StepFault
+told_answer told.Nothing = Ok (record { packet = None; mark = Nothing })
+told_answer told.Halted = Ok (record { packet = None; mark = Halted })
+told_answer told.NotEnabled = Err NotEnabled
+told_answer (told.Frozen b) = Err (Frozen b)

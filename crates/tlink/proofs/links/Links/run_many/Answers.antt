@@ -21,7 +21,8 @@ returns-in-Some c =
       broken = c.self.inside.broken;
     }) _ c.run_many-count.new.self c.run_many-count.result _ c.self.view_is refl
     (sym c.is_some-is_frozen.ensures ∙ c.if-is_frozen.false) c.run_many-count.ensures
-    (rw c.in-Some.is c.answered.ensures.left) (rw c.in-Some.is (ap (λ a. Some a) c.answered.ensures.told))
+    (rw c.in-Some.is c.told.ensures.left)
+    (rw c.in-Some.is (ap (λ a. Some a) (c.answer.ensures ∙ c.told.ensures.told)))
 
 pub returns-in-None : goal.returns-in-None
 returns-in-None c =
