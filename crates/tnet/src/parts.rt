@@ -209,16 +209,21 @@ impl NetParts {
         }
         match self.nodes[place].role() {
             Role::Processor(_) => self.step_any(event),
-            Role::Source(_) | Role::Sink(_) => self.step_script(event),
+            Role::Source(_) | Role::Sink(_) => {
+                // In memory of its own: so those of processors need none.
+                let answer = self.step_script(event.node, event.act);
+                answer
+            }
         }
     }
 
     /// Does one event of a script.
     #[inline(never)]
-    fn step_script(&mut self, event: Event) -> Result<Emitted, StepFault>
-        ensures { DoesEvent event (net_of_parts self.old) result (net_of_parts self.new) }
+    fn step_script(&mut self, node: u8, act: Act) -> Result<Emitted, StepFault>
+        ensures { DoesEvent (record { node = node; act = act }) (net_of_parts self.old) result
+            (net_of_parts self.new) }
     {
-        self.step_any(event)
+        self.step_any(Event { node, act })
     }
 
     /// Does one event of any node.
