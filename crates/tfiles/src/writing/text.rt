@@ -59,7 +59,7 @@ pub fn put_byte<W: CountedWrite>(out: &mut Output<'_, W>, byte: u8)
 }
 
 /// An end of a wire, as its node and its link.
-pub(crate) fn put_end<W: CountedWrite>(out: &mut Output<'_, W>, end: &End)
+pub fn put_end<W: CountedWrite>(out: &mut Output<'_, W>, end: &End)
     ensures { Tells W.contents W.failures out.old out.new (end_text end.now) }
 {
     put_decimal(out, u64::from(end.node));
