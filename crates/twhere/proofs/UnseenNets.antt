@@ -1,9 +1,9 @@
 -- The text of a net is the same where the buffers of pending inputs are hidden.
 use Rattle.std.proofs.Common.{◌≡◌, ℕ, zero, suc, ◌+◌, ◌%◌, ◌<◌, refl, sym, ap, ap₂, ◌∙◌, List, [], ◌∷◌, ◌++◌}
-use Rattle.std.proofs.Common.{length, get_or, true, Option, Some, None, Result, arith, subst, drop, take, length-append}
+use Rattle.std.proofs.Common.{length, get_or, true, Bool, Option, Some, None, Result, arith, subst, drop, take, length-append}
 use Rattle.std.specs.Prelude.{All, codes, fold, map, ◌==◌}
 use Rattle.std.specs.List.{list_any, position_or_len}
-use Rattle.std.specs.Prelude.{nat_le}
+use Rattle.std.specs.Prelude.{nat_le, if◌then◌else◌}
 use Rattle.std.proofs.lemmas.Bool.{eq-eqb, eqb-true}
 use Rattle.std.proofs.lemmas.List.{get_or_append_left, get_or-append-add, get_or-map, length-map}
 use Rattle.std.proofs.lemmas.List.Elements.{All-append, All-cons, All-drop, All-map, All-nil, All-tail, All-take}
@@ -23,15 +23,17 @@ use Rattle.tlink.specs.Roles.{Role, Processor, Source, Sink}
 use Rattle.tlink.specs.Node.{NodeState}
 use Rattle.tlink.specs.Whole.{IsHeld}
 use Rattle.tnet.specs.Net.{NetState}
-use Rattle.tnet.specs.Sound.{IsSoundNode}
+use Rattle.tnet.specs.Sound.{IsSound, IsSoundNode}
 use Rattle.tfiles.specs.Logs.{line}
 use Rattle.tfiles.specs.Texts.{node_line}
 use Rattle.twhere.specs.Standing.{by_descriptor, descriptors, fetched_text, flag_facts, inserted, interrupted_facts}
 use Rattle.twhere.specs.Standing.{links_facts, listed_of, node_where, place_text, priority_text, process_facts}
 use Rattle.twhere.specs.Standing.{processor_where, queue_facts, reason_text, register_facts, role_where, running_facts}
 use Rattle.twhere.specs.Standing.{waiting_facts}
-use Rattle.twhere.specs.Standing.{where_from, where_text, word_text}
+use Rattle.twhere.specs.Standing.{code_text, node_stuck, saved_iptr, stuck_text, texts_from, where_text, word_text}
 use Rattle.twhere.specs.Unseen.{HiddenIsUnseen, TextIsOfTheView, hidden_net, hidden_node}
+use Rattle.twhere.proofs.UnseenEvents.{quiet_same}
+use Rattle.twhere.proofs.UnseenWaits.{node_stuck_same}
 use Rattle.twhere.proofs.UnseenBytes.{fetched_same, iptr_same}
 
 -- each of a list is found in it
@@ -86,20 +88,26 @@ all_folded P sorted (w ∷ ws) h all = all_folded P (inserted sorted w) ws put (
         (All-cons P w (drop at sorted) (all zero w (omega arith)) (All-drop P at sorted h))
 
 -- what a process waits for
-reason_same : (s : NodeState) (r : Reason) → reason_text (hidden_node s) r ≡ reason_text s r
-reason_same s (Receives channel buffer length) = refl
-reason_same s (Sends channel buffer length) = refl
-reason_same s (LinkInput l) = refl
-reason_same s (LinkOutput l) = refl
-reason_same s Chooses = refl
+reason_same : (net : NetState) (k : ℕ) (s : NodeState) (r : Reason)
+    → reason_text (hidden_net net) k (hidden_node s) r ≡ reason_text net k s r
+reason_same net k s (Receives channel buffer length) = refl
+reason_same net k s (Sends channel buffer length) = refl
+reason_same net k s (LinkInput l) = refl
+reason_same net k s (LinkOutput l) = refl
+reason_same net k s Chooses = refl
 
 module _ (n : Machine) (claimed : IsClaimed n) (apart : AreApart (claims_of n.control)) where
+  -- an address, with the instruction there
+  code_same : (a : ℕ) → code_text (hidden n) a ≡ code_text n a
+  code_same a =
+      ap (λ (f : Result Instruction Break). word_text a ++ (codes ": " ++ fetched_text f))
+      (fetched_same n claimed apart a)
+
   -- a process with its registers
   process_same : (name : List ℕ) (p : ℕ) (r : Registers) → process_facts name (hidden n) p r ≡ process_facts name n p r
   process_same name p r =
-      ap (λ (f : Result Instruction Break). line (name ++ (word_text (r.wptr + p) ++ priority_text p))
-      ++ (line (codes "    Iptr        " ++ (word_text r.iptr ++ (codes ": " ++ fetched_text f)))
-      ++ (register_facts r ++ flag_facts r))) (fetched_same n claimed apart r.iptr)
+      ap (λ (t : List ℕ). line (name ++ (word_text (r.wptr + p) ++ priority_text p))
+      ++ (line (codes "    Iptr        " ++ t) ++ (register_facts r ++ flag_facts r))) (code_same r.iptr)
 
   pub running_same : (current : Option ℕ) → running_facts (hidden n) current ≡ running_facts n current
   running_same (Some p) = process_same (codes "  runs          ") p n.control.registers
@@ -112,7 +120,9 @@ module _ (n : Machine) (claimed : IsClaimed n) (apart : AreApart (claims_of n.co
   -- a process that is queued or waits
   place_same : (process : ℕ) → IsSaved n process → place_text (hidden n) process ≡ place_text n process
   place_same process h =
-      ap (λ (i : ℕ). word_text process ++ (codes " Iptr " ++ word_text i)) (iptr_same n claimed apart process h)
+      ap (λ (i : ℕ). word_text process ++ (codes " Iptr " ++ code_text (hidden n) i))
+      (iptr_same n claimed apart process h)
+      ∙ ap (λ (t : List ℕ). word_text process ++ (codes " Iptr " ++ t)) (code_same (saved_iptr n process))
 
   pub queue_same : (name ps : List ℕ) → All (IsSaved n) ps → queue_facts name (hidden n) ps ≡ queue_facts name n ps
   queue_same name [] h = refl
@@ -139,20 +149,22 @@ module _ (n : Machine) (claimed : IsClaimed n) (apart : AreApart (claims_of n.co
       )
 
 -- those that wait
-waiting_same : (s : NodeState) → IsClaimed s.machine → AreApart (claims_of s.machine.control) → (ws : List Waiter)
-    → All (λ w. IsSaved s.machine w.process) ws → waiting_facts (hidden_node s) ws ≡ waiting_facts s ws
-waiting_same s claimed apart [] h = refl
-waiting_same s claimed apart (w ∷ ws) h =
+waiting_same : (net : NetState) (k : ℕ) (s : NodeState) → IsClaimed s.machine → AreApart (claims_of s.machine.control)
+    → (ws : List Waiter) → All (λ w. IsSaved s.machine w.process) ws
+    → waiting_facts (hidden_net net) k (hidden_node s) ws ≡ waiting_facts net k s ws
+waiting_same net k s claimed apart [] h = refl
+waiting_same net k s claimed apart (w ∷ ws) h =
     ap₂ (λ (a b : List ℕ). a ++ b)
-    (ap₂ (λ (a b : List ℕ). line (codes "  waits         " ++ (a ++ b)))
-    (place_same s.machine claimed apart w.process (h zero w (omega arith))) (reason_same s w.reason))
-    (waiting_same s claimed apart ws (All-tail (λ w. IsSaved s.machine w.process) w ws h))
+    (ap₂ (λ (a b : List ℕ). line (codes "  waits         " ++ (a ++ (codes ", " ++ b))))
+    (place_same s.machine claimed apart w.process (h zero w (omega arith))) (reason_same net k s w.reason))
+    (waiting_same net k s claimed apart ws (All-tail (λ w. IsSaved s.machine w.process) w ws h))
 
 -- a processor
-processor_same : (k : ℕ) (s : NodeState) → IsClaimed s.machine → AreApart (claims_of s.machine.control)
-    → processor_where k (hidden_node s) (listed_of s.machine.control)
-    ≡ processor_where k s (listed_of s.machine.control)
-processor_same k s claimed apart =
+processor_same : (net : NetState) (k : ℕ) (s : NodeState) → IsClaimed s.machine
+    → AreApart (claims_of s.machine.control)
+    → processor_where (hidden_net net) k (hidden_node s) (listed_of s.machine.control)
+    ≡ processor_where net k s (listed_of s.machine.control)
+processor_same net k s claimed apart =
     let all = queued_all s.machine claimed apart in
     let join : List ℕ → List ℕ → List ℕ = λ a b. a ++ b in
     ap (λ (t : List ℕ). node_line k s.broken s.machine.control.halted ++ t)
@@ -162,33 +174,45 @@ processor_same k s claimed apart =
     (queue_same s.machine claimed apart (codes "  high queue    ") (descriptors 0 s.machine.control.high) all.0)
     (ap₂ join
     (queue_same s.machine claimed apart (codes "  low queue     ") (descriptors 1 s.machine.control.low) all.1)
-    (waiting_same s claimed apart (by_descriptor s.machine.control.waiting) all.2)))))
+    (waiting_same net k s claimed apart (by_descriptor s.machine.control.waiting) all.2)))))
 
 -- of a source and a sink no byte is told
-role_same : (role : Role) (k : ℕ) (s : NodeState) → IsHeld role s.machine
-    → role_where role k (hidden_node s) (listed_of s.machine.control)
-    ≡ role_where role k s (listed_of s.machine.control)
-role_same Processor k s h = processor_same k s h.0 h.1
-role_same (Source done rest) k s h = refl
-role_same (Sink kept) k s h = refl
+role_same : (role : Role) (net : NetState) (k : ℕ) (s : NodeState) → IsHeld role s.machine
+    → role_where role (hidden_net net) k (hidden_node s) (listed_of s.machine.control)
+    ≡ role_where role net k s (listed_of s.machine.control)
+role_same Processor net k s h = processor_same net k s h.0 h.1
+role_same (Source done rest) net k s h = refl
+role_same (Sink kept) net k s h = refl
 
 -- a node
 node_same : (net : NetState) (k : ℕ) (s : NodeState) → IsSoundNode s
     → node_where (hidden_net net) k (hidden_node s) ≡ node_where net k s
 node_same net k s sound =
-    ap (λ (t : List ℕ). t ++ links_facts net k s) (role_same s.role k s sound.whole.held)
+    ap (λ (t : List ℕ). t ++ links_facts net k s) (role_same s.role net k s sound.whole.held)
 
--- the nodes from a number on
-where_same : (net : NetState) (k : ℕ) (nodes : List NodeState) → All IsSoundNode nodes
-    → where_from (hidden_net net) k (map hidden_node nodes) ≡ where_from net k nodes
-where_same net k [] h = refl
-where_same net k (s ∷ nodes) h =
-    ap₂ (λ (a b : List ℕ). a ++ b) (node_same net k s (h zero s (omega arith)))
-    (where_same net (suc k) nodes (All-tail IsSoundNode s nodes h))
+-- the texts of nodes, each of which is the same
+texts_same : (f g : ℕ → NodeState → List ℕ)
+    → ((k : ℕ) (s : NodeState) → IsSoundNode s → f k (hidden_node s) ≡ g k s)
+    → (k : ℕ) (nodes : List NodeState) → All IsSoundNode nodes
+    → texts_from f k (map hidden_node nodes) ≡ texts_from g k nodes
+texts_same f g same k [] h = refl
+texts_same f g same k (s ∷ nodes) h =
+    ap₂ (λ (a b : List ℕ). a ++ b) (same k s (h zero s (omega arith)))
+    (texts_same f g same (suc k) nodes (All-tail IsSoundNode s nodes h))
+
+-- those that wait at links
+stuck_same : (net : NetState) → IsSound net → stuck_text (hidden_net net) ≡ stuck_text net
+stuck_same net sound =
+    ap₂ (λ (b : Bool) (t : List ℕ). if b then t else []) (quiet_same net sound)
+    (texts_same (node_stuck (hidden_net net)) (node_stuck net) (λ k s h. node_stuck_same net k s) 0 net.nodes
+    sound.nodes)
 
 -- a net
 pub hidden_is_unseen : HiddenIsUnseen
-hidden_is_unseen net sound = where_same net 0 net.nodes sound.nodes
+hidden_is_unseen net sound =
+    ap₂ (λ (a b : List ℕ). a ++ b)
+    (texts_same (node_where (hidden_net net)) (node_where net) (node_same net) 0 net.nodes sound.nodes)
+    (stuck_same net sound)
 
 pub text_is_of_the_view : TextIsOfTheView
 text_is_of_the_view a b sound_a sound_b same =

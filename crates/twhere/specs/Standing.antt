@@ -1,5 +1,5 @@
 -- What is printed of where the processes and the links of a net stand: a line for each node, and below it a line for
--- each fact.
+-- each fact; behind the nodes, where no event is enabled, a line for each link that anyone waits for.
 -- Source: own choice, a format of this program; the names of registers, flags and queues are the Compiler Writer's
 -- Guide's (1988).
 use Rattle.std.specs.Prelude.{ℕ, zero, suc, ◌+◌, Bool, true, false, nat_le, List, [], ◌∷◌, ◌++◌, map, flat_map}
@@ -30,10 +30,20 @@ use Rattle.tlink.specs.Roles.{Role, Processor, Source, Sink}
 use Rattle.tlink.specs.Node.{NodeState, counts_at, input_at, output_at}
 use Rattle.tnet.specs.declared.inbox.Inbox.{Inbox}
 use Rattle.tnet.specs.Net.{NetState, four_links, inbox_at}
-use Rattle.tnet.specs.Wires.{end_at}
+use Rattle.tplan.specs.declared.plan.End.{End}
+use Rattle.tnet.specs.Wires.{end_at, far_ends}
+use Rattle.tnet.specs.Quiet.{is_quiet}
 use Rattle.tfiles.specs.Logs.{line}
-use Rattle.tfiles.specs.Texts.{break_name, node_line, source_line, sink_line}
+use Rattle.tfiles.specs.Texts.{break_name, end_text, node_line, source_line, sink_line}
 use Rattle.twhere.specs.declared.listing.Listed.{Listed}
+use Rattle.twhere.specs.declared.stuck.Who.{Who}
+use Rattle.twhere.specs.declared.stuck.Who.TheVariants.{Process, TheSource, TheSink}
+use Rattle.twhere.specs.declared.waits.Lack.{Lack}
+use Rattle.twhere.specs.declared.waits.Lack.TheVariants.{Frozen, Halted, Room, Partner}
+use Rattle.twhere.specs.declared.waits.Wait.{Wait}
+use Rattle.twhere.specs.declared.waits.Want.{Want}
+use Rattle.twhere.specs.declared.waits.Want.TheVariants.{Output, Input, Alternative}
+use Rattle.twhere.specs.Waits.{lack, sink_waits, source_waits, wait_at, waiter_waits}
 
 -- ---- words and instructions
 
@@ -53,6 +63,10 @@ fetched_text (Err b) = break_name b
 -- what a fetch at an address answers, by the kind of the node
 abbrev pub fetched_at : Machine → ℕ → Result Instruction Break
 fetched_at n iptr = value_of (run (decode n.control.kind iptr) n.store (claims_of n.control))
+
+-- an address, with the instruction there
+abbrev pub code_text : Machine → ℕ → List ℕ
+code_text n address = word_text address ++ (codes ": " ++ fetched_text (fetched_at n address))
 
 -- a byte of the store, 0 where there is none
 abbrev pub byte_there : Store → ℕ → ℕ
@@ -87,8 +101,7 @@ flag_facts r =
 
 -- Iptr, with the instruction there
 abbrev pub iptr_fact : Machine → ℕ → List ℕ
-iptr_fact n iptr =
-    line (codes "    Iptr        " ++ (word_text iptr ++ (codes ": " ++ fetched_text (fetched_at n iptr))))
+iptr_fact n iptr = line (codes "    Iptr        " ++ code_text n iptr)
 
 -- the registers A, B, C and Wptr
 abbrev pub register_facts : Registers → List ℕ
@@ -123,9 +136,9 @@ interrupted_facts n None = []
 abbrev pub descriptors : ℕ → List ℕ → List ℕ
 descriptors p workspaces = map (λ w. w + p) workspaces
 
--- a process and its Iptr
+-- a process and its Iptr, with the instruction there
 abbrev pub place_text : Machine → ℕ → List ℕ
-place_text n process = word_text process ++ (codes " Iptr " ++ word_text (saved_iptr n process))
+place_text n process = word_text process ++ (codes " Iptr " ++ code_text n (saved_iptr n process))
 
 -- a process that is queued
 abbrev pub queued_fact : List ℕ → Machine → ℕ → List ℕ
@@ -147,7 +160,7 @@ by_descriptor waiting = fold inserted [] waiting
 
 -- a message
 abbrev pub message_text : (buffer length : ℕ) → List ℕ
-message_text buffer length = codes " buffer " ++ (word_text buffer ++ (codes " length " ++ decimal length))
+message_text buffer length = codes ", buffer " ++ (word_text buffer ++ (codes " length " ++ decimal length))
 
 -- a message on an internal channel
 abbrev pub channel_text : (channel buffer length : ℕ) → List ℕ
@@ -158,29 +171,53 @@ abbrev pub offer_text : Option Offer → ℕ → List ℕ
 offer_text (Some o) over = message_text o.buffer o.length ++ (codes " over " ++ decimal over)
 offer_text None over = []
 
--- the input of a link
-abbrev pub link_input_text : NodeState → ℕ → List ℕ
-link_input_text n l = codes " input on link " ++ (decimal l ++ offer_text (input_at n l) (counts_at n l).got)
+-- what is waited for at a link
+abbrev pub want_text : Want → List ℕ
+want_text Output = codes "output"
+want_text Input = codes "input"
+want_text Alternative = codes "alternative"
+
+-- which way it goes: an output to the far end, all else from it
+abbrev pub way_text : Want → List ℕ
+way_text Output = codes " to "
+way_text Input = codes " from "
+way_text Alternative = codes " from "
+
+-- where the wire leads, if there is one
+abbrev pub wire_text : Want → Option End → List ℕ
+wire_text want (Some e) = way_text want ++ end_text e
+wire_text want None = codes ", no wire"
+
+-- a wait at a link with this far end
+abbrev pub wait_text : Wait → Option End → List ℕ
+wait_text w far = want_text w.want ++ (codes " on link " ++ (decimal w.link ++ wire_text w.want far))
+
+-- the input of a link of the node of this number
+abbrev pub link_input_text : NetState → ℕ → NodeState → ℕ → List ℕ
+link_input_text net k n l =
+    wait_text (wait_at Input l) (far_ends net.wires k l) ++ offer_text (input_at n l) (counts_at n l).got
 
 -- the output of a link
-abbrev pub link_output_text : NodeState → ℕ → List ℕ
-link_output_text n l = codes " output on link " ++ (decimal l ++ offer_text (output_at n l) (counts_at n l).acked)
+abbrev pub link_output_text : NetState → ℕ → NodeState → ℕ → List ℕ
+link_output_text net k n l =
+    wait_text (wait_at Output l) (far_ends net.wires k l) ++ offer_text (output_at n l) (counts_at n l).acked
 
 -- what a process waits for
-abbrev pub reason_text : NodeState → Reason → List ℕ
-reason_text n (Receives channel buffer length) = codes " input" ++ channel_text channel buffer length
-reason_text n (Sends channel buffer length) = codes " output" ++ channel_text channel buffer length
-reason_text n (LinkInput l) = link_input_text n l
-reason_text n (LinkOutput l) = link_output_text n l
-reason_text n Chooses = codes " alternative"
+abbrev pub reason_text : NetState → ℕ → NodeState → Reason → List ℕ
+reason_text net k n (Receives channel buffer length) = codes "input" ++ channel_text channel buffer length
+reason_text net k n (Sends channel buffer length) = codes "output" ++ channel_text channel buffer length
+reason_text net k n (LinkInput l) = link_input_text net k n l
+reason_text net k n (LinkOutput l) = link_output_text net k n l
+reason_text net k n Chooses = codes "alternative"
 
 -- a process that waits: its Iptr, and for what
-abbrev pub waiter_fact : NodeState → Waiter → List ℕ
-waiter_fact n w = line (codes "  waits         " ++ (place_text n.machine w.process ++ reason_text n w.reason))
+abbrev pub waiter_fact : NetState → ℕ → NodeState → Waiter → List ℕ
+waiter_fact net k n w =
+    line (codes "  waits         " ++ (place_text n.machine w.process ++ (codes ", " ++ reason_text net k n w.reason)))
 
 -- the processes of a list that wait, each on a line
-abbrev pub waiting_facts : NodeState → List Waiter → List ℕ
-waiting_facts n waiting = flat_map (waiter_fact n) waiting
+abbrev pub waiting_facts : NetState → ℕ → NodeState → List Waiter → List ℕ
+waiting_facts net k n waiting = flat_map (waiter_fact net k n) waiting
 
 -- ---- links
 
@@ -246,34 +283,106 @@ listed_of m =
     }
 
 -- a processor, with these lists of its processes
-abbrev pub processor_where : ℕ → NodeState → Listed → List ℕ
-processor_where k n listed =
+abbrev pub processor_where : NetState → ℕ → NodeState → Listed → List ℕ
+processor_where net k n listed =
     node_line k n.broken n.machine.control.halted
     ++ (running_facts n.machine n.machine.control.current
     ++ (interrupted_facts n.machine n.machine.control.interrupted
     ++ (queue_facts (codes "  high queue    ") n.machine listed.high
     ++ (queue_facts (codes "  low queue     ") n.machine listed.low
-    ++ waiting_facts n listed.waiting))))
+    ++ waiting_facts net k n listed.waiting))))
 
 -- what stands behind the links: a processor, with these lists of its processes, a source or a sink
-abbrev pub role_where : Role → ℕ → NodeState → Listed → List ℕ
-role_where Processor k n listed = processor_where k n listed
-role_where (Source over rest) k n listed = source_line k (length over) (length over + length rest)
-role_where (Sink kept) k n listed = sink_line k (length kept)
+abbrev pub role_where : Role → NetState → ℕ → NodeState → Listed → List ℕ
+role_where Processor net k n listed = processor_where net k n listed
+role_where (Source over rest) net k n listed = source_line k (length over) (length over + length rest)
+role_where (Sink kept) net k n listed = sink_line k (length kept)
 
 -- what stands behind the links of a node, and the links
 abbrev pub listed_where : NetState → ℕ → NodeState → Listed → List ℕ
-listed_where net k n listed = role_where n.role k n listed ++ links_facts net k n
+listed_where net k n listed = role_where n.role net k n listed ++ links_facts net k n
+
+-- ---- what is lacking, where the net is quiet
+
+-- a name with a number
+abbrev pub numbered : List ℕ → ℕ → List ℕ
+numbered name k = name ++ decimal k
+
+-- who waits, by the number of the node: a process, a source or a sink
+abbrev pub who_text : Who → ℕ → List ℕ
+who_text (Process process) k = word_text process ++ numbered (codes " of ") k
+who_text TheSource k = numbered (codes "source ") k
+who_text TheSink k = numbered (codes "sink ") k
+
+-- a node that does nothing, and why
+abbrev pub node_lacks : ℕ → List ℕ → List ℕ
+node_lacks n how = numbered (codes "node ") n ++ how
+
+-- the other half of a message is not there
+abbrev pub partner_text : Want → List ℕ
+partner_text Output = codes "no input there"
+partner_text Input = codes "no output there"
+partner_text Alternative = codes "no output there"
+
+-- a sink is full: at the far end of an output, or the one that waits itself
+abbrev pub room_text : Want → List ℕ
+room_text Output = codes "no room there"
+room_text Input = codes "no room here"
+room_text Alternative = codes "no room here"
+
+-- what is lacking
+abbrev pub lack_text : Want → Lack → List ℕ
+lack_text want (Frozen n) = node_lacks n (codes " is frozen")
+lack_text want (Halted n) = node_lacks n (codes " is halted")
+lack_text want Room = room_text want
+lack_text want Partner = partner_text want
+
+-- what is lacking behind a wire; a link without one is told as such already
+abbrev pub lacking_text : NetState → ℕ → NodeState → Want → Option End → List ℕ
+lacking_text net k n want (Some e) = codes ", " ++ lack_text want (lack net k n want e)
+lacking_text net k n want None = []
+
+-- one of a node waits at a link for ever
+abbrev pub stuck_fact : NetState → ℕ → NodeState → Who → Wait → List ℕ
+stuck_fact net k n who w =
+    line (codes "stuck "
+    ++ (who_text who k
+    ++ (codes ": "
+    ++ (wait_text w (far_ends net.wires k w.link) ++ lacking_text net k n w.want (far_ends net.wires k w.link)))))
+
+-- all links that one of a node waits for
+abbrev pub stuck_facts : NetState → ℕ → NodeState → Who → List Wait → List ℕ
+stuck_facts net k n who waits = flat_map (stuck_fact net k n who) waits
+
+-- a process that waits
+abbrev pub waiter_stuck : NetState → ℕ → NodeState → Waiter → List ℕ
+waiter_stuck net k n w = stuck_facts net k n (Process w.process) (waiter_waits n.machine.control w)
+
+-- what stands behind the links: the processes of this list, a source or a sink
+abbrev pub role_stuck : Role → NetState → ℕ → NodeState → List Waiter → List ℕ
+role_stuck Processor net k n waiting = flat_map (waiter_stuck net k n) waiting
+role_stuck (Source over rest) net k n waiting = stuck_facts net k n TheSource (source_waits n)
+role_stuck (Sink kept) net k n waiting = stuck_facts net k n TheSink (sink_waits n)
+
+-- ---- nodes
 
 -- a node
 abbrev pub node_where : NetState → ℕ → NodeState → List ℕ
 node_where net k n = listed_where net k n (listed_of n.machine.control)
 
--- the nodes from a number on
-abbrev pub where_from : NetState → ℕ → List NodeState → List ℕ
-where_from net k [] = []
-where_from net k (n ∷ ns) = node_where net k n ++ where_from net (suc k) ns
+-- those of a node that wait at links
+abbrev pub node_stuck : NetState → ℕ → NodeState → List ℕ
+node_stuck net k n = role_stuck n.role net k n (by_descriptor n.machine.control.waiting)
+
+-- the texts of the nodes from a number on
+abbrev pub texts_from : (ℕ → NodeState → List ℕ) → ℕ → List NodeState → List ℕ
+texts_from text k [] = []
+texts_from text k (n ∷ ns) = text k n ++ texts_from text (suc k) ns
+
+-- all that wait at links, where the net is quiet: nothing more happens by itself
+abbrev pub stuck_text : NetState → List ℕ
+stuck_text net = if is_quiet net then texts_from (node_stuck net) 0 net.nodes else []
 
 -- a net
 abbrev pub where_text : NetState → List ℕ
-where_text net = where_from net 0 net.nodes
+where_text net = texts_from (node_where net) 0 net.nodes ++ stuck_text net

@@ -40,10 +40,7 @@ pub(crate) fn put_if<W: CountedWrite>(out: &mut Output<'_, W>, condition: bool, 
 }
 
 /// What a fetch answers: an instruction, or the name of its break.
-pub(crate) fn put_fetched<W: CountedWrite>(
-    out: &mut Output<'_, W>,
-    fetched: &Result<Instruction, Break>,
-)
+pub fn put_fetched<W: CountedWrite>(out: &mut Output<'_, W>, fetched: &Result<Instruction, Break>)
     ensures { Tells W.contents W.failures out.old out.new (spec.fetched_text fetched.now) }
 {
     match fetched {
@@ -52,7 +49,20 @@ pub(crate) fn put_fetched<W: CountedWrite>(
     }
 }
 
-/// A process that is queued or waits, and its Iptr.
+/// An address, with the instruction there.
+pub(crate) fn put_code<W: CountedWrite>(
+    out: &mut Output<'_, W>,
+    processor: &Processor,
+    address: Word,
+)
+    ensures { Tells W.contents W.failures out.old out.new (spec.code_text processor.now address) }
+{
+    put_word(out, address);
+    out.put(b": ");
+    put_fetched(out, &processor.fetch_at(address));
+}
+
+/// A process that is queued or waits, and its Iptr, with the instruction there.
 pub(crate) fn put_place<W: CountedWrite>(
     out: &mut Output<'_, W>,
     processor: &Processor,
@@ -62,7 +72,7 @@ pub(crate) fn put_place<W: CountedWrite>(
 {
     put_word(out, process);
     out.put(b" Iptr ");
-    put_word(out, saved_iptr(processor, process));
+    put_code(out, processor, saved_iptr(processor, process));
 }
 
 /// The saved Iptr of a process that is queued or waits.

@@ -1,15 +1,19 @@
 //! Where the processes and the links of a net stand, as text: of each node the process that runs, the one that was
-//! interrupted, the queues, who waits and for what, and the links that are not at rest.
+//! interrupted, the queues, who waits and for what, and the links that are not at rest; and where no event is enabled,
+//! who waits at a link for ever, and what is lacking there.
 #![tactic(auto)]
 
 pub mod facts;
 pub mod laws;
 mod links;
 pub mod listing;
+mod net_node;
 mod processes;
-mod processor_node;
 pub mod standing;
+mod stuck;
+mod wait_text;
 mod waiting;
+mod waits;
 
 pub use facts::put_word;
 pub use listing::{Listed, list_net};

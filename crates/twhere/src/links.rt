@@ -1,8 +1,6 @@
 //! The links of a node that are not at rest.
 
-ghost use Rattle.std.specs.Prelude.{◌≡◌, ◌<◌, is_some};
-ghost use Rattle.tproc.specs.LinkChannels.{link_end};
-ghost use Rattle.tlink.specs.Node.{input_at, output_at};
+ghost use Rattle.std.specs.Prelude.{◌≡◌, ◌<◌};
 ghost use Rattle.tlink.specs.Whole.{IsWhole};
 ghost use Rattle.tnet.specs.Net.{inbox_at};
 ghost use Rattle.tnet.specs.Wires.{end_at};
@@ -10,12 +8,12 @@ ghost use Rattle.tfiles.specs.Outputs.{Tells};
 ghost use Rattle.twhere.specs.Standing as spec;
 
 use crate::facts::{put_if, put_word};
+use crate::waits::{end_at, has_input, has_output, remembered};
 use tfiles::CountedWrite;
 use tfiles::writing::output::Output;
 use tfiles::writing::text::{put_byte, put_decimal};
-use tlink::{Arrival, Counts, Node, Role};
+use tlink::{Arrival, Counts, Node};
 use tnet::{Inbox, Net};
-use tplan::plan::End;
 use tword::Word;
 
 /// The four links of the node of this number, with what lies at them.
@@ -38,10 +36,7 @@ pub(crate) fn put_links<W: CountedWrite>(
 fn inbox(net: &Net, number: u32, link: u8) -> Inbox
     ensures { result ≡ inbox_at net.now (end_at number link) }
 {
-    net.inbox(End {
-        node: number,
-        link: u32::from(link),
-    })
+    net.inbox(end_at(number, link))
 }
 
 /// One link, with what lies at it.
@@ -57,38 +52,6 @@ fn put_link<W: CountedWrite>(out: &mut Output<'_, W>, node: &Node, link: u8, inb
     put_arrival(out, link, b"packet data ", inbox.carried);
     put_ack(out, link, inbox.acknowledged);
     put_enabled(out, link, remembered(node, link));
-}
-
-/// Whether an output is pending at a link. A source offers at link 0 the first of its messages that are not over.
-fn has_output(node: &Node, link: u8) -> bool
-    requires { IsWhole node.now }
-    ensures { result ≡ is_some (output_at node.now link) }
-{
-    match node.role() {
-        Role::Processor(processor) => processor.pending_out(link).is_some(),
-        Role::Source(source) => link == 0 && source.done() < source.count(),
-        Role::Sink(_) => false,
-    }
-}
-
-/// Whether an input is pending at a link.
-fn has_input(node: &Node, link: u8) -> bool
-    ensures { result ≡ is_some (input_at node.now link) }
-{
-    node.due(link).is_some()
-}
-
-/// The process that enabled a link. A script has none.
-fn remembered(node: &Node, link: u8) -> Option<Word>
-    requires whole { IsWhole node.now }
-    requires link { link < 4 }
-    ensures { result ≡ (link_end node.now.machine.control link).remembered }
-{
-    match node.role() {
-        Role::Processor(processor) => processor.link(link).remembered,
-        Role::Source(_) => None,
-        Role::Sink(_) => None,
-    }
 }
 
 /// What stands before each fact of a link.

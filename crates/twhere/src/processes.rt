@@ -4,7 +4,7 @@ ghost use Rattle.std.specs.Prelude.{◌≡◌, ◌<◌, ◌%◌, ◌^◌};
 ghost use Rattle.tfiles.specs.Outputs.{Tells};
 ghost use Rattle.twhere.specs.Standing as spec;
 
-use crate::facts::{put_fetched, put_if, put_place, put_word, put_word_fact};
+use crate::facts::{put_code, put_if, put_place, put_word, put_word_fact};
 use tcpu::Registers;
 use tfiles::CountedWrite;
 use tfiles::writing::output::Output;
@@ -86,9 +86,7 @@ fn put_iptr<W: CountedWrite>(out: &mut Output<'_, W>, processor: &Processor, ipt
     ensures { Tells W.contents W.failures out.old out.new (spec.iptr_fact processor.now iptr) }
 {
     out.put(b"    Iptr        ");
-    put_word(out, iptr);
-    out.put(b": ");
-    put_fetched(out, &processor.fetch_at(iptr));
+    put_code(out, processor, iptr);
     out.put(b"\n");
 }
 

@@ -8,8 +8,9 @@ ghost use Rattle.twhere.specs.Standing as spec;
 
 use crate::links::put_links;
 use crate::listing::Listed;
+use crate::net_node::ProcessorNode;
 use crate::processes::{put_interrupted, put_queue, put_running};
-use crate::processor_node::ProcessorNode;
+use crate::stuck::put_stuck;
 use crate::waiting::put_waiting;
 use tfiles::CountedWrite;
 use tfiles::writing::node_dump::put_node_line;
@@ -19,12 +20,23 @@ use tlink::{Node, Role};
 use tnet::Net;
 
 /// Where the processes and the links of each node stand (own choice of format, `specs/Standing`), in the order of the
-/// nodes, sources and sinks behind them. The processes that are queued or wait are those that `list_net` lists. It
-/// takes no memory.
+/// nodes, sources and sinks behind them; behind all nodes, where no event is enabled, who waits at a link and what is
+/// lacking there. The processes that are queued or wait are those that `list_net` lists. It takes no memory.
 pub fn put_where<W: CountedWrite>(out: &mut Output<'_, W>, net: &Net, listed: &[Listed])
     requires listed { listed.now ≡ map (λ n. spec.listed_of n.machine.control) net.now.nodes }
     requires few { length net.now.nodes ≤ most_nodes }
     ensures { Tells W.contents W.failures out.old out.new (spec.where_text net.now) }
+{
+    put_nodes(out, net, listed);
+    put_stuck(out, net, listed);
+}
+
+/// Where each node stands.
+fn put_nodes<W: CountedWrite>(out: &mut Output<'_, W>, net: &Net, listed: &[Listed])
+    requires listed { listed.now ≡ map (λ n. spec.listed_of n.machine.control) net.now.nodes }
+    requires few { length net.now.nodes ≤ most_nodes }
+    ensures { Tells W.contents W.failures out.old out.new
+        (spec.texts_from (spec.node_where net.now) 0 net.now.nodes) }
 {
     for (number, node) in net.nodes().iter().enumerate() {
         put_node(out, net, number as u32, node, &listed[number]);
@@ -42,35 +54,49 @@ fn put_node<W: CountedWrite>(
     requires { IsWhole node.now }
     ensures { Tells W.contents W.failures out.old out.new (spec.listed_where net.now number node.now listed.now) }
 {
-    put_role(out, number, node, listed);
+    put_role(out, net, number, node, listed);
     put_links(out, net, number, node);
 }
 
 /// What stands behind the links: a processor, a source or a sink.
-fn put_role<W: CountedWrite>(out: &mut Output<'_, W>, number: u32, node: &Node, listed: &Listed)
+fn put_role<W: CountedWrite>(
+    out: &mut Output<'_, W>,
+    net: &Net,
+    number: u32,
+    node: &Node,
+    listed: &Listed,
+)
     ensures { Tells W.contents W.failures out.old out.new
-        (spec.role_where node.now.role number node.now listed.now) }
+        (spec.role_where node.now.role net.now number node.now listed.now) }
 {
     match node.role() {
-        Role::Processor(processor) => {
-            put_processor(out, number, &ProcessorNode { node, processor }, listed);
-        }
+        Role::Processor(processor) => put_processor(
+            out,
+            &ProcessorNode {
+                net,
+                number,
+                node,
+                processor,
+            },
+            listed,
+        ),
         Role::Source(source) => put_source(out, number as usize, source),
         Role::Sink(sink) => put_sink_line(out, number as usize, sink.kept().count()),
     }
 }
 
 /// The processor of a node.
-fn put_processor<W: CountedWrite>(
-    out: &mut Output<'_, W>,
-    number: u32,
-    at: &ProcessorNode<'_>,
-    listed: &Listed,
-)
-    ensures { Tells W.contents W.failures out.old out.new (spec.processor_where number at.now.node.now listed.now) }
+fn put_processor<W: CountedWrite>(out: &mut Output<'_, W>, at: &ProcessorNode<'_>, listed: &Listed)
+    ensures { Tells W.contents W.failures out.old out.new
+        (spec.processor_where at.now.net.now at.now.number at.now.node.now listed.now) }
 {
-    let ProcessorNode { node, processor } = *at;
-    put_node_line(out, number as usize, node.broken(), processor.is_halted());
+    let processor = at.processor;
+    put_node_line(
+        out,
+        at.number as usize,
+        at.node.broken(),
+        processor.is_halted(),
+    );
     put_running(out, processor);
     put_interrupted(out, processor);
     put_queue(out, b"  high queue    ", processor, listed.high.as_slice());

@@ -1,12 +1,5 @@
-use Rattle.std.proofs.Common.{ap}
-use Rattle.tfiles.proofs.Told.{tells_then, tells_as}
-use Rattle.twhere.specs.Standing.{fetched_text}
+use Rattle.tfiles.proofs.Told.{tells_then}
 use Rattle.twhere.proofs.processes.put_iptr.Goals as goal
 
 pub returns : goal.returns
-returns g c =
-    tells_then
-    (tells_then c.put.ensures
-    (tells_then c.put_word.ensures
-    (tells_then c.put-2.ensures (tells_as c.put_fetched.ensures (ap fetched_text c.fetch_at.ensures)))))
-    c.put-3.ensures
+returns g c = tells_then (tells_then c.put.ensures c.put_code.ensures) c.put-2.ensures

@@ -14,7 +14,7 @@ returns g c =
     let halted : c.is_halted.result ≡ c.args.at.now.node.now.machine.control.halted = (cc) in
     tells_then
     (tells_as c.put_node_line.ensures
-    (ap₂ (λ (b : Option Break) (h : Bool). node_line c.args.number b h) c.broken.ensures halted))
+    (ap₂ (λ (b : Option Break) (h : Bool). node_line c.args.at.now.number b h) c.broken.ensures halted))
     (tells_then (tells_as c.put_running.ensures (ap (λ (n : Machine). running_facts n n.control.current) machine))
     (tells_then
     (tells_as c.put_interrupted.ensures (ap (λ (n : Machine). interrupted_facts n n.control.interrupted) machine))
@@ -25,4 +25,4 @@ returns g c =
     (tells_as c.put_queue-2.ensures
     (ap₂ (λ (n : Machine) (q : List ℕ). queue_facts (codes "  low queue     ") n q) machine c.as_slice-2.ensures))
     (tells_as c.put_waiting.ensures
-    (ap (λ (ws : List Waiter). waiting_facts c.args.at.now.node.now ws) c.as_slice-3.ensures))))))
+    (ap (λ (ws : List Waiter). waiting_facts c.args.at.now.net.now c.args.at.now.number c.args.at.now.node.now ws) c.as_slice-3.ensures))))))

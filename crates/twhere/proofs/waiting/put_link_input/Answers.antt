@@ -1,4 +1,4 @@
-use Rattle.std.proofs.Common.{◌≡◌, ap, ap₂, decimal, Option}
+use Rattle.std.proofs.Common.{◌≡◌, ap₂, Option}
 use Rattle.tproc.specs.declared.offer.Offer.{Offer}
 use Rattle.tlink.specs.declared.counts.Counts.{Counts}
 use Rattle.tlink.specs.Node.{input_at}
@@ -9,7 +9,6 @@ use Rattle.twhere.proofs.waiting.put_link_input.Goals as goal
 pub returns : goal.returns
 returns g c =
     let offer : c.pending_in.result ≡ input_at c.args.at.now.node.now c.args.link = (cc) in
-    tells_then c.put.ensures
-    (tells_then (tells_as c.put_decimal.ensures (ap decimal c.from.ensures))
+    tells_then c.put_wait_at.ensures
     (tells_as c.put_offer.ensures
-    (ap₂ (λ (o : Option Offer) (n : Counts). offer_text o n.got) offer c.counts.ensures)))
+    (ap₂ (λ (o : Option Offer) (n : Counts). offer_text o n.got) offer c.counts.ensures))

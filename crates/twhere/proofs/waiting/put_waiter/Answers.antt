@@ -10,4 +10,4 @@ returns g c =
     (tells_then c.put.ensures
     (tells_then
     (tells_as c.put_place.ensures (ap (λ (n : Machine). place_text n c.args.waiter.now.process) c.args.at.now.same))
-    c.put_reason.ensures)) c.put-2.ensures
+    (tells_then c.put-2.ensures c.put_reason.ensures))) c.put-3.ensures

@@ -1,10 +1,10 @@
 use Rattle.std.proofs.Common.{drop}
 use Rattle.tfiles.proofs.Told.{GoesOn}
-use Rattle.twhere.specs.Standing.{where_from, where_text}
-use Rattle.twhere.proofs.standing.put_where.Given as goal
+use Rattle.twhere.specs.Standing.{node_where, texts_from}
+use Rattle.twhere.proofs.standing.put_nodes.Given as goal
 
 -- what was told and what is left
 abbrev pub invariant-loop-number : goal.invariant-loop-number
 invariant-loop-number g l =
     GoesOn g.W.Write.contents g.W.CountedWrite.failures l.initial.out l.out
-    (where_from l.net l.number (drop l.number l.net.nodes)) (where_text l.net)
+    (texts_from (node_where l.net) l.number (drop l.number l.net.nodes)) (texts_from (node_where l.net) 0 l.net.nodes)

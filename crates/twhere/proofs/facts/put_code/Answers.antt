@@ -1,0 +1,9 @@
+use Rattle.std.proofs.Common.{ap}
+use Rattle.tfiles.proofs.Told.{tells_then, tells_as}
+use Rattle.twhere.specs.Standing.{fetched_text}
+use Rattle.twhere.proofs.facts.put_code.Goals as goal
+
+pub returns : goal.returns
+returns g c =
+    tells_then c.put_word.ensures
+    (tells_then c.put.ensures (tells_as c.put_fetched.ensures (ap fetched_text c.fetch_at.ensures)))
