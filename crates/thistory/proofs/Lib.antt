@@ -1,0 +1,4 @@
+pub mod Numbers
+pub mod Histories
+pub mod HiddenBytes
+pub mod Changes

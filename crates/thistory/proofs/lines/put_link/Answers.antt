@@ -1,0 +1,10 @@
+use Rattle.std.proofs.Common.{ap, decimal}
+use Rattle.tfiles.proofs.Told.{tells_then, tells_as}
+use Rattle.thistory.proofs.lines.put_link.Goals as goal
+
+pub returns : goal.returns
+returns g c =
+    tells_then c.put.ensures
+    (tells_then c.put-2.ensures
+    (tells_then (tells_as c.put_decimal.ensures (ap decimal c.from.ensures))
+    (tells_then c.put-3.ensures c.put_far.ensures)))

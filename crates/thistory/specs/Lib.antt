@@ -1,0 +1,5 @@
+-- What is told of the history of a node.
+pub mod Deeds
+pub mod Lines
+pub mod Steps
+pub mod Watch
