@@ -10,7 +10,7 @@ use Rattle.clap.specs.Kinds.{Kinds, or_else, range_kinds, value_kinds, values_ki
 use Rattle.clap.specs.Walk.{Row, Rule, Text, action_of, arg_by_id, at_row, more_values, most_values, reading_by, used}
 use Rattle.clap.specs.Walk.{used_as, values_or_missing, with_values, without}
 use Rattle.clap.specs.Faults.{action_fault, repeat_fault, use_fault, values_fault}
-use Rattle.clap.specs.declared.builder.action.ArgAction.TheVariants.{Set, Help}
+use Rattle.clap.specs.declared.builder.action.ArgAction.TheVariants.{Set, Help, Version}
 use Rattle.clap.specs.declared.builder.value_parser.ValueParser.{ValueParser}
 use Rattle.clap.specs.declared.error.kind.ErrorKind.TheVariants as kind
 use Rattle.clap.specs.declared.parser.matches.ValueSource.{ValueSource}
@@ -64,10 +64,10 @@ each_found P test (y ∷ ys) x h e = go (test y) refl (each_found P test ys x h.
         (subst P same h.0, subst (λ z. test z ≡ true) same is)
     go false is later f = later f
 
--- a rule that takes at least one value, or asks for help; no rule before it has its id
+-- a rule that takes at least one value, or asks for help or the version; no rule before it has its id
 pub record IsFit (c : List Rule) (a : Rule) : Type 0 where
   pub first : arg_by_id c a.id ≡ Some a
-  pub action : ((action_of a ≡ Set) × (0 < (unwrap_or_range a.range).start_inclusive)) ⊎ (action_of a ≡ Help)
+  pub action : ((action_of a ≡ Set) × (0 < (unwrap_or_range a.range).start_inclusive)) ⊎ ((action_of a ≡ Help) ⊎ (action_of a ≡ Version))
 
 -- the row has values that its rule accepts
 pub record Holds (a : Rule) (r : Row) : Type 0 where
@@ -146,5 +146,6 @@ used_passes c again a values rows fit e h =
           subst (λ x. action_fault x again a (values_or_missing a values) rows ≡ []) p.0 parts.1 in
           subst (λ x. Rows c (used_as x a.id (reading_by a) (values_or_missing a values) rows)) (sym p.0)
           (used_set c again a values rows fit.first (given _ _ (length values) p.1 parts.0) own h)
-      | inr p ↦ subst (λ x. Rows c (used_as x a.id (reading_by a) (values_or_missing a values) rows)) (sym p) h
+      | inr (inl p) ↦ subst (λ x. Rows c (used_as x a.id (reading_by a) (values_or_missing a values) rows)) (sym p) h
+      | inr (inr p) ↦ subst (λ x. Rows c (used_as x a.id (reading_by a) (values_or_missing a values) rows)) (sym p) h
     ]

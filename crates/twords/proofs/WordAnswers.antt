@@ -2,7 +2,7 @@
 use Rattle.std.proofs.Common.{◌≡◌, ◌∙◌, ◌<◌, ℕ, Bool, cond, true, false, refl, sym, ap, ap₂, subst, arith, List, []}
 use Rattle.std.proofs.Common.{◌∷◌, length, Option, Some, None, is_some, inl, inr, true≢false}
 use Rattle.std.specs.Prelude.{option_map, option_and_then, slice_get, unwrap_or, IsSomeAnd}
-use Rattle.std.proofs.Common.{suc, rules, ◌++◌, map, pos}
+use Rattle.std.proofs.Common.{suc, rules, ◌++◌, map, pos, ℤ, negsuc}
 use Rattle.std.proofs.lemmas.Bool.{ne_eqb}
 use Rattle.std.specs.List.{find}
 use Rattle.std.specs.Option.{option_map_or}
@@ -16,9 +16,10 @@ use Rattle.clap.specs.Simple.{index_after, inherited, label_of, parser_for, with
 use Rattle.clap.specs.Simple.{with_missing_value}
 use Rattle.clap.specs.Simple.{marked_built, names_of, rows_at, subcommand_of, with_index, with_leaf_noted}
 use Rattle.clap.specs.Faults.{check_fault, entered_fault, level_fault, values_fault}
-use Rattle.clap.specs.declared.builder.action.ArgAction.TheVariants.{Set, Help}
+use Rattle.clap.specs.declared.builder.action.ArgAction.TheVariants.{Set, Help, Version}
 use Rattle.clap.specs.declared.builder.value_parser.ValueParser.{ValueParser}
 use Rattle.clap.specs.declared.builder.value_parser.ValueParser.TheVariants as vp
+use Rattle.clap.specs.declared.builder.value_parser.Reading.TheVariants.{AsWritten}
 use Rattle.clap.specs.Words.{HasMatchesOf, app_of, fault_of, found_of, is_simple, is_simple_and_free, rows_of}
 use Rattle.clap.specs.Words.{subcommand_name_of, subcommand_rows_of}
 use Rattle.clap.specs.declared.builder.command.Command.{Command as Parser}
@@ -26,7 +27,7 @@ use Rattle.clap.specs.declared.parser.matches.ArgMatches.{ArgMatches}
 use Rattle.clap.specs.declared.parser.matches.ArgMatches.TheViews.{out-ArgMatches, out-SubCommand}
 use Rattle.std.specs.Box.{box_value}
 use Rattle.clap.proofs.ValueTestLemmas.{accepts-Accepts}
-use Rattle.twords.specs.Arguments.{HasAll, HasNumber, HasParsed, HasText, HasWanted, between}
+use Rattle.twords.specs.Arguments.{HasAll, HasBetween, HasNumber, HasParsed, HasText, HasWanted, between}
 use Rattle.twords.specs.Table.{commands, name_of, rules_of}
 use Rattle.twords.specs.CommandLines.{IsWhole, program, named, shape_of}
 use Rattle.twords.specs.declared.table.Which.{Which}
@@ -67,6 +68,19 @@ number_found least most a rows is f =
           (subst (λ (p : ValueParser). accepts a.ignore_case p v.0 ≡ true) signed v.2);
     }
 
+pub between_found : (least most : ℤ) (a : Rule) (rows : List Row) → a.parser ≡ Some (vp.Signed least most)
+    → reading_of (vp.Signed least most) ≡ AsWritten → Found a rows → HasBetween least most a.id rows
+between_found least most a rows is how f =
+    let v = value_of a f.row f.holds in
+    let signed : parser_of_value a.parser ≡ vp.Signed least most = ap parser_of_value is in
+    record {
+      text = v.0;
+      read = ap (option_and_then row_text) f.at ∙ (ap (option_map (read_as f.row.reading)) v.1
+          ∙ ap (λ how. Some (read_as how v.0)) (f.holds.reading ∙ (ap reading_of signed ∙ how)));
+      within = accepts-Accepts a.ignore_case (vp.Signed least most) v.0
+          (subst (λ (p : ValueParser). accepts a.ignore_case p v.0 ≡ true) signed v.2);
+    }
+
 -- ---- the rules of the commands
 
 -- a command as it is built
@@ -82,7 +96,10 @@ one_value : (c : List Rule) (a : Rule) → arg_by_id c a.id ≡ Some a → actio
 one_value c a first set least = record { first = first; action = inl (set, omega arith) }
 
 asks_help : (c : List Rule) (a : Rule) → arg_by_id c a.id ≡ Some a → action_of a ≡ Help → IsFit c a
-asks_help c a first help = record { first = first; action = inr help }
+asks_help c a first help = record { first = first; action = inr (inl help) }
+
+asks_version : (c : List Rule) (a : Rule) → arg_by_id c a.id ≡ Some a → action_of a ≡ Version → IsFit c a
+asks_version c a first version = record { first = first; action = inr (inr version) }
 
 -- a command has such rules, and is found by its name
 abbrev IsListed : Which → Type 0
@@ -92,7 +109,7 @@ all_listed : Each IsListed commands
 all_listed = search (rules, one_value, asks_help)
 
 top_fits : RulesFit (built program).top
-top_fits = (asks_help _ _ refl refl, tt)
+top_fits = (asks_help _ _ refl refl, (asks_version _ _ refl refl, tt))
 
 -- ---- the commands
 
@@ -119,6 +136,9 @@ parsed i a rows f = go a.parser refl
     go : (p : Option ValueParser) → a.parser ≡ p → HasParsed p a.id rows
     go (Some (vp.Signed (pos least) (pos most))) is =
         number_found least most (as_built i a) rows (ap (λ (o : Option ValueParser). Some (unwrap_or o left_out)) is) f
+    go (Some (vp.Signed (negsuc below) most)) is =
+        between_found (negsuc below) most (as_built i a) rows
+        (ap (λ (o : Option ValueParser). Some (unwrap_or o left_out)) is) refl f
     go _ is = text_found (as_built i a) rows f
 
 -- a default stays, as the rule is built

@@ -1,9 +1,11 @@
 -- What the getters read of arguments that have a text or a number.
 use Rattle.std.proofs.Common.{◌≡◌, ◌∙◌, ◌<◌, ◌≤◌, ◌^◌, ℕ, pos, Bool, true, false, refl, sym, ap, subst, arith, List, []}
-use Rattle.std.proofs.Common.{Option, Some, None, Result, Ok, is_some, true≢false, Bor}
+use Rattle.std.proofs.Common.{Option, Some, None, Result, Ok, Err, ℤ, is_some, true≢false, Bor}
 use Rattle.std.specs.Prelude.{option_map}
 use Rattle.std.specs.Option.{option_map_or}
-use Rattle.std.specs.Str.Parse.{ParsesUnsigned, digits_value, without_leading_plus}
+use Rattle.std.specs.Str.Parse.{ParsesSigned, ParsesUnsigned, digits_value, signed_digits_value, without_leading_plus}
+use Rattle.std.specs.Prelude.{◌≤ℤ◌, FitsSigned}
+use Rattle.std.specs.Int.{w64}
 use Rattle.std.proofs.lemmas.Int.{ints}
 use Rattle.clap.specs.Lexer.{without_minus}
 use Rattle.clap.specs.Matches.{ReadsOne, first_value, found_of, one_text}
@@ -15,7 +17,7 @@ use Rattle.clap.specs.declared.parser.matches.ArgMatches.{ArgMatches}
 use Rattle.clap.proofs.CallerReads.{signed_reads}
 use Rattle.clap.proofs.ValueTestLemmas.{accepts-Accepts, Accepts-accepts}
 use Rattle.clap.proofs.WalkLemmas.{first_value-rows, one_text-rows}
-use Rattle.twords.specs.Arguments.{HasNumber, HasText, number_at, text_at}
+use Rattle.twords.specs.Arguments.{HasBetween, HasNumber, HasText, number_at, signed_at, text_at}
 
 -- the text of an argument that has one
 pub text_read : (m : ArgMatches) (id : Text) (r : Option (Bor Text))
@@ -100,3 +102,31 @@ pub text_maybe : (m : ArgMatches) (id : Text) (r : Option (Bor Text))
     → option_map (λ s. s.now) r ≡ first_value (found_of m) id
     → option_map (λ s. s.now) r ≡ first_of id (rows_of (found_of m))
 text_maybe m id r e = e ∙ first_value-rows (found_of m) id
+
+-- a number between two, as the getter of `i64` reads it
+pub signed_read : (E : Type 0) (G : List ℕ → Result ℤ E → Type 0) (least most : ℤ) (m : ArgMatches) (id : Text)
+    (r : Option ℤ)
+    → ((t : Text) → one_text (found_of m) id ≡ Some t → ReadsOne G t r)
+    → ((u : List ℕ) (x : Result ℤ E) → G u x → ParsesSigned w64 10 u x)
+    → HasBetween least most id (rows_of (found_of m)) → (n : ℤ) × (r ≡ Some n)
+    × (n ≡ signed_at id (rows_of (found_of m))) × ((least ≤ℤ n) × (n ≤ℤ most)) × FitsSigned w64 n
+signed_read E G least most m id r gives only h =
+    go r (gives h.text (one_text-rows (found_of m) id ∙ h.read))
+  where
+    value : ℤ
+    value = signed_digits_value 10 h.text
+
+    told : value ≡ signed_at id (rows_of (found_of m))
+    told = sym (ap (λ o. option_map_or (λ t. signed_digits_value 10 t) o (pos 0)) h.read)
+
+    go : (o : Option ℤ) → ReadsOne G h.text o → (n : ℤ) × (o ≡ Some n)
+        × (n ≡ signed_at id (rows_of (found_of m))) × ((least ≤ℤ n) × (n ≤ℤ most)) × FitsSigned w64 n
+    go (Some n) read =
+        let same : n ≡ value = (only h.text (Ok n) read).1 in (
+          n,
+          refl,
+          same ∙ told,
+          (subst (λ (k : ℤ). least ≤ℤ k) (sym same) h.within.2, subst (λ (k : ℤ). k ≤ℤ most) (sym same) h.within.3),
+          subst (FitsSigned w64) (sym same) h.within.1,
+        )
+    go None read = absurd (only h.text (Err read.0) read.1 (h.within.0, h.within.1))

@@ -1,8 +1,9 @@
 -- The arguments of a command line: the rules by which `clap` reads them, and the texts and numbers that they have.
 -- Source: own choice; `Rattle.clap.specs` says how `clap` reads words.
 use Rattle.std.specs.Prelude.{ℕ, ◌≡◌, pos, Bool, true, false, List, [], ◌∷◌, Option, Some, is_some}
+use Rattle.std.specs.Prelude.{ℤ, negsuc, neg_ℤ, ◌≤ℤ◌}
 use Rattle.std.specs.Option.{option_map_or}
-use Rattle.std.specs.Str.Parse.{digits_value, without_leading_plus}
+use Rattle.std.specs.Str.Parse.{digits_value, signed_digits_value, without_leading_plus}
 use Rattle.clap.specs.Words.{Text, Rule, Row, IsSignedIn, new_rule, first_of, one_of, without_minus}
 use Rattle.clap.specs.declared.builder.value_parser.ValueParser.{ValueParser}
 use Rattle.clap.specs.declared.builder.value_parser.ValueParser.TheVariants.{Signed}
@@ -29,6 +30,10 @@ number_rule id parser default = record (option_rule id) { parser = Some parser; 
 abbrev pub between : ℕ → ℕ → ValueParser
 between least most = Signed (pos least) (pos most)
 
+-- the numbers that are at most so far from zero
+abbrev pub around : ℕ → ValueParser
+around most = Signed (neg_ℤ (pos most)) (pos most)
+
 -- ---- what they have
 
 -- the text of an argument
@@ -38,6 +43,14 @@ text_at id rows = option_map_or (λ t. t) (first_of id rows) []
 -- the number of an argument
 abbrev pub number_at : Text → List Row → ℕ
 number_at id rows = option_map_or (λ t. digits_value 10 (without_leading_plus t)) (one_of id rows) 0
+
+-- the number of an argument, which may be negative
+abbrev pub signed_at : Text → List Row → ℤ
+signed_at id rows = option_map_or (λ t. signed_digits_value 10 t) (one_of id rows) (pos 0)
+
+-- a number is at most so far from zero
+abbrev pub IsWithin : ℕ → ℤ → Type 0
+IsWithin most n = (neg_ℤ (pos most) ≤ℤ n) × (n ≤ℤ pos most)
 
 -- the argument has a text
 abbrev pub HasText : Text → List Row → Type 0
@@ -49,9 +62,20 @@ pub record HasNumber (least most : ℕ) (id : Text) (rows : List Row) : Type 0 w
   pub read : one_of id rows ≡ Some (without_minus text)
   pub within : IsSignedIn (pos least) (pos most) text
 
+-- the argument has a number between two
+pub record HasBetween (least most : ℤ) (id : Text) (rows : List Row) : Type 0 where
+  pub text : Text
+  pub read : one_of id rows ≡ Some text
+  pub within : IsSignedIn least most text
+
+-- the argument has a number that is at most so far from zero
+abbrev pub HasSigned : ℕ → Text → List Row → Type 0
+HasSigned most id rows = HasBetween (neg_ℤ (pos most)) (pos most) id rows
+
 -- a number of a range is there, if the argument has one; else a text
 abbrev pub HasParsed : Option ValueParser → Text → List Row → Type 0
 HasParsed (Some (Signed (pos least) (pos most))) id rows = HasNumber least most id rows
+HasParsed (Some (Signed (negsuc below) most)) id rows = HasBetween (negsuc below) most id rows
 HasParsed parser id rows = HasText id rows
 
 -- an argument has its number or text, unless it may be left out and has no default

@@ -2,13 +2,14 @@
 -- Source: the forms of the commands are our own choice; `Rattle.clap.specs` says how `clap` reads words, and why it
 -- refuses them.
 use Rattle.std.specs.Prelude.{refl, ◌≡◌, true, false, List, [], ◌∷◌, Option, Some, None, ◌++◌, map, codes, bytes_eq}
-use Rattle.std.specs.Prelude.{option_and_then, if◌then◌else◌, IsSomeAnd}
+use Rattle.std.specs.Prelude.{Result, Ok, Err, pos, negsuc}
+use Rattle.std.specs.Prelude.{option_and_then, if◌then◌else◌, IsSomeAnd, Bool, ◌==◌, ◌&&◌, nat_le, drop, length, string_bytes, ◌≤◌}
 use Rattle.std.specs.List.{find, fold}
 use Rattle.clap.specs.Words.{Text, Rule, Row, Shape, App, Kinds, app_of, subcommand_of, fault_of, with_subcommand}
 use Rattle.clap.specs.Simple.{new_shape}
 use Rattle.clap.proofs.OnLiterals.{clap_on_literals}
 use Rattle.clap.specs.declared.error.kind.ErrorKind.TheVariants.{DisplayHelp, DisplayHelpOnMissingArgumentOrSubcommand}
-use Rattle.clap.specs.declared.error.kind.ErrorKind.TheVariants.{MissingRequiredArgument, UnknownArgument}
+use Rattle.clap.specs.declared.error.kind.ErrorKind.TheVariants.{DisplayVersion, MissingRequiredArgument, UnknownArgument}
 use Rattle.clap.specs.Kinds.{or_else}
 use Rattle.clap.specs.declared.error.kind.ErrorKind.TheVariants.{InvalidValue, ValueValidation}
 use Rattle.clap.specs.declared.builder.arg.Arg.{Arg}
@@ -22,6 +23,7 @@ use Rattle.twords.specs.declared.table.Show.TheVariants as show
 use Rattle.twords.specs.declared.table.Command.{Command}
 use Rattle.twords.specs.declared.table.Command.TheVariants as command
 use Rattle.twords.specs.declared.table.Which.{Which}
+use Rattle.twords.specs.declared.joined_words.First.{First}
 use Rattle.twords.specs.declared.table.CommandRow.{CommandRow}
 use Rattle.twords.specs.declared.table.Argument.{Argument}
 use Rattle.twords.specs.declared.table.Form.{Form}
@@ -37,10 +39,11 @@ shape name rules = record (new_shape name) { rules = rules }
 abbrev pub shape_of : Which → Shape
 shape_of which = shape (name_of which) (rules_of which)
 
--- the program without its commands, of which one has to be named
+-- the program without its commands, of which one has to be named; it tells its version
 abbrev pub top : App
 top = record {
   top = record (new_shape (codes "temu")) {
+    has_version = true;
     disable_help_subcommand = true;
     arg_required_else_help = true;
     subcommand_required = true;
@@ -73,13 +76,42 @@ with_help_option (name ∷ word ∷ words) =
     if bytes_eq word (codes "help") then asking_help name words else name ∷ word ∷ words
 with_help_option words = words
 
+-- a word is a minus and a digit, whatever follows
+abbrev pub is_negative : Text → Bool
+is_negative (minus ∷ digit ∷ rest) = minus == 45 && (nat_le 48 digit && nat_le digit 57)
+is_negative word = false
+
+-- a word and the one behind it are `--events` and a negative number
+abbrev pub joins : Text → Text → Bool
+joins word next = bytes_eq word (codes "--events") && is_negative next
+
+-- an option and its value as one word
+abbrev pub joined_word : Text → Text → Text
+joined_word option value = option ++ (codes "=" ++ value)
+
+-- words in which `--events` and a negative number behind it are one word, which `clap` takes for no other option
+abbrev pub with_events_joined : List Text → List Text
+with_events_joined (word ∷ next ∷ words) =
+    if joins word next then joined_word word next ∷ with_events_joined words
+    else word ∷ with_events_joined (next ∷ words)
+with_events_joined words = words
+
+-- the words as the parser gets them
+abbrev pub plain_words : List Text → List Text
+plain_words words = with_events_joined (with_help_option words)
+
 -- what words with no `help` ask for, where they are taken
 abbrev pub command_without_help : List Text → Option Command
 command_without_help words = command_in (subcommand_of program words)
 
 -- what the words ask for, where they are taken
 abbrev pub command_of : List Text → Option Command
-command_of words = command_without_help (with_help_option words)
+command_of words = command_without_help (plain_words words)
+
+-- the command that was taken, where it is told what the words ask for
+abbrev pub command_taken : Result Command Which → Option Command
+command_taken (Ok asked) = Some asked
+command_taken (Err which) = None
 
 -- why what the parser takes is refused: it asks for nothing, by a word of `--show` that stands for nothing
 abbrev pub unread : Option Command → Kinds
@@ -92,7 +124,7 @@ refusals_without_help words = or_else (fault_of program words) (unread (command_
 
 -- why the words are refused: help is asked for, or they are a mistake; none where they are taken
 abbrev pub refusals : List Text → Kinds
-refusals words = refusals_without_help (with_help_option words)
+refusals words = refusals_without_help (plain_words words)
 
 -- ---- what the private functions speak of
 
@@ -123,6 +155,14 @@ shape_of_row row = with_rows (shape row.name.now []) row.arguments.now
 abbrev pub HasShape : Shape → Parser → Type 0
 HasShape shape c = (app_of c ≡ record { top = shape; subs = [] }) × ((fields_of c).has_globals ≡ false)
 
+-- some words with `--events` joined begin with this first word, and behind it are the others, joined; there is none where
+-- there are no words
+abbrev pub IsFirst : List Text → Option First → Type 0
+IsFirst words None = words ≡ []
+IsFirst words (Some first) =
+    (with_events_joined words ≡ string_bytes first.word ∷ with_events_joined (drop first.taken words))
+    × (1 ≤ first.taken) × (first.taken ≤ length words)
+
 -- the argument is its command's alone
 abbrev pub IsLocal : Arg → Type 0
 IsLocal a = a.global ≡ false
@@ -135,25 +175,40 @@ words_of_run = codes "temu" ∷ codes "run" ∷ codes "--rounds" ∷ codes "7" �
 
 -- options of `run` in any order, and one by default
 example_run : command_of words_of_run
-    ≡ Some (command.Run (codes "pair.toml") (record { workers = 64; rounds = 7; slice = 64 }) (Some (codes "pair.log")))
+    ≡ Some
+    (command.Run (codes "pair.toml") (record { workers = 64; rounds = 7; slice = 64 }) (Some (codes "pair.log")) show.Dump)
 unfolding clap_on_literals
 example_run = refl
 
 -- all words of `free`
 example_free : command_of (codes "temu" ∷ codes "free" ∷ codes "--log" ∷ codes "pair.log" ∷ codes "--turns=7"
     ∷ codes "pair.toml" ∷ codes "--slice" ∷ codes "65536" ∷ [])
-    ≡ Some (command.Free (codes "pair.toml") (record { workers = 1; rounds = 7; slice = 65536 }) (Some (codes "pair.log")))
+    ≡ Some
+    (command.Free (codes "pair.toml") (record { workers = 1; rounds = 7; slice = 65536 }) (Some (codes "pair.log"))
+    show.Dump)
 unfolding clap_on_literals
 example_free = refl
 
 -- all options of `run` by default
 example_defaults : command_of (codes "temu" ∷ codes "run" ∷ codes "pair.toml" ∷ [])
-    ≡ Some (command.Run (codes "pair.toml") (record { workers = 1; rounds = 100000; slice = 64 }) None)
+    ≡ Some (command.Run (codes "pair.toml") (record { workers = 1; rounds = 100000; slice = 64 }) None show.Dump)
 unfolding clap_on_literals
 example_defaults = refl
 
+-- where the net stands behind the trace, or the trace alone
+example_run_where : command_of
+    (codes "temu" ∷ codes "run" ∷ codes "--show=where" ∷ codes "pair.toml" ∷ codes "--rounds" ∷ codes "40" ∷ [])
+    ≡ Some (command.Run (codes "pair.toml") (record { workers = 1; rounds = 40; slice = 64 }) None show.Where)
+unfolding clap_on_literals
+example_run_where = refl
+
+example_free_none : command_of (codes "temu" ∷ codes "free" ∷ codes "pair.toml" ∷ codes "--show" ∷ codes "none" ∷ [])
+    ≡ Some (command.Free (codes "pair.toml") (record { workers = 1; rounds = 100000; slice = 64 }) None show.Nothing)
+unfolding clap_on_literals
+example_free_none = refl
+
 example_free_defaults : command_of (codes "temu" ∷ codes "free" ∷ codes "pair.toml" ∷ [])
-    ≡ Some (command.Free (codes "pair.toml") (record { workers = 1; rounds = 100000; slice = 64 }) None)
+    ≡ Some (command.Free (codes "pair.toml") (record { workers = 1; rounds = 100000; slice = 64 }) None show.Dump)
 unfolding clap_on_literals
 example_free_defaults = refl
 
@@ -184,21 +239,47 @@ unfolding clap_on_literals
 example_explore_log = refl
 
 example_replay : command_of (codes "temu" ∷ codes "replay" ∷ codes "pair.toml" ∷ codes "pair.log" ∷ [])
-    ≡ Some (command.Replay (codes "pair.toml") (codes "pair.log"))
+    ≡ Some (command.Replay (codes "pair.toml") (codes "pair.log") (pos 4294967295) show.Dump)
 unfolding clap_on_literals
 example_replay = refl
 
--- all events, or the first of them
+-- the first events, and where the net stands then
+example_replay_first : command_of (codes "temu" ∷ codes "replay" ∷ codes "--events" ∷ codes "7" ∷ codes "pair.toml"
+    ∷ codes "--show" ∷ codes "where" ∷ codes "pair.log" ∷ [])
+    ≡ Some (command.Replay (codes "pair.toml") (codes "pair.log") (pos 7) show.Where)
+unfolding clap_on_literals
+example_replay_first = refl
+
+-- all but the last three
+example_replay_but : command_of
+    (codes "temu" ∷ codes "replay" ∷ codes "pair.toml" ∷ codes "pair.log" ∷ codes "--events=-3" ∷ [])
+    ≡ Some (command.Replay (codes "pair.toml") (codes "pair.log") (negsuc 2) show.Dump)
+unfolding clap_on_literals
+example_replay_but = refl
+
+example_replay_but_apart : command_of
+    (codes "temu" ∷ codes "replay" ∷ codes "pair.toml" ∷ codes "--events" ∷ codes "-3" ∷ codes "pair.log" ∷ [])
+    ≡ Some (command.Replay (codes "pair.toml") (codes "pair.log") (negsuc 2) show.Dump)
+unfolding clap_on_literals
+example_replay_but_apart = refl
+
+-- all events, the first of them, or all but the last
 example_where : command_of (codes "temu" ∷ codes "where" ∷ codes "pair.toml" ∷ codes "pair.log" ∷ [])
-    ≡ Some (command.Where (codes "pair.toml") (codes "pair.log") 4294967295)
+    ≡ Some (command.Where (codes "pair.toml") (codes "pair.log") (pos 4294967295))
 unfolding clap_on_literals
 example_where = refl
 
 example_where_first : command_of (codes "temu" ∷ codes "where" ∷ codes "pair.toml" ∷ codes "--events" ∷ codes "7"
     ∷ codes "pair.log" ∷ [])
-    ≡ Some (command.Where (codes "pair.toml") (codes "pair.log") 7)
+    ≡ Some (command.Where (codes "pair.toml") (codes "pair.log") (pos 7))
 unfolding clap_on_literals
 example_where_first = refl
+
+example_where_but : command_of (codes "temu" ∷ codes "where" ∷ codes "--events=-4294967295" ∷ codes "pair.toml"
+    ∷ codes "pair.log" ∷ [])
+    ≡ Some (command.Where (codes "pair.toml") (codes "pair.log") (negsuc 4294967294))
+unfolding clap_on_literals
+example_where_but = refl
 
 -- of kind 1 by default
 example_dis : command_of (codes "temu" ∷ codes "dis" ∷ codes "first.img" ∷ []) ≡ Some (command.Dis (codes "first.img") One)
@@ -241,6 +322,17 @@ example_show : refusals (codes "temu" ∷ codes "explore" ∷ codes "pair.toml" 
     ≡ InvalidValue ∷ []
 unfolding clap_on_literals
 example_show = refl
+
+example_show_of_run : refusals (codes "temu" ∷ codes "run" ∷ codes "pair.toml" ∷ codes "--show" ∷ codes "all" ∷ [])
+    ≡ InvalidValue ∷ []
+unfolding clap_on_literals
+example_show_of_run = refl
+
+example_events : refusals (codes "temu" ∷ codes "replay" ∷ codes "pair.toml" ∷ codes "pair.log"
+    ∷ codes "--events=-4294967296" ∷ [])
+    ≡ ValueValidation ∷ []
+unfolding clap_on_literals
+example_events = refl
 
 example_kind : refusals (codes "temu" ∷ codes "dis" ∷ codes "--kind" ∷ codes "3" ∷ codes "first.img" ∷ [])
     ≡ ValueValidation ∷ []
@@ -297,3 +389,16 @@ example_help_of_free = refl
 example_help_file : command_of (codes "temu" ∷ codes "dis" ∷ codes "help" ∷ []) ≡ Some (command.Dis (codes "help") One)
 unfolding clap_on_literals
 example_help_file = refl
+
+-- the version, which is the program's alone
+example_version : refusals (codes "temu" ∷ codes "--version" ∷ []) ≡ DisplayVersion ∷ []
+unfolding clap_on_literals
+example_version = refl
+
+example_short_version : refusals (codes "temu" ∷ codes "-V" ∷ []) ≡ DisplayVersion ∷ []
+unfolding clap_on_literals
+example_short_version = refl
+
+example_no_version : refusals (codes "temu" ∷ codes "run" ∷ codes "--version" ∷ []) ≡ UnknownArgument ∷ []
+unfolding clap_on_literals
+example_no_version = refl

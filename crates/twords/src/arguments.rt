@@ -2,7 +2,7 @@
 
 ghost use Rattle.std.specs.Prelude.{◌≡◌, ◌≤◌, IfOk};
 ghost use Rattle.clap.specs.Words.{first_of, found_of, rows_of};
-ghost use Rattle.twords.specs.Arguments.{HasNumber, HasText, number_at, text_at};
+ghost use Rattle.twords.specs.Arguments.{HasNumber, HasSigned, HasText, IsWithin, number_at, signed_at, text_at};
 
 use clap::ArgMatches;
 use std::alloc::{AllocError, Global};
@@ -45,4 +45,13 @@ pub(crate) fn long_number(given: &ArgMatches, id: &str) -> u64
     ensures range { result ≤ 9223372036854775807 }
 {
     given.get_one::<u64>(id).unwrap()
+}
+
+/// The number of an option that may be negative.
+pub(crate) fn signed_number(given: &ArgMatches, id: &str) -> i64
+    requires { HasSigned 4294967295 id.now (rows_of (found_of given.now)) }
+    ensures value { result ≡ signed_at id.now (rows_of (found_of given.now)) }
+    ensures range { IsWithin 4294967295 result }
+{
+    given.get_one::<i64>(id).unwrap()
 }

@@ -3,6 +3,7 @@
 
 mod arguments;
 mod help_words;
+mod joined_words;
 mod parsers;
 pub mod table;
 pub mod words;

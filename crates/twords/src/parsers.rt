@@ -5,7 +5,7 @@ ghost use Rattle.clap.specs.Words.{Shape, app_of, rule_of};
 ghost use Rattle.twords.specs.CommandLines as spec;
 ghost use Rattle.twords.specs.CommandLines.{HasShape};
 
-use crate::table::{Argument, COMMANDS, CommandRow, Form, PROGRAM, Which};
+use crate::table::{Argument, COMMANDS, CommandRow, Form, PROGRAM, VERSION, Which};
 use clap::builder::ValueParser;
 use clap::{Arg, Command as Parser};
 use std::alloc::{AllocError, Global};
@@ -27,6 +27,7 @@ fn top<'a>(alloc: Global) -> Result<Parser<'a>, AllocError>
 {
     Parser::new(alloc, "temu")
         .about("Emulates nets of Inmos T414 transputers")
+        .version(VERSION)
         .after_help(PROGRAM)
         .disable_help_subcommand(true)
         .arg_required_else_help(true)

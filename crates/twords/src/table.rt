@@ -7,7 +7,7 @@ ghost use Rattle.twords.specs.Arguments.{HasAll, HasNumber, HasText, text_at};
 ghost use Rattle.twords.specs.CommandLines.{shape_of, shape_of_row};
 ghost use Rattle.twords.specs.Table as spec;
 
-use crate::arguments::{file, long_number, number, optional_file};
+use crate::arguments::{file, long_number, number, optional_file, signed_number};
 use clap::ArgMatches;
 use std::alloc::{AllocError, Global};
 use tplan::{FileName, Options};
@@ -31,14 +31,15 @@ pub enum Which {
     Dis,
 }
 
-/// What `explore` shows of each outcome below its heading.
+/// What is shown of a net that is left: of a run between its trace and its last line, of an exploration below the
+/// heading of each outcome.
 #[derive(Clone, Copy, Debug, PartialEq, Eq)]
 pub enum Show {
-    /// The dump of the outcome.
+    /// Its dump: memories, sources and sinks.
     Dump,
     /// Where the net stands, as `where` prints it.
     Where,
-    /// Nothing below the heading.
+    /// Nothing.
     Nothing,
 }
 
@@ -50,6 +51,8 @@ pub enum Command {
         wiring: FileName,
         options: Options,
         log: Option<FileName>,
+        /// What is shown of the net that the run leaves.
+        show: Show,
     },
     /// Runs the net of a wiring file by free workers, and writes what they did into a log file where one is named:
     /// `options.rounds` are the turns.
@@ -57,6 +60,8 @@ pub enum Command {
         wiring: FileName,
         options: Options,
         log: Option<FileName>,
+        /// What is shown of the net that the workers leave.
+        show: Show,
     },
     /// Finds every way in which the runs of the net of a wiring file may end, whatever their timing.
     Explore {
@@ -70,16 +75,21 @@ pub enum Command {
         /// What is shown of each outcome.
         show: Show,
     },
-    /// Does the events of a log file on the net of a wiring file.
+    /// Does the first events of a log file on the net of a wiring file.
     Replay {
         wiring: FileName,
         log: FileName,
+        /// How many events are done at most; a negative number leaves out so many of the last ones.
+        events: i64,
+        /// What is shown of the net that the events leave.
+        show: Show,
     },
-    /// Does the first events of a log file, at most so many, on the net of a wiring file, and writes where it stands.
+    /// Does the first events of a log file on the net of a wiring file, and writes where it stands.
     Where {
         wiring: FileName,
         log: FileName,
-        events: u32,
+        /// How many events are done at most; a negative number leaves out so many of the last ones.
+        events: i64,
     },
     /// Writes the instructions of an image file, as those of a node of this kind.
     Dis {
@@ -94,6 +104,18 @@ impl Which {
         ensures { result.now ≡ spec.name_of self }
     {
         self.row().name
+    }
+
+    /// The command with the program before it, as usage names it.
+    pub(crate) fn called(self) -> &'static str {
+        match self {
+            Which::Run => "temu run",
+            Which::Free => "temu free",
+            Which::Explore => "temu explore",
+            Which::Replay => "temu replay",
+            Which::Where => "temu where",
+            Which::Dis => "temu dis",
+        }
     }
 
     /// The row of the command.
@@ -121,25 +143,14 @@ impl Which {
         ensures range { IfOk result (λ c. IfSome c spec.IsInRange) }
     {
         match self {
-            Which::Run => Ok(Some(Command::Run {
-                wiring: file(alloc, given, "wiring")?,
-                options: options(given, "rounds"),
-                log: optional_file(alloc, given, "log")?,
-            })),
-            Which::Free => Ok(Some(Command::Free {
-                wiring: file(alloc, given, "wiring")?,
-                options: options(given, "turns"),
-                log: optional_file(alloc, given, "log")?,
-            })),
+            Which::Run => run_asked(alloc, given),
+            Which::Free => free_asked(alloc, given),
             Which::Explore => explored(alloc, given),
-            Which::Replay => Ok(Some(Command::Replay {
-                wiring: file(alloc, given, "wiring")?,
-                log: file(alloc, given, "log")?,
-            })),
+            Which::Replay => replayed(alloc, given),
             Which::Where => Ok(Some(Command::Where {
                 wiring: file(alloc, given, "wiring")?,
                 log: file(alloc, given, "log")?,
-                events: number(given, "events"),
+                events: signed_number(given, "events"),
             })),
             Which::Dis => Ok(Some(Command::Dis {
                 image: file(alloc, given, "image")?,
@@ -147,6 +158,60 @@ impl Which {
             })),
         }
     }
+}
+
+/// What the arguments of `run` ask for; nothing where the word of `--show` stands for nothing.
+fn run_asked(alloc: Global, given: &ArgMatches) -> Result<Option<Command>, AllocError>
+    requires { HasAll (spec.rules_of Which.Run) (rows_of (found_of given.now)) }
+    ensures command { IfOk result (λ c. spec.asked_in Which.Run (rows_of (found_of given.now)) ≡ c) }
+    ensures range { IfOk result (λ c. IfSome c spec.IsInRange) }
+{
+    let Some(show) = shown(given) else {
+        return Ok(None);
+    };
+    Ok(Some(Command::Run {
+        wiring: file(alloc, given, "wiring")?,
+        options: options(given, "rounds"),
+        log: optional_file(alloc, given, "log")?,
+        show,
+    }))
+}
+
+/// What the arguments of `free` ask for; nothing where the word of `--show` stands for nothing.
+fn free_asked(alloc: Global, given: &ArgMatches) -> Result<Option<Command>, AllocError>
+    requires { HasAll (spec.rules_of Which.Free) (rows_of (found_of given.now)) }
+    ensures command { IfOk result (λ c. spec.asked_in Which.Free (rows_of (found_of given.now)) ≡ c) }
+    ensures range { IfOk result (λ c. IfSome c spec.IsInRange) }
+{
+    let Some(show) = shown(given) else {
+        return Ok(None);
+    };
+    Ok(Some(Command::Free {
+        wiring: file(alloc, given, "wiring")?,
+        options: options(given, "turns"),
+        log: optional_file(alloc, given, "log")?,
+        show,
+    }))
+}
+
+/// What the arguments of `replay` ask for; nothing where the word of `--show` stands for nothing.
+fn replayed(alloc: Global, given: &ArgMatches) -> Result<Option<Command>, AllocError>
+    requires { HasAll (spec.rules_of Which.Replay) (rows_of (found_of given.now)) }
+    ensures command { IfOk result (λ c. spec.asked_in Which.Replay (rows_of (found_of given.now)) ≡ c) }
+    ensures range { IfOk result (λ c. IfSome c spec.IsInRange) }
+{
+    let Some(show) = shown(given) else {
+        return Ok(None);
+    };
+    let wiring = file(alloc, given, "wiring")?;
+    let log = file(alloc, given, "log")?;
+    let events = signed_number(given, "events");
+    Ok(Some(Command::Replay {
+        wiring,
+        log,
+        events,
+        show,
+    }))
 }
 
 /// What the arguments of `explore` ask for; nothing where the word of `--show` stands for nothing.
@@ -296,6 +361,25 @@ const LOG_TO_WRITE: Argument = Argument {
     help: "Writes a line for each event that was done into this file, which is made anew",
 };
 
+/// What is shown of a net: its dump, where nothing is said.
+const WHAT: Form = Form::TextOr("dump");
+
+/// `--events N`.
+const EVENTS: Argument = Argument {
+    name: "events",
+    form: Form::Number(-4_294_967_295, 4_294_967_295, "4294967295"),
+    value: "N",
+    help: "How many events are done at most, from the first on; -N: all but the last N. -4294967295 to 4294967295",
+};
+
+/// `--show WHAT` of a run.
+const SHOW: Argument = Argument {
+    name: "show",
+    form: WHAT,
+    value: "WHAT",
+    help: "What is shown of the net behind the trace: dump, where, or none",
+};
+
 /// `run`.
 pub const RUN: CommandRow = CommandRow {
     name: "run",
@@ -326,6 +410,7 @@ pub const RUN: CommandRow = CommandRow {
             help: "How many instructions and dispatches a node does in a round at most: 1 to 65536",
         },
         LOG_TO_WRITE,
+        SHOW,
     ],
     below: "\
 In: a wiring file such as
@@ -370,8 +455,12 @@ source how many of its messages are over, as `source 2 done 1 of 2`; for each si
 kept, as `sink 3 messages 1`, and a line for each of them, as `kept 01020304`; last
 `end quiet R`, where nothing is left to do after R rounds, or `end rounds R`.
 
-Example:
-  temu run pair.toml --workers 4 --log pair.log",
+With `--show where` it tells in place of memories, sources and sinks where the processes and links
+stand, as `temu where` does; with `--show none` nothing.
+
+Examples:
+  temu run pair.toml --workers 4 --log pair.log
+  temu run pair.toml --rounds 1000 --show where",
 };
 
 /// `free`.
@@ -399,11 +488,13 @@ pub const FREE: CommandRow = CommandRow {
             help: "How many instructions and dispatches a node does in a turn at most: 1 to 65536",
         },
         LOG_TO_WRITE,
+        SHOW,
     ],
     below: "\
 In: a wiring file (see `temu run --help`), whose holds are ignored.
 
-Out: what `temu run` prints; last `end quiet`, where nothing is left to do, or `end turns`.
+Out: what `temu run` prints, with `--show` too; last `end quiet`, where nothing is left to do, or
+`end turns`.
 
 Each worker is one thread, which makes so many turns over its own nodes and waits for nobody.
 Packets cross between threads by rings of two places, so the threads' timing decides which order
@@ -442,7 +533,7 @@ pub const EXPLORE: CommandRow = CommandRow {
         },
         Argument {
             name: "show",
-            form: Form::TextOr("dump"),
+            form: WHAT,
             value: "WHAT",
             help: "What is shown of each outcome: dump, where, or none for the headings alone",
         },
@@ -485,31 +576,25 @@ Example:
 pub const REPLAY: CommandRow = CommandRow {
     name: "replay",
     about: "Does the events of a log on the net of a wiring file, and prints its trace and its memories",
-    arguments: &[WIRING, LOG_TO_READ],
+    arguments: &[WIRING, LOG_TO_READ, EVENTS, SHOW],
     below: "\
 In: a wiring file (see `temu run --help`) and a log, which has a line for each event: `run 0`,
 `send 0 1`, `data 1 2`, `take 1 2` or `ack 0 1`, with the number of the node and that of its link.
 
-Out: what `temu run` prints of these events; last `end replay E` after E events.
+Out: what `temu run` prints of these events, with `--show` too; last `end replay E` after E events.
+With `--events 40` the first 40 events are done, or all where there are no more; with `--events -3`
+all but the last 3. A bad line behind them is told all the same.
 
-Example:
-  temu replay pair.toml pair.log",
+Examples:
+  temu replay pair.toml pair.log
+  temu replay pair.toml pair.log --events 40 --show where",
 };
 
 /// `where`.
 pub const WHERE: CommandRow = CommandRow {
     name: "where",
     about: "Does the events of a log on the net of a wiring file, and prints where each process stands then",
-    arguments: &[
-        WIRING,
-        LOG_TO_READ,
-        Argument {
-            name: "events",
-            form: Form::Number(0, 4_294_967_295, "4294967295"),
-            value: "N",
-            help: "How many events of the log are done at most, from its first on: 0 to 4294967295",
-        },
-    ],
+    arguments: &[WIRING, LOG_TO_READ, EVENTS],
     below: "\
 In: a wiring file (see `temu run --help`) and a log (see `temu replay --help`).
 
@@ -525,11 +610,12 @@ Out: for each node a line as `temu run` prints it before its memory, `node 0 ok`
       Wptr        #80000100
       Error       set                      only where it is; so is HaltOnError
     interrupted   #80000201 low            likewise, the low process that a high one interrupted
-    high queue    #80000300 Iptr #80000090 those that are queued, the first one first
-    low queue     #80000401 Iptr #80000094
-    waits         #80000501 Iptr #80000098 output on channel #80000700 buffer #80000710 length 4
-    waits         #80000601 Iptr #8000009c input on link 2 buffer #80000720 length 4 over 1
-    waits         #80000701 Iptr #800000a0 alternative
+    high queue    #80000300 Iptr #80000090: ldl 2
+                                           those that are queued, the first one first
+    low queue     #80000401 Iptr #80000094: ldc 4
+    waits         #80000501 Iptr #80000098: stopp, output on channel #80000700, buffer #80000710 length 4
+    waits         #80000601 Iptr #8000009c: ldl 1, input on link 2 from 0.1, buffer #80000720 length 4 over 1
+    waits         #80000701 Iptr #800000a0: mint, alternative
     link 0        sent 2 acknowledged 1    of the pending output
     link 2        got 1                    of the pending input
     link 2        byte waits 2a last       a byte that came, marked as the last of its message
@@ -538,8 +624,14 @@ Out: for each node a line as `temu run` prints it before its memory, `node 0 ok`
     link 3        enabled by #80000701     the process that is told when a byte comes
 
 Only what there is has a line. `over` tells how many bytes of the message went over. A source or a
-sink has its first line of `temu run`, and below it those of its link 0. Last `end replay E` after E
-events. Nothing is told of what the buffer of a pending link input holds.
+sink has its first line of `temu run`, and below it those of its link 0. Nothing is told of what the
+buffer of a pending link input holds. Behind all nodes, if nothing more can happen, a line for each
+link that a process, a source or a sink waits for, and what is lacking there:
+
+  stuck #80000101 of 0: output on link 1 to 1.2, no input there
+  stuck #80000601 of 1: input on link 2 from 0.1, node 0 is frozen
+
+Last `end replay E` after E events.
 
 Example:
   temu where pair.toml pair.log --events 40",
@@ -577,6 +669,9 @@ Example:
   temu dis first.img",
 };
 
+/// What `--version` tells behind the program's name: the version, and the kit that the program is proved with.
+pub(crate) const VERSION: &str = "0.1.0 (rattle-kit-13f, proved)";
+
 /// What stands below the help of the program.
 pub(crate) const PROGRAM: &str = "\
 Examples:
@@ -585,7 +680,7 @@ Examples:
   temu free pair.toml --workers 4
   temu explore pair.toml
   temu replay pair.toml pair.log
-  temu where pair.toml pair.log --events 40
+  temu where pair.toml pair.log --events -3
   temu dis first.img
 
 `temu run --help` or `temu help run`, and their like, tell what goes into a command and what comes

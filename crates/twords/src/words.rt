@@ -9,6 +9,7 @@ ghost use Rattle.twords.specs.CommandLines.{command_of, refusals};
 ghost use Rattle.twords.specs.Table.{IsInRange};
 
 use crate::help_words::with_help_option;
+use crate::joined_words::{texts_of, with_events_joined};
 use crate::parsers::{parser, program};
 use crate::table::{COMMANDS, Command, Which};
 use clap::ArgMatches;
@@ -31,6 +32,8 @@ pub fn read_words(alloc: Global, words: &[&str]) -> Result<Command, CommandFault
     ensures refused { FailsBy (refusals (map (λ w. w.now) words.now)) result }
 {
     let words = with_help_option(alloc, words)?;
+    let words = with_events_joined(alloc, words.as_slice())?;
+    let words = texts_of(alloc, words.as_slice())?;
     read_without_help(alloc, words.as_slice())
 }
 
@@ -41,16 +44,17 @@ fn read_without_help(alloc: Global, words: &[&str]) -> Result<Command, CommandFa
     ensures refused { FailsBy (spec.refusals_without_help (map (λ w. w.now) words.now)) result }
 {
     match read_taken(alloc, words) {
-        Ok(Some(command)) => Ok(command),
-        Ok(None) => Err(refused_show(alloc)?),
+        Ok(Ok(command)) => Ok(command),
+        Ok(Err(which)) => Err(refused_show(alloc, which)?),
         Err(fault) => Err(fault),
     }
 }
 
-/// What words ask for that the parser takes; nothing where a word of `--show` stands for nothing.
-fn read_taken(alloc: Global, words: &[&str]) -> Result<Option<Command>, CommandFault>
-    ensures command { IfOk result (λ c. spec.command_without_help (map (λ w. w.now) words.now) ≡ c) }
-    ensures range { IfOk result (λ c. IfSome c IsInRange) }
+/// What words ask for that the parser takes; the command alone, where its word of `--show` stands for nothing.
+fn read_taken(alloc: Global, words: &[&str]) -> Result<Result<Command, Which>, CommandFault>
+    ensures command { IfOk result (λ taken. spec.command_without_help (map (λ w. w.now) words.now)
+        ≡ spec.command_taken taken) }
+    ensures range { IfOk result (λ taken. IfOk taken IsInRange) }
     ensures refused { FailsBy (fault_of spec.program (map (λ w. w.now) words.now)) result }
 {
     let matches = program(alloc)?.try_get_matches_from(words)?;
@@ -60,16 +64,14 @@ fn read_taken(alloc: Global, words: &[&str]) -> Result<Option<Command>, CommandF
     Ok(asked(alloc, name, given)?)
 }
 
-/// The fault of a word of `--show` that stands for nothing.
-fn refused_show(alloc: Global) -> Result<CommandFault, AllocError>
+/// The fault of a word of `--show` of this command that stands for nothing.
+fn refused_show(alloc: Global, which: Which) -> Result<CommandFault, AllocError>
     ensures { IfOk result (λ fault. kind_of fault ≡ InvalidValue) }
 {
-    parser(alloc, Which::Explore)?
-        .bin_name("temu explore")?
-        .error(
-            ErrorKind::InvalidValue,
-            "invalid value for '--show <WHAT>': not dump, where or none",
-        )
+    parser(alloc, which)?.bin_name(which.called())?.error(
+        ErrorKind::InvalidValue,
+        "invalid value for '--show <WHAT>': not dump, where or none",
+    )
 }
 
 /// The command of this name, if there is one.
@@ -84,14 +86,23 @@ fn named(name: &str) -> Option<Which>
     None
 }
 
-/// What the arguments of the command of this name ask for; nothing where a word of `--show` stands for nothing.
-fn asked(alloc: Global, name: &str, given: &ArgMatches) -> Result<Option<Command>, AllocError>
+/// What the arguments of the command of this name ask for; the command alone, where its word of `--show` stands for
+/// nothing.
+fn asked(
+    alloc: Global,
+    name: &str,
+    given: &ArgMatches,
+) -> Result<Result<Command, Which>, AllocError>
     requires { spec.IsWhole name.now (rows_of (found_of given.now)) }
-    ensures command { IfOk result (λ c. spec.command_in (Some (name.now, rows_of (found_of given.now))) ≡ c) }
-    ensures range { IfOk result (λ c. IfSome c IsInRange) }
+    ensures command { IfOk result (λ taken. spec.command_in (Some (name.now, rows_of (found_of given.now)))
+        ≡ spec.command_taken taken) }
+    ensures range { IfOk result (λ taken. IfOk taken IsInRange) }
 {
     let Some(which) = named(name) else {
         unreachable!()
     };
-    which.asked(alloc, given)
+    match which.asked(alloc, given)? {
+        Some(command) => Ok(Ok(command)),
+        None => Ok(Err(which)),
+    }
 }
