@@ -1,4 +1,4 @@
-//! Free workers, and what is printed of what they did: trace, dumps and last line.
+//! Free workers, and what is printed of what they did: trace, what is shown of the net, and last line.
 
 ghost use Rattle.std.specs.Prelude.{◌≡◌, Ok, Err, IfOk, IfErr, IsTrue, MatchResult, length, map, true, OnOk};
 ghost use Rattle.std.specs.Io.KnownBytes.{Appends};
@@ -20,7 +20,7 @@ ghost use Rattle.ttext.specs.Outcomes.{HasOutputCause, IsDue, IsFaultOf, ShowsOn
 
 use crate::fault::Fault;
 use crate::opening::open_net;
-use crate::printed_run::{RunEnd, write_run};
+use crate::printed_run::{RunEnd, lists_for, write_run};
 use std::alloc::Global;
 use std::thread::Threads;
 use tfiles::counted::CountedWrite;
@@ -34,12 +34,14 @@ use tnet::laws::quiet_is_nothing_enabled;
 use tplan::{Options, Wiring};
 use trounds::NetFault;
 use tword::Items;
+use twords::Show;
 
 /// Runs the net of a wiring and the files of its images, one file a node, by free workers: each makes so many turns
 /// as the options have rounds, on a thread of its own where one can be started, or stops at a full clock, or when
-/// none finds anything more to do; then they are gathered. It writes the trace, the dump of each node, source and
-/// sink, and a last line `end quiet`, or `end turns` where the net is not quiet. The wiring's holds are ignored.
-/// Nothing is written before the workers are gathered.
+/// none finds anything more to do; then they are gathered. It writes the trace, what is to be shown of the net then
+/// (the dump of each node, source and sink, where the net stands, or nothing), and a last line `end quiet`, or
+/// `end turns` where the net is not quiet. The wiring's holds are ignored. Nothing is written before the workers are
+/// gathered and all memory is taken.
 ///
 /// # Errors
 /// The first of these: `Image` for the first file that is no image, `Net` for the lowest fault of the plan,
@@ -51,6 +53,7 @@ pub fn free_text<R: Threads + Sync, W: CountedWrite>(
     wiring: &Wiring,
     files: Items<Items<u8>>,
     options: &Options,
+    show: Show,
     out: &mut W,
 ) -> Result<Gathered, Fault>
     requires { length files ≡ length wiring.now.nodes }
@@ -60,15 +63,15 @@ pub fn free_text<R: Threads + Sync, W: CountedWrite>(
         (IsDue (shared_of wiring.now files options.now)) }
 
     // what is printed of free workers is written
-    ensures text { IfOk result (λ g. Appends (W.contents out.old) (W.contents out.new) (spec.free_text g)) }
+    ensures text { IfOk result (λ g. Appends (W.contents out.old) (W.contents out.new) (spec.free_text show g)) }
 
     // the headline: this is the text of one run of the rendezvous machine, in which each message that is complete
-    // is one step that copies it whole
+    // is one step that copies it whole; what is shown is that of the net that it leaves
     ensures run { IfOk result
-        (λ g. ShowsOneRun wiring.now files g.history (free_last g) (W.contents out.old) (W.contents out.new)) }
+        (λ g. ShowsOneRun show wiring.now files g.history (free_last g) (W.contents out.old) (W.contents out.new)) }
 
     // where a fault is answered nothing is written, or the beginning of the text of what workers did
-    ensures left { IfErr result (IsFreeLeft W.contents (IsFreeRun wiring.now files options.now) out.old out.new) }
+    ensures left { IfErr result (IsFreeLeft W.contents show (IsFreeRun wiring.now files options.now) out.old out.new) }
 
     // the output failed just where a write did
     ensures cause { IfErr result (HasOutputCause (W.failures out.old) (W.failures out.new)) }
@@ -77,7 +80,9 @@ pub fn free_text<R: Threads + Sync, W: CountedWrite>(
     let net = open_net(alloc, wiring, files)?;
     let gathered = run_free(rt, alloc, net, options)?;
     let end = end_of(&gathered.net);
-    write_run(out, gathered.notes.as_slice(), &gathered.net, end)?;
+    let lists = lists_for(alloc, show, &gathered.net)?;
+    let notes = gathered.notes.as_slice();
+    write_run(out, notes, &gathered.net, end, show, lists.as_slice())?;
     Ok(gathered)
 }
 
@@ -91,20 +96,23 @@ pub(crate) fn free_net<R: Threads + Sync, W: CountedWrite>(
     wiring: &Wiring,
     files: Items<Items<u8>>,
     options: &Options,
+    show: Show,
     out: &mut W,
 ) -> Result<Net, Fault>
     requires { length files ≡ length wiring.now.nodes }
     ensures answer { MatchResult result
-        (λ net. IsFreeShown W.contents wiring.now files options.now net out.old out.new)
+        (λ net. IsFreeShown W.contents show wiring.now files options.now net out.old out.new)
         (IsDue (shared_of wiring.now files options.now)) }
-    ensures left { IfErr result (IsFreeLeft W.contents (IsFreeRun wiring.now files options.now) out.old out.new) }
+    ensures left { IfErr result (IsFreeLeft W.contents show (IsFreeRun wiring.now files options.now) out.old out.new) }
     ensures cause { IfErr result (HasOutputCause (W.failures out.old) (W.failures out.new)) }
     ensures stayed { OnOk result (HasStayed (W.failures out.old) (W.failures out.new)) }
 {
     let net = open_net(alloc, wiring, files)?;
     let told = tell_free(rt, alloc, net, options)?;
     let end = end_of(&told.net);
-    write_run(out, told.notes.as_slice(), &told.net, end)?;
+    let lists = lists_for(alloc, show, &told.net)?;
+    let notes = told.notes.as_slice();
+    write_run(out, notes, &told.net, end, show, lists.as_slice())?;
     Ok(told.net)
 }
 

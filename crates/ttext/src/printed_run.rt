@@ -1,10 +1,12 @@
-//! What is printed of a run, whichever way it was done: trace, dumps and last line.
+//! What is printed of a run, whichever way it was done: trace, what is shown of the net that it leaves, and last line.
 
-ghost use Rattle.std.specs.Prelude.{IfErr, OnOk};
+ghost use Rattle.std.specs.Prelude.{◌≡◌, ◌≤◌, IfErr, IfOk, OnOk, length};
+ghost use Rattle.tword.specs.Limits.{most_nodes};
 ghost use Rattle.tfiles.specs.Failures.{HasRisen, HasStayed};
 ghost use Rattle.tfiles.specs.Outputs.{IsOut, Tells};
-ghost use Rattle.ttext.specs.PrintedRuns.{last_line, printed_run};
+ghost use Rattle.ttext.specs.PrintedRuns.{last_line, listed_for, printed_run, shown_net};
 
+use std::alloc::{AllocError, Global};
 use tfiles::counted::CountedWrite;
 use tfiles::writing::dump::put_dump;
 use tfiles::writing::end::{put_free_end, put_replay_end, put_rounds_end};
@@ -12,6 +14,9 @@ use tfiles::writing::output::{Output, WriteFault};
 use tfiles::writing::trace::put_trace;
 use tnet::Net;
 use tplan::Note;
+use twhere::{Listed, list_net, put_where};
+use tword::Items;
+use twords::Show;
 
 /// How a run has ended, as its last line tells.
 #[derive(Clone, Copy, Debug, PartialEq, Eq)]
@@ -24,22 +29,53 @@ pub enum RunEnd {
     Replay { events: u64 },
 }
 
-/// Writes what is printed of a run that told these notes, left this net and ended so.
+/// The lists that it takes to show this of a net: of where it stands the processes of each node, else none.
+///
+/// # Errors
+/// Where the allocator refuses.
+pub(crate) fn lists_for(alloc: Global, show: Show, net: &Net) -> Result<Items<Listed>, AllocError>
+    ensures { IfOk result (λ lists. lists ≡ listed_for show net.now) }
+{
+    match show {
+        Show::Where => list_net(alloc, net),
+        Show::Dump | Show::Nothing => Ok(Items::new(Vec::new(alloc))),
+    }
+}
+
+/// Writes what is printed of a run that told these notes, left this net and ended so; this is shown of the net, and
+/// the lists are those that it takes.
 pub(crate) fn write_run<W: CountedWrite>(
     out: &mut W,
     notes: &[Note],
     net: &Net,
     end: RunEnd,
+    show: Show,
+    lists: &[Listed],
 ) -> Result<(), WriteFault>
-    ensures out { IsOut (W.contents out.old) (W.contents out.new) (printed_run notes.now net.now end) result }
+    requires listed { lists.now ≡ listed_for show net.now }
+    requires few { length net.now.nodes ≤ most_nodes }
+    ensures out { IsOut (W.contents out.old) (W.contents out.new) (printed_run show notes.now net.now end) result }
     ensures cause { IfErr result (λ _. HasRisen (W.failures out.old) (W.failures out.new)) }
     ensures stayed { OnOk result (HasStayed (W.failures out.old) (W.failures out.new)) }
 {
     let mut output = Output::new(out);
     put_trace(&mut output, notes);
-    put_dump(&mut output, net);
+    put_shown(&mut output, net, show, lists);
     put_end(&mut output, end);
     output.finish()
+}
+
+/// What is shown of a net, with the lists that it takes.
+fn put_shown<W: CountedWrite>(out: &mut Output<'_, W>, net: &Net, show: Show, lists: &[Listed])
+    requires listed { lists.now ≡ listed_for show net.now }
+    requires few { length net.now.nodes ≤ most_nodes }
+    ensures { Tells W.contents W.failures out.old out.new (shown_net show net.now) }
+{
+    match show {
+        Show::Dump => put_dump(out, net),
+        Show::Where => put_where(out, net, lists),
+        Show::Nothing => {}
+    }
 }
 
 /// The last line of what is printed of a run.

@@ -2,12 +2,10 @@ use Rattle.std.proofs.Common.{List, refl, ap, ◌∙◌, subst}
 use Rattle.std.specs.Io.KnownBytes.{Appends}
 use Rattle.tplan.specs.declared.event.Note.{Note}
 use Rattle.tnet.specs.Quiet.{is_quiet}
-use Rattle.tnet.specs.View.{view}
-use Rattle.tfiles.specs.Texts.{run_text}
 use Rattle.ttext.specs.declared.printed_run.RunEnd.{RunEnd}
 use Rattle.ttext.specs.declared.printed_run.RunEnd.TheVariants.{Turns}
 use Rattle.ttext.specs.Free.{shared_with}
-use Rattle.ttext.specs.PrintedRuns.{last_line, printed_run}
+use Rattle.ttext.specs.PrintedRuns.{last_line, printed_run, shown_run}
 use Rattle.ttext.proofs.free.free_net.Goals as goal
 
 pub returns-clause-answer : goal.returns-clause-answer
@@ -16,12 +14,13 @@ returns-clause-answer g c =
     let told = c.in_ok-told.told in
     let old = g.W.Write.contents c.args.out.now in
     let new = g.W.Write.contents c.write_run.new.out in
-    let by_end : Appends old new (printed_run c.as_slice.result.now told.net (Turns (is_quiet told.net))) =
-    subst (λ (e : RunEnd). Appends old new (printed_run c.as_slice.result.now told.net e)) c.end_of-end.ensures
+    let what = c.args.show in
+    let by_end : Appends old new (printed_run what c.as_slice-notes.result.now told.net (Turns (is_quiet told.net))) =
+    subst (λ (e : RunEnd). Appends old new (printed_run what c.as_slice-notes.result.now told.net e)) c.end_of-end.ensures
     c.in_ok-write_run.ensures.out in
-    let text : Appends old new (printed_run told.notes told.net (Turns (is_quiet told.net))) =
-    subst (λ (n : List Note). Appends old new (printed_run n told.net (Turns (is_quiet told.net))))
-    c.as_slice.ensures by_end in
+    let text : Appends old new (printed_run what told.notes told.net (Turns (is_quiet told.net))) =
+    subst (λ (n : List Note). Appends old new (printed_run what n told.net (Turns (is_quiet told.net))))
+    c.as_slice-notes.ensures by_end in
     record {
       gathered = record { net = told.net; history = t.history; notes = told.notes };
       ran = record {
@@ -37,7 +36,7 @@ returns-clause-answer g c =
         opening = c.in_ok-net.ensures.opening;
         run = t.run;
         printed = subst
-            (λ (n : List Note). Appends old new (run_text n (view told.net) (last_line (Turns (is_quiet told.net)))))
+            (λ (n : List Note). Appends old new (shown_run what n told.net (last_line (Turns (is_quiet told.net)))))
             t.notes_told text;
       };
     }

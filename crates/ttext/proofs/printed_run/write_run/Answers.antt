@@ -4,7 +4,7 @@ use Rattle.ttext.proofs.printed_run.write_run.Goals as goal
 
 pub returns : goal.returns
 returns g c =
-    let told = tells_then c.put_trace.ensures (tells_then c.put_dump.ensures c.put_end.ensures) in
+    let told = tells_then c.put_trace.ensures (tells_then c.put_shown.ensures c.put_end.ensures) in
     record {
       out = written_out c.new-output.ensures told c.finish.ensures _ (search rules);
       cause = cut_by_failure c.new-output.ensures told c.finish.ensures _ (search rules);
