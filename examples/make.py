@@ -400,7 +400,7 @@ def placed(lines, names, node):
     """Returns the lines of `temu where` with names behind the addresses of one node, or of all nodes."""
     told, mine = [], node is None
     for line in lines:
-        head = re.match(r"(?:node|source|sink) (\d+) ", line)
+        head = re.match(r"(?:node|source|sink|stuck #[0-9a-f]{8} of|stuck source|stuck sink) (\d+)\b", line)
         mine = node in (None, int(head[1])) if head else mine
         told.append(re.sub(r"(Iptr +)?#([0-9a-f]{8})", lambda it: named(it, names), line) if mine else line)
     return told
