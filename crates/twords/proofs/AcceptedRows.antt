@@ -10,7 +10,7 @@ use Rattle.clap.specs.Kinds.{Kinds, or_else, range_kinds, value_kinds, values_ki
 use Rattle.clap.specs.Walk.{Row, Rule, Text, action_of, arg_by_id, at_row, more_values, most_values, reading_by, used}
 use Rattle.clap.specs.Walk.{used_as, values_or_missing, with_values, without}
 use Rattle.clap.specs.Faults.{action_fault, repeat_fault, use_fault, values_fault}
-use Rattle.clap.specs.declared.builder.action.ArgAction.TheVariants.{Set, Help, Version}
+use Rattle.clap.specs.declared.builder.action.ArgAction.TheVariants.{Set, Append, Help, Version, SetTrue}
 use Rattle.clap.specs.declared.builder.value_parser.ValueParser.{ValueParser}
 use Rattle.clap.specs.declared.error.kind.ErrorKind.TheVariants as kind
 use Rattle.clap.specs.declared.parser.matches.ValueSource.{ValueSource}
@@ -64,10 +64,14 @@ each_found P test (y ∷ ys) x h e = go (test y) refl (each_found P test ys x h.
         (subst P same h.0, subst (λ z. test z ≡ true) same is)
     go false is later f = later f
 
--- a rule that takes at least one value, or asks for help or the version; no rule before it has its id
+-- a rule that takes at least one value, once or several times, or asks for help or the version, or takes none and has
+-- one that stands for that; no rule before it has its id
 pub record IsFit (c : List Rule) (a : Rule) : Type 0 where
   pub first : arg_by_id c a.id ≡ Some a
-  pub action : ((action_of a ≡ Set) × (0 < (unwrap_or_range a.range).start_inclusive)) ⊎ ((action_of a ≡ Help) ⊎ (action_of a ≡ Version))
+  pub action :
+      ((action_of a ≡ Set) × (0 < (unwrap_or_range a.range).start_inclusive))
+      ⊎ (((action_of a ≡ Append) × (0 < (unwrap_or_range a.range).start_inclusive))
+      ⊎ ((action_of a ≡ Help) ⊎ ((action_of a ≡ Version) ⊎ ((action_of a ≡ SetTrue) × (0 < length a.missing)))))
 
 -- the row has values that its rule accepts
 pub record Holds (a : Rule) (r : Row) : Type 0 where
@@ -136,6 +140,26 @@ used_set c again a (v ∷ vs) rows first lt e h =
     with_values_passes c a CommandLine (v ∷ vs) (without a.id rows) first lt
     (neither (repeat_fault again a.id rows) _ e).1 (without_passes c a.id rows h)
 
+used_append : (c : List Rule) (again : Bool) (a : Rule) (values : List Text) (rows : List Row) → arg_by_id c a.id ≡ Some a
+    → 0 < length values
+    → action_fault Append again a (values_or_missing a values) rows ≡ [] → Rows c rows
+    → Rows c (used_as Append a.id (reading_by a) (values_or_missing a values) rows)
+used_append c again a [] rows first lt e h = absurd (omega arith)
+used_append c again a (v ∷ vs) rows first lt e h = with_values_passes c a CommandLine (v ∷ vs) rows first lt e h
+
+-- the values of a use, or those that stand for none
+some_value : (a : Rule) (values : List Text) → 0 < length a.missing → 0 < length (values_or_missing a values)
+some_value a [] lt = lt
+some_value a (v ∷ vs) lt = omega arith
+
+used_flag : (c : List Rule) (again : Bool) (a : Rule) (values : List Text) (rows : List Row) → arg_by_id c a.id ≡ Some a
+    → 0 < length a.missing
+    → action_fault SetTrue again a (values_or_missing a values) rows ≡ [] → Rows c rows
+    → Rows c (used_as SetTrue a.id (reading_by a) (values_or_missing a values) rows)
+used_flag c again a values rows first lt e h =
+    with_values_passes c a CommandLine (values_or_missing a values) (without a.id rows) first (some_value a values lt)
+    (neither (repeat_fault again a.id rows) _ e).1 (without_passes c a.id rows h)
+
 pub used_passes : (c : List Rule) (again : Bool) (a : Rule) (values : List Text) (rows : List Row) → IsFit c a
     → use_fault again a values rows ≡ [] → Rows c rows → Rows c (used a values rows)
 used_passes c again a values rows fit e h =
@@ -146,6 +170,17 @@ used_passes c again a values rows fit e h =
           subst (λ x. action_fault x again a (values_or_missing a values) rows ≡ []) p.0 parts.1 in
           subst (λ x. Rows c (used_as x a.id (reading_by a) (values_or_missing a values) rows)) (sym p.0)
           (used_set c again a values rows fit.first (given _ _ (length values) p.1 parts.0) own h)
-      | inr (inl p) ↦ subst (λ x. Rows c (used_as x a.id (reading_by a) (values_or_missing a values) rows)) (sym p) h
-      | inr (inr p) ↦ subst (λ x. Rows c (used_as x a.id (reading_by a) (values_or_missing a values) rows)) (sym p) h
+      | inr (inl p) ↦
+          let own : action_fault Append again a (values_or_missing a values) rows ≡ [] =
+          subst (λ x. action_fault x again a (values_or_missing a values) rows ≡ []) p.0 parts.1 in
+          subst (λ x. Rows c (used_as x a.id (reading_by a) (values_or_missing a values) rows)) (sym p.0)
+          (used_append c again a values rows fit.first (given _ _ (length values) p.1 parts.0) own h)
+      | inr (inr (inl p)) ↦ subst (λ x. Rows c (used_as x a.id (reading_by a) (values_or_missing a values) rows)) (sym p) h
+      | inr (inr (inr (inl p))) ↦
+          subst (λ x. Rows c (used_as x a.id (reading_by a) (values_or_missing a values) rows)) (sym p) h
+      | inr (inr (inr (inr p))) ↦
+          let own : action_fault SetTrue again a (values_or_missing a values) rows ≡ [] =
+          subst (λ x. action_fault x again a (values_or_missing a values) rows ≡ []) p.0 parts.1 in
+          subst (λ x. Rows c (used_as x a.id (reading_by a) (values_or_missing a values) rows)) (sym p.0)
+          (used_flag c again a values rows fit.first p.1 own h)
     ]

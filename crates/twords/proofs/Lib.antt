@@ -1,4 +1,6 @@
 pub mod AcceptedRows
+mod Digits
+mod NodeNumbers
 pub mod WordWalks
 pub mod LevelRows
 pub mod WordAnswers

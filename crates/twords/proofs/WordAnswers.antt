@@ -16,7 +16,7 @@ use Rattle.clap.specs.Simple.{index_after, inherited, label_of, parser_for, with
 use Rattle.clap.specs.Simple.{with_missing_value}
 use Rattle.clap.specs.Simple.{marked_built, names_of, rows_at, subcommand_of, with_index, with_leaf_noted}
 use Rattle.clap.specs.Faults.{check_fault, entered_fault, level_fault, values_fault}
-use Rattle.clap.specs.declared.builder.action.ArgAction.TheVariants.{Set, Help, Version}
+use Rattle.clap.specs.declared.builder.action.ArgAction.TheVariants.{Set, Append, Help, SetTrue, Version}
 use Rattle.clap.specs.declared.builder.value_parser.ValueParser.{ValueParser}
 use Rattle.clap.specs.declared.builder.value_parser.ValueParser.TheVariants as vp
 use Rattle.clap.specs.declared.builder.value_parser.Reading.TheVariants.{AsWritten}
@@ -95,18 +95,29 @@ one_value : (c : List Rule) (a : Rule) → arg_by_id c a.id ≡ Some a → actio
     → (unwrap_or_range a.range).start_inclusive ≡ 1 → IsFit c a
 one_value c a first set least = record { first = first; action = inl (set, omega arith) }
 
+-- and one that takes one value each time
+more_values : (c : List Rule) (a : Rule) → arg_by_id c a.id ≡ Some a → action_of a ≡ Append
+    → (unwrap_or_range a.range).start_inclusive ≡ 1 → IsFit c a
+more_values c a first append least = record { first = first; action = inr (inl (append, omega arith)) }
+
 asks_help : (c : List Rule) (a : Rule) → arg_by_id c a.id ≡ Some a → action_of a ≡ Help → IsFit c a
-asks_help c a first help = record { first = first; action = inr (inl help) }
+asks_help c a first help = record { first = first; action = inr (inr (inl help)) }
 
 asks_version : (c : List Rule) (a : Rule) → arg_by_id c a.id ≡ Some a → action_of a ≡ Version → IsFit c a
-asks_version c a first version = record { first = first; action = inr (inr version) }
+asks_version c a first version = record { first = first; action = inr (inr (inr (inl version))) }
+
+-- a rule that takes no value, for which one stands
+no_value : (c : List Rule) (a : Rule) → arg_by_id c a.id ≡ Some a → action_of a ≡ SetTrue → length a.missing ≡ 1
+    → IsFit c a
+no_value c a first flag missing =
+    record { first = first; action = inr (inr (inr (inr (flag, omega (arith, missing))))) }
 
 -- a command has such rules, and is found by its name
 abbrev IsListed : Which → Type 0
 IsListed which = RulesFit (built_of (shape_of which)) × (named (name_of which) ≡ Some which)
 
 all_listed : Each IsListed commands
-all_listed = search (rules, one_value, asks_help)
+all_listed = search (rules, one_value, more_values, no_value, asks_help)
 
 top_fits : RulesFit (built program).top
 top_fits = (asks_help _ _ refl refl, (asks_version _ _ refl refl, tt))

@@ -1,10 +1,12 @@
 -- The arguments of a command line: the rules by which `clap` reads them, and the texts and numbers that they have.
 -- Source: own choice; `Rattle.clap.specs` says how `clap` reads words.
-use Rattle.std.specs.Prelude.{ℕ, ◌≡◌, pos, Bool, true, false, List, [], ◌∷◌, Option, Some, is_some}
+use Rattle.std.specs.Prelude.{ℕ, ◌≡◌, pos, Bool, true, false, List, [], ◌∷◌, Option, Some, is_some, codes, bytes_eq}
 use Rattle.std.specs.Prelude.{ℤ, negsuc, neg_ℤ, ◌≤ℤ◌}
 use Rattle.std.specs.Option.{option_map_or}
+use Rattle.std.specs.Prelude.{unwrap_or}
 use Rattle.std.specs.Str.Parse.{digits_value, signed_digits_value, without_leading_plus}
-use Rattle.clap.specs.Words.{Text, Rule, Row, IsSignedIn, new_rule, first_of, one_of, without_minus}
+use Rattle.clap.specs.Words.{Text, Rule, Row, IsSignedIn, new_rule, all_of, first_of, one_of, without_minus}
+use Rattle.clap.specs.declared.builder.action.ArgAction.TheVariants.{Append, SetTrue}
 use Rattle.clap.specs.declared.builder.value_parser.ValueParser.{ValueParser}
 use Rattle.clap.specs.declared.builder.value_parser.ValueParser.TheVariants.{Signed}
 
@@ -21,6 +23,22 @@ option_rule id = record (new_rule id) { long = Some id; value_names = 1 }
 -- an option with a text, and what it is where it is not given
 abbrev pub text_rule : Text → Text → Rule
 text_rule id default = record (option_rule id) { defaults = default ∷ [] }
+
+-- an option with a text that may be given several times
+abbrev pub texts_rule : Text → Rule
+texts_rule id = record (option_rule id) { action = Some Append }
+
+-- an option with nothing behind it
+abbrev pub flag_rule : Text → Rule
+flag_rule id = record (option_rule id) { action = Some SetTrue }
+
+-- an option with a text that has to be given
+abbrev pub wanted_rule : Text → Rule
+wanted_rule id = record (option_rule id) { required = true }
+
+-- an option whose value is a number of a range, and has to be given
+abbrev pub wanted_number_rule : Text → ValueParser → Rule
+wanted_number_rule id parser = record (wanted_rule id) { parser = Some parser }
 
 -- an option whose value is a number of a range, and what it is where it is not given
 abbrev pub number_rule : Text → ValueParser → Text → Rule
@@ -39,6 +57,14 @@ around most = Signed (neg_ℤ (pos most)) (pos most)
 -- the text of an argument
 abbrev pub text_at : Text → List Row → Text
 text_at id rows = option_map_or (λ t. t) (first_of id rows) []
+
+-- the texts of an argument in their order, none where it is not given
+abbrev pub texts_at : Text → List Row → List Text
+texts_at id rows = unwrap_or (all_of id rows) []
+
+-- an option with nothing behind it was given
+abbrev pub flag_at : Text → List Row → Bool
+flag_at id rows = option_map_or (λ t. bytes_eq t (codes "true")) (first_of id rows) false
 
 -- the number of an argument
 abbrev pub number_at : Text → List Row → ℕ

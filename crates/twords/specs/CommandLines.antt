@@ -1,7 +1,7 @@
 -- What the words of a command line ask for, by what `clap` reads of them for these commands.
 -- Source: the forms of the commands are our own choice; `Rattle.clap.specs` says how `clap` reads words, and why it
 -- refuses them.
-use Rattle.std.specs.Prelude.{refl, ◌≡◌, true, false, List, [], ◌∷◌, Option, Some, None, ◌++◌, map, codes, bytes_eq}
+use Rattle.std.specs.Prelude.{ℕ, refl, ◌≡◌, true, false, List, [], ◌∷◌, Option, Some, None, ◌++◌, map, codes, bytes_eq}
 use Rattle.std.specs.Prelude.{Result, Ok, Err, pos, negsuc}
 use Rattle.std.specs.Prelude.{option_and_then, if◌then◌else◌, IsSomeAnd, Bool, ◌==◌, ◌&&◌, nat_le, drop, length, string_bytes, ◌≤◌}
 use Rattle.std.specs.List.{find, fold}
@@ -11,15 +11,26 @@ use Rattle.clap.proofs.OnLiterals.{clap_on_literals}
 use Rattle.clap.specs.declared.error.kind.ErrorKind.TheVariants.{DisplayHelp, DisplayHelpOnMissingArgumentOrSubcommand}
 use Rattle.clap.specs.declared.error.kind.ErrorKind.TheVariants.{DisplayVersion, MissingRequiredArgument, UnknownArgument}
 use Rattle.clap.specs.Kinds.{or_else}
-use Rattle.clap.specs.declared.error.kind.ErrorKind.TheVariants.{InvalidValue, ValueValidation}
+use Rattle.clap.specs.declared.error.kind.ErrorKind.TheVariants.{InvalidValue, TooManyValues, ValueValidation}
 use Rattle.clap.specs.declared.builder.arg.Arg.{Arg}
 use Rattle.clap.specs.declared.builder.command.Command.{Command as Parser}
 use Rattle.clap.specs.declared.builder.command.Command.TheViews.{out-Command as fields_of}
 use Rattle.clap.specs.declared.builder.value_parser.ValueParser.TheVariants.{Signed}
 use Rattle.tword.specs.declared.kind.Kind.TheVariants.{One, Two}
-use Rattle.twords.specs.Arguments.{file_rule, number_rule, option_rule, text_rule, HasAll}
+use Rattle.twords.specs.Arguments.{file_rule, flag_rule, number_rule, option_rule, text_rule, texts_rule}
+use Rattle.twords.specs.Arguments.{wanted_number_rule, wanted_rule, HasAll}
+use Rattle.twords.specs.NamesFiles.{names_file_of}
 use Rattle.twords.specs.Table.{asked_in, commands, name_of, rules_of}
+use Rattle.tplan.specs.declared.options.Options.{Options}
+use Rattle.twords.specs.declared.table.Show.{Show}
 use Rattle.twords.specs.declared.table.Show.TheVariants as show
+use Rattle.twords.specs.declared.table.Printing.{Printing}
+use Rattle.twords.specs.declared.table.Printing.TheVariants as printing
+use Rattle.twords.specs.declared.table.Running.{Running}
+use Rattle.twords.specs.declared.table.Exploring.{Exploring}
+use Rattle.twords.specs.declared.histories.Stepping.{Stepping}
+use Rattle.twords.specs.declared.histories.Watching.{Watching}
+use Rattle.twords.specs.declared.names_files.NamesFile.{NamesFile}
 use Rattle.twords.specs.declared.table.Command.{Command}
 use Rattle.twords.specs.declared.table.Command.TheVariants as command
 use Rattle.twords.specs.declared.table.Which.{Which}
@@ -109,11 +120,11 @@ abbrev pub command_of : List Text → Option Command
 command_of words = command_without_help (plain_words words)
 
 -- the command that was taken, where it is told what the words ask for
-abbrev pub command_taken : Result Command Which → Option Command
+abbrev pub command_taken : {E : Type 0} → Result Command E → Option Command
 command_taken (Ok asked) = Some asked
-command_taken (Err which) = None
+command_taken (Err unread) = None
 
--- why what the parser takes is refused: it asks for nothing, by a word of `--show` that stands for nothing
+-- why what the parser takes is refused: it asks for nothing, by a word of an option that stands for nothing
 abbrev pub unread : Option Command → Kinds
 unread (Some asked) = []
 unread None = InvalidValue ∷ []
@@ -137,6 +148,10 @@ abbrev pub rule_of_form : Text → Form → Rule
 rule_of_form name form.File = file_rule name
 rule_of_form name form.Text = option_rule name
 rule_of_form name (form.TextOr default) = text_rule name default.now
+rule_of_form name form.Texts = texts_rule name
+rule_of_form name form.Flag = flag_rule name
+rule_of_form name form.WantedText = wanted_rule name
+rule_of_form name (form.WantedNumber least most) = wanted_number_rule name (Signed least most)
 rule_of_form name (form.Number least most default) = number_rule name (Signed least most) default.now
 
 -- an argument of the table, by its name and what it takes
@@ -169,6 +184,41 @@ IsLocal a = a.global ≡ false
 
 -- ---- examples
 
+-- what is asked for, part by part; a history of `pair.log` on `pair.toml`
+abbrev running : Text → Options → Option Text → Printing → Running
+running named options log what = record { wiring = named; options = options; log = log; printing = what }
+
+abbrev exploring : Text → (states steps : ℕ) → Option Text → Show → Exploring
+exploring named states steps log what =
+    record { wiring = named; states = states; steps = steps; log = log; show = what }
+
+abbrev stepping : (node from to last : ℕ) → List NamesFile → Stepping
+stepping node from to last named =
+    record {
+      wiring = codes "pair.toml";
+      log = codes "pair.log";
+      node = node;
+      from = from;
+      to = to;
+      last = last;
+      names = named;
+    }
+
+abbrev watching : (node address length : ℕ) → List NamesFile → Watching
+watching node address length named =
+    record {
+      wiring = codes "pair.toml";
+      log = codes "pair.log";
+      node = node;
+      address = address;
+      length = length;
+      names = named;
+    }
+
+-- the options of a run by default
+abbrev usual_options : Options
+usual_options = record { workers = 1; rounds = 100000; slice = 64 }
+
 abbrev words_of_run : List Text
 words_of_run = codes "temu" ∷ codes "run" ∷ codes "--rounds" ∷ codes "7" ∷ codes "pair.toml" ∷ codes "--log=pair.log"
     ∷ codes "--workers" ∷ codes "64" ∷ []
@@ -176,7 +226,8 @@ words_of_run = codes "temu" ∷ codes "run" ∷ codes "--rounds" ∷ codes "7" �
 -- options of `run` in any order, and one by default
 example_run : command_of words_of_run
     ≡ Some
-    (command.Run (codes "pair.toml") (record { workers = 64; rounds = 7; slice = 64 }) (Some (codes "pair.log")) show.Dump)
+    (command.Run (running (codes "pair.toml") (record { workers = 64; rounds = 7; slice = 64 })
+    (Some (codes "pair.log")) (printing.Lines show.Dump)))
 unfolding clap_on_literals
 example_run = refl
 
@@ -184,115 +235,242 @@ example_run = refl
 example_free : command_of (codes "temu" ∷ codes "free" ∷ codes "--log" ∷ codes "pair.log" ∷ codes "--turns=7"
     ∷ codes "pair.toml" ∷ codes "--slice" ∷ codes "65536" ∷ [])
     ≡ Some
-    (command.Free (codes "pair.toml") (record { workers = 1; rounds = 7; slice = 65536 }) (Some (codes "pair.log"))
-    show.Dump)
+    (command.Free (running (codes "pair.toml") (record { workers = 1; rounds = 7; slice = 65536 })
+    (Some (codes "pair.log")) (printing.Lines show.Dump)))
 unfolding clap_on_literals
 example_free = refl
 
 -- all options of `run` by default
 example_defaults : command_of (codes "temu" ∷ codes "run" ∷ codes "pair.toml" ∷ [])
-    ≡ Some (command.Run (codes "pair.toml") (record { workers = 1; rounds = 100000; slice = 64 }) None show.Dump)
+    ≡ Some (command.Run (running (codes "pair.toml") usual_options None (printing.Lines show.Dump)))
 unfolding clap_on_literals
 example_defaults = refl
 
 -- where the net stands behind the trace, or the trace alone
 example_run_where : command_of
     (codes "temu" ∷ codes "run" ∷ codes "--show=where" ∷ codes "pair.toml" ∷ codes "--rounds" ∷ codes "40" ∷ [])
-    ≡ Some (command.Run (codes "pair.toml") (record { workers = 1; rounds = 40; slice = 64 }) None show.Where)
+    ≡ Some
+    (command.Run (running (codes "pair.toml") (record { workers = 1; rounds = 40; slice = 64 }) None
+    (printing.Lines show.Where)))
 unfolding clap_on_literals
 example_run_where = refl
 
 example_free_none : command_of (codes "temu" ∷ codes "free" ∷ codes "pair.toml" ∷ codes "--show" ∷ codes "none" ∷ [])
-    ≡ Some (command.Free (codes "pair.toml") (record { workers = 1; rounds = 100000; slice = 64 }) None show.Nothing)
+    ≡ Some (command.Free (running (codes "pair.toml") usual_options None (printing.Lines show.Nothing)))
 unfolding clap_on_literals
 example_free_none = refl
 
+-- the same as JSON, with the trace alone or with the nodes behind it
+example_run_json : command_of (codes "temu" ∷ codes "run" ∷ codes "pair.toml" ∷ codes "--json" ∷ [])
+    ≡ Some (command.Run (running (codes "pair.toml") usual_options None (printing.Json true)))
+unfolding clap_on_literals
+example_run_json = refl
+
+example_free_json : command_of (codes "temu" ∷ codes "free" ∷ codes "--json" ∷ codes "pair.toml" ∷ codes "--show=dump"
+    ∷ [])
+    ≡ Some (command.Free (running (codes "pair.toml") usual_options None (printing.Json true)))
+unfolding clap_on_literals
+example_free_json = refl
+
+example_replay_json : command_of (codes "temu" ∷ codes "replay" ∷ codes "pair.toml" ∷ codes "pair.log" ∷ codes "--json"
+    ∷ codes "--show" ∷ codes "none" ∷ [])
+    ≡ Some (command.Replay (codes "pair.toml") (codes "pair.log") (pos 4294967295) (printing.Json false))
+unfolding clap_on_literals
+example_replay_json = refl
+
 example_free_defaults : command_of (codes "temu" ∷ codes "free" ∷ codes "pair.toml" ∷ [])
-    ≡ Some (command.Free (codes "pair.toml") (record { workers = 1; rounds = 100000; slice = 64 }) None show.Dump)
+    ≡ Some (command.Free (running (codes "pair.toml") usual_options None (printing.Lines show.Dump)))
 unfolding clap_on_literals
 example_free_defaults = refl
 
 -- a million states, or so many; all steps, or so many
 example_explore : command_of (codes "temu" ∷ codes "explore" ∷ codes "pair.toml" ∷ [])
-    ≡ Some (command.Explore (codes "pair.toml") 1000000 9223372036854775807 None show.Dump)
+    ≡ Some (command.Explore (exploring (codes "pair.toml") 1000000 9223372036854775807 None show.Dump))
 unfolding clap_on_literals
 example_explore = refl
 
 example_explore_some : command_of (codes "temu" ∷ codes "explore" ∷ codes "--steps=4294967296" ∷ codes "pair.toml"
     ∷ codes "--states" ∷ codes "0" ∷ [])
-    ≡ Some (command.Explore (codes "pair.toml") 0 4294967296 None show.Dump)
+    ≡ Some (command.Explore (exploring (codes "pair.toml") 0 4294967296 None show.Dump))
 unfolding clap_on_literals
 example_explore_some = refl
 
 -- where the net stands
 example_explore_where : command_of (codes "temu" ∷ codes "explore" ∷ codes "pair.toml" ∷ codes "--show" ∷ codes "where"
     ∷ [])
-    ≡ Some (command.Explore (codes "pair.toml") 1000000 9223372036854775807 None show.Where)
+    ≡ Some (command.Explore (exploring (codes "pair.toml") 1000000 9223372036854775807 None show.Where))
 unfolding clap_on_literals
 example_explore_where = refl
 
 -- with logs, and no dumps
 example_explore_log : command_of (codes "temu" ∷ codes "explore" ∷ codes "--log=found" ∷ codes "pair.toml"
     ∷ codes "--show" ∷ codes "none" ∷ [])
-    ≡ Some (command.Explore (codes "pair.toml") 1000000 9223372036854775807 (Some (codes "found")) show.Nothing)
+    ≡ Some (command.Explore (exploring (codes "pair.toml") 1000000 9223372036854775807 (Some (codes "found")) show.Nothing))
 unfolding clap_on_literals
 example_explore_log = refl
 
 example_replay : command_of (codes "temu" ∷ codes "replay" ∷ codes "pair.toml" ∷ codes "pair.log" ∷ [])
-    ≡ Some (command.Replay (codes "pair.toml") (codes "pair.log") (pos 4294967295) show.Dump)
+    ≡ Some (command.Replay (codes "pair.toml") (codes "pair.log") (pos 4294967295) (printing.Lines show.Dump))
 unfolding clap_on_literals
 example_replay = refl
 
 -- the first events, and where the net stands then
 example_replay_first : command_of (codes "temu" ∷ codes "replay" ∷ codes "--events" ∷ codes "7" ∷ codes "pair.toml"
     ∷ codes "--show" ∷ codes "where" ∷ codes "pair.log" ∷ [])
-    ≡ Some (command.Replay (codes "pair.toml") (codes "pair.log") (pos 7) show.Where)
+    ≡ Some (command.Replay (codes "pair.toml") (codes "pair.log") (pos 7) (printing.Lines show.Where))
 unfolding clap_on_literals
 example_replay_first = refl
 
 -- all but the last three
 example_replay_but : command_of
     (codes "temu" ∷ codes "replay" ∷ codes "pair.toml" ∷ codes "pair.log" ∷ codes "--events=-3" ∷ [])
-    ≡ Some (command.Replay (codes "pair.toml") (codes "pair.log") (negsuc 2) show.Dump)
+    ≡ Some (command.Replay (codes "pair.toml") (codes "pair.log") (negsuc 2) (printing.Lines show.Dump))
 unfolding clap_on_literals
 example_replay_but = refl
 
 example_replay_but_apart : command_of
     (codes "temu" ∷ codes "replay" ∷ codes "pair.toml" ∷ codes "--events" ∷ codes "-3" ∷ codes "pair.log" ∷ [])
-    ≡ Some (command.Replay (codes "pair.toml") (codes "pair.log") (negsuc 2) show.Dump)
+    ≡ Some (command.Replay (codes "pair.toml") (codes "pair.log") (negsuc 2) (printing.Lines show.Dump))
 unfolding clap_on_literals
 example_replay_but_apart = refl
 
 -- all events, the first of them, or all but the last
 example_where : command_of (codes "temu" ∷ codes "where" ∷ codes "pair.toml" ∷ codes "pair.log" ∷ [])
-    ≡ Some (command.Where (codes "pair.toml") (codes "pair.log") (pos 4294967295))
+    ≡ Some (command.Where (codes "pair.toml") (codes "pair.log") (pos 4294967295) [])
 unfolding clap_on_literals
 example_where = refl
 
 example_where_first : command_of (codes "temu" ∷ codes "where" ∷ codes "pair.toml" ∷ codes "--events" ∷ codes "7"
     ∷ codes "pair.log" ∷ [])
-    ≡ Some (command.Where (codes "pair.toml") (codes "pair.log") (pos 7))
+    ≡ Some (command.Where (codes "pair.toml") (codes "pair.log") (pos 7) [])
 unfolding clap_on_literals
 example_where_first = refl
 
 example_where_but : command_of (codes "temu" ∷ codes "where" ∷ codes "--events=-4294967295" ∷ codes "pair.toml"
     ∷ codes "pair.log" ∷ [])
-    ≡ Some (command.Where (codes "pair.toml") (codes "pair.log") (negsuc 4294967294))
+    ≡ Some (command.Where (codes "pair.toml") (codes "pair.log") (negsuc 4294967294) [])
 unfolding clap_on_literals
 example_where_but = refl
 
+-- names of each node, and of one alone
+abbrev names_of_each : Text → NamesFile
+names_of_each file = record { node = None; file = file }
+
+abbrev names_of_node : ℕ → Text → NamesFile
+names_of_node n file = record { node = Some n; file = file }
+
+example_where_names : command_of (codes "temu" ∷ codes "where" ∷ codes "pair.toml" ∷ codes "--names" ∷ codes "1=b.names"
+    ∷ codes "pair.log" ∷ codes "--names=a.names" ∷ [])
+    ≡ Some
+    (command.Where (codes "pair.toml") (codes "pair.log") (pos 4294967295)
+    (names_of_node 1 (codes "b.names") ∷ names_of_each (codes "a.names") ∷ []))
+unfolding clap_on_literals
+example_where_names = refl
+
+-- what stands before the sign is no node: a name, no digit, four digits, more than 255; the first sign counts
+example_names_word : names_file_of (codes "a=b") ≡ names_of_each (codes "a=b")
+example_names_word = refl
+
+example_names_empty : names_file_of (codes "=b") ≡ names_of_each (codes "=b")
+example_names_empty = refl
+
+example_names_long : names_file_of (codes "0001=b") ≡ names_of_each (codes "0001=b")
+example_names_long = refl
+
+example_names_high : names_file_of (codes "256=b") ≡ names_of_each (codes "256=b")
+example_names_high = refl
+
+example_names_last : names_file_of (codes "255=b=c") ≡ names_of_node 255 (codes "b=c")
+example_names_last = refl
+
+example_names_zeros : names_file_of (codes "007=b") ≡ names_of_node 7 (codes "b")
+example_names_zeros = refl
+
+example_names_number : names_file_of (codes "12") ≡ names_of_each (codes "12")
+example_names_number = refl
+
+example_names_path : names_file_of (codes "./0=x") ≡ names_of_each (codes "./0=x")
+example_names_path = refl
+
+-- all events of a node, or the last of those from one number on and below another
+example_steps : command_of
+    (codes "temu" ∷ codes "steps" ∷ codes "pair.toml" ∷ codes "pair.log" ∷ codes "--node" ∷ codes "1" ∷ [])
+    ≡ Some (command.Steps (stepping 1 0 4294967295 4294967295 []))
+unfolding clap_on_literals
+example_steps = refl
+
+example_steps_some : command_of (codes "temu" ∷ codes "steps" ∷ codes "--from=40" ∷ codes "pair.toml" ∷ codes "--to"
+    ∷ codes "80" ∷ codes "pair.log" ∷ codes "--last=20" ∷ codes "--node=255" ∷ [])
+    ≡ Some (command.Steps (stepping 255 40 80 20 []))
+unfolding clap_on_literals
+example_steps_some = refl
+
+example_steps_names : command_of (codes "temu" ∷ codes "steps" ∷ codes "pair.toml" ∷ codes "pair.log" ∷ codes "--node=1"
+    ∷ codes "--names=a.names" ∷ [])
+    ≡ Some (command.Steps (stepping 1 0 4294967295 4294967295 (names_of_each (codes "a.names") ∷ [])))
+unfolding clap_on_literals
+example_steps_names = refl
+
+-- a word by its address, or so many bytes
+example_watch : command_of (codes "temu" ∷ codes "watch" ∷ codes "pair.toml" ∷ codes "pair.log" ∷ codes "--node"
+    ∷ codes "0" ∷ codes "--address" ∷ codes "80000100" ∷ [])
+    ≡ Some (command.Watch (watching 0 2147483904 4 []))
+unfolding clap_on_literals
+example_watch = refl
+
+example_watch_some : command_of (codes "temu" ∷ codes "watch" ∷ codes "--length" ∷ codes "65536" ∷ codes "pair.toml"
+    ∷ codes "pair.log" ∷ codes "--address=#8000aF" ∷ codes "--node=3" ∷ [])
+    ≡ Some (command.Watch (watching 3 8388783 65536 []))
+unfolding clap_on_literals
+example_watch_some = refl
+
+example_watch_names : command_of (codes "temu" ∷ codes "watch" ∷ codes "pair.toml" ∷ codes "pair.log" ∷ codes "--node=0"
+    ∷ codes "--address=80000100" ∷ codes "--names" ∷ codes "0=a.names" ∷ [])
+    ≡ Some (command.Watch (watching 0 2147483904 4 (names_of_node 0 (codes "a.names") ∷ [])))
+unfolding clap_on_literals
+example_watch_names = refl
+
+-- a picture of all events, or of the first of them
+example_chart : command_of (codes "temu" ∷ codes "chart" ∷ codes "pair.toml" ∷ codes "pair.log" ∷ [])
+    ≡ Some (command.Chart (codes "pair.toml") (codes "pair.log") (pos 4294967295))
+unfolding clap_on_literals
+example_chart = refl
+
+example_chart_first : command_of (codes "temu" ∷ codes "chart" ∷ codes "pair.toml" ∷ codes "--events" ∷ codes "7"
+    ∷ codes "pair.log" ∷ [])
+    ≡ Some (command.Chart (codes "pair.toml") (codes "pair.log") (pos 7))
+unfolding clap_on_literals
+example_chart_first = refl
+
+example_chart_but : command_of (codes "temu" ∷ codes "chart" ∷ codes "pair.toml" ∷ codes "pair.log" ∷ codes "--events"
+    ∷ codes "-3" ∷ [])
+    ≡ Some (command.Chart (codes "pair.toml") (codes "pair.log") (negsuc 2))
+unfolding clap_on_literals
+example_chart_but = refl
+
+-- a wiring is looked through
+example_check : command_of (codes "temu" ∷ codes "check" ∷ codes "pair.toml" ∷ []) ≡ Some (command.Check (codes "pair.toml"))
+unfolding clap_on_literals
+example_check = refl
+
 -- of kind 1 by default
-example_dis : command_of (codes "temu" ∷ codes "dis" ∷ codes "first.img" ∷ []) ≡ Some (command.Dis (codes "first.img") One)
+example_dis : command_of (codes "temu" ∷ codes "dis" ∷ codes "first.img" ∷ []) ≡ Some (command.Dis (codes "first.img") One None)
 unfolding clap_on_literals
 example_dis = refl
 
+-- with names, of one file
+example_dis_names : command_of (codes "temu" ∷ codes "dis" ∷ codes "first.img" ∷ codes "--names" ∷ codes "a.names" ∷ [])
+    ≡ Some (command.Dis (codes "first.img") One (Some (codes "a.names")))
+unfolding clap_on_literals
+example_dis_names = refl
+
 example_dis_second : command_of (codes "temu" ∷ codes "dis" ∷ codes "--kind" ∷ codes "2" ∷ codes "first.img" ∷ [])
-    ≡ Some (command.Dis (codes "first.img") Two)
+    ≡ Some (command.Dis (codes "first.img") Two None)
 unfolding clap_on_literals
 example_dis_second = refl
 
 example_dis_first : command_of (codes "temu" ∷ codes "dis" ∷ codes "first.img" ∷ codes "--kind=1" ∷ [])
-    ≡ Some (command.Dis (codes "first.img") One)
+    ≡ Some (command.Dis (codes "first.img") One None)
 unfolding clap_on_literals
 example_dis_first = refl
 
@@ -328,6 +506,67 @@ example_show_of_run : refusals (codes "temu" ∷ codes "run" ∷ codes "pair.tom
 unfolding clap_on_literals
 example_show_of_run = refl
 
+-- where a net stands is told in lines alone
+example_json_where : refusals
+    (codes "temu" ∷ codes "run" ∷ codes "pair.toml" ∷ codes "--json" ∷ codes "--show" ∷ codes "where" ∷ [])
+    ≡ InvalidValue ∷ []
+unfolding clap_on_literals
+example_json_where = refl
+
+-- `--json` has nothing behind it
+example_json_value : refusals (codes "temu" ∷ codes "run" ∷ codes "pair.toml" ∷ codes "--json=true" ∷ [])
+    ≡ TooManyValues ∷ []
+unfolding clap_on_literals
+example_json_value = refl
+
+-- and an exploration has no JSON
+example_explore_json : refusals (codes "temu" ∷ codes "explore" ∷ codes "pair.toml" ∷ codes "--json" ∷ [])
+    ≡ UnknownArgument ∷ []
+unfolding clap_on_literals
+example_explore_json = refl
+
+example_node : refusals
+    (codes "temu" ∷ codes "steps" ∷ codes "pair.toml" ∷ codes "pair.log" ∷ codes "--node" ∷ codes "256" ∷ [])
+    ≡ ValueValidation ∷ []
+unfolding clap_on_literals
+example_node = refl
+
+example_no_node : refusals (codes "temu" ∷ codes "steps" ∷ codes "pair.toml" ∷ codes "pair.log" ∷ [])
+    ≡ MissingRequiredArgument ∷ []
+unfolding clap_on_literals
+example_no_node = refl
+
+example_length : refusals (codes "temu" ∷ codes "watch" ∷ codes "pair.toml" ∷ codes "pair.log" ∷ codes "--node=0"
+    ∷ codes "--address=80000100" ∷ codes "--length=0" ∷ [])
+    ≡ ValueValidation ∷ []
+unfolding clap_on_literals
+example_length = refl
+
+example_no_address : refusals
+    (codes "temu" ∷ codes "watch" ∷ codes "pair.toml" ∷ codes "pair.log" ∷ codes "--node" ∷ codes "0" ∷ [])
+    ≡ MissingRequiredArgument ∷ []
+unfolding clap_on_literals
+example_no_address = refl
+
+-- words that are no address: a letter that is no digit, nine digits, none
+example_address : refusals (codes "temu" ∷ codes "watch" ∷ codes "pair.toml" ∷ codes "pair.log" ∷ codes "--node=0"
+    ∷ codes "--address=8000010g" ∷ [])
+    ≡ InvalidValue ∷ []
+unfolding clap_on_literals
+example_address = refl
+
+example_long_address : refusals (codes "temu" ∷ codes "watch" ∷ codes "pair.toml" ∷ codes "pair.log"
+    ∷ codes "--node=0" ∷ codes "--address" ∷ codes "080000100" ∷ [])
+    ≡ InvalidValue ∷ []
+unfolding clap_on_literals
+example_long_address = refl
+
+example_empty_address : refusals (codes "temu" ∷ codes "watch" ∷ codes "pair.toml" ∷ codes "pair.log"
+    ∷ codes "--node=0" ∷ codes "--address" ∷ codes "#" ∷ [])
+    ≡ InvalidValue ∷ []
+unfolding clap_on_literals
+example_empty_address = refl
+
 example_events : refusals (codes "temu" ∷ codes "replay" ∷ codes "pair.toml" ∷ codes "pair.log"
     ∷ codes "--events=-4294967296" ∷ [])
     ≡ ValueValidation ∷ []
@@ -360,6 +599,10 @@ example_free_unknown : refusals (codes "temu" ∷ codes "free" ∷ codes "pair.t
 unfolding clap_on_literals
 example_free_unknown = refl
 
+example_chart_missing : refusals (codes "temu" ∷ codes "chart" ∷ codes "pair.toml" ∷ []) ≡ MissingRequiredArgument ∷ []
+unfolding clap_on_literals
+example_chart_missing = refl
+
 example_missing : refusals (codes "temu" ∷ codes "replay" ∷ codes "pair.toml" ∷ []) ≡ MissingRequiredArgument ∷ []
 unfolding clap_on_literals
 example_missing = refl
@@ -386,7 +629,7 @@ unfolding clap_on_literals
 example_help_of_free = refl
 
 -- a file may be called so
-example_help_file : command_of (codes "temu" ∷ codes "dis" ∷ codes "help" ∷ []) ≡ Some (command.Dis (codes "help") One)
+example_help_file : command_of (codes "temu" ∷ codes "dis" ∷ codes "help" ∷ []) ≡ Some (command.Dis (codes "help") One None)
 unfolding clap_on_literals
 example_help_file = refl
 

@@ -2,7 +2,8 @@
 
 ghost use Rattle.std.specs.Prelude.{◌≡◌, ◌≤◌, IfOk};
 ghost use Rattle.clap.specs.Words.{first_of, found_of, rows_of};
-ghost use Rattle.twords.specs.Arguments.{HasNumber, HasSigned, HasText, IsWithin, number_at, signed_at, text_at};
+ghost use Rattle.twords.specs.Arguments.{HasNumber, HasSigned, HasText, IsWithin, flag_at, number_at, signed_at};
+ghost use Rattle.twords.specs.Arguments.{text_at};
 
 use clap::ArgMatches;
 use std::alloc::{AllocError, Global};
@@ -30,12 +31,30 @@ pub(crate) fn optional_file(
     }
 }
 
+/// Whether an option with nothing behind it was given: the parser holds `true` of it then, and else `false`.
+pub(crate) fn is_given(given: &ArgMatches, id: &str) -> bool
+    ensures { result ≡ flag_at id.now (rows_of (found_of given.now)) }
+{
+    match given.get_str(id) {
+        Some(value) => value == "true",
+        None => false,
+    }
+}
+
 /// The number of an option.
 pub(crate) fn number(given: &ArgMatches, id: &str) -> u32
     requires { HasNumber 0 u32.MAX id.now (rows_of (found_of given.now)) }
     ensures { result ≡ number_at id.now (rows_of (found_of given.now)) }
 {
     given.get_one::<u32>(id).unwrap()
+}
+
+/// The number of an option that is at most 255.
+pub(crate) fn small_number(given: &ArgMatches, id: &str) -> u8
+    requires { HasNumber 0 u8.MAX id.now (rows_of (found_of given.now)) }
+    ensures { result ≡ number_at id.now (rows_of (found_of given.now)) }
+{
+    given.get_one::<u8>(id).unwrap()
 }
 
 /// The number of an option that may be longer.

@@ -1,12 +1,17 @@
 //! The words of the command line, and the commands that they stand for.
 #![tactic(auto)]
 
+mod addresses;
 mod arguments;
 mod help_words;
+pub mod histories;
 mod joined_words;
+pub mod names_files;
 mod parsers;
 pub mod table;
 pub mod words;
 
-pub use table::{Command, Show};
+pub use histories::{Stepping, Watching};
+pub use names_files::{NamesFile, NamesFiles};
+pub use table::{Command, Exploring, Printing, Running, Show};
 pub use words::{CommandFault, read_words};

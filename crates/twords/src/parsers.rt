@@ -7,7 +7,7 @@ ghost use Rattle.twords.specs.CommandLines.{HasShape};
 
 use crate::table::{Argument, COMMANDS, CommandRow, Form, PROGRAM, VERSION, Which};
 use clap::builder::ValueParser;
-use clap::{Arg, Command as Parser};
+use clap::{Arg, ArgAction, Command as Parser};
 use std::alloc::{AllocError, Global};
 
 /// The words that the program takes.
@@ -79,6 +79,13 @@ fn argument_of<'a>(alloc: Global, row: &'a Argument) -> Arg<'a>
         Form::File => argument.required(true),
         Form::Text => argument.long(row.name),
         Form::TextOr(default) => argument.long(row.name).default_value(default),
+        Form::Texts => argument.long(row.name).action(ArgAction::Append),
+        Form::Flag => argument.long(row.name).action(ArgAction::SetTrue),
+        Form::WantedText => argument.long(row.name).required(true),
+        Form::WantedNumber(least, most) => argument
+            .long(row.name)
+            .value_parser(ValueParser::signed(least, most))
+            .required(true),
         Form::Number(least, most, default) => argument
             .long(row.name)
             .value_parser(ValueParser::signed(least, most))

@@ -7,7 +7,11 @@ ghost use Rattle.twords.specs.Arguments.{HasAll, HasNumber, HasText, text_at};
 ghost use Rattle.twords.specs.CommandLines.{shape_of, shape_of_row};
 ghost use Rattle.twords.specs.Table as spec;
 
-use crate::arguments::{file, long_number, number, optional_file, signed_number};
+use crate::arguments::{file, is_given, long_number, number, optional_file, signed_number};
+use crate::histories::{
+    CHART, STEPS, Stepping, WATCH, Watching, chart_asked, steps_asked, watch_asked,
+};
+use crate::names_files::{NAMES, NamesFiles, names_files};
 use clap::ArgMatches;
 use std::alloc::{AllocError, Global};
 use tplan::{FileName, Options};
@@ -27,6 +31,14 @@ pub enum Which {
     Replay,
     /// `where`.
     Where,
+    /// `steps`.
+    Steps,
+    /// `watch`.
+    Watch,
+    /// `chart`.
+    Chart,
+    /// `check`.
+    Check,
     /// `dis`.
     Dis,
 }
@@ -43,46 +55,57 @@ pub enum Show {
     Nothing,
 }
 
+/// What is printed of a run, and how.
+#[derive(Clone, Copy, Debug, PartialEq, Eq)]
+pub enum Printing {
+    /// Lines, and this of the net that is left.
+    Lines(Show),
+    /// JSON, an object a line: with the nodes, sources and sinks of the net that is left, or without.
+    Json { with_nodes: bool },
+}
+
+/// A run of a net, as it is asked for.
+#[derive(Debug, Drop)]
+pub struct Running {
+    pub wiring: FileName,
+    pub options: Options,
+    pub log: Option<FileName>,
+    /// What is printed of the run.
+    pub printing: Printing,
+}
+
+/// An exploration, as it is asked for.
+#[derive(Debug, Drop)]
+pub struct Exploring {
+    pub wiring: FileName,
+    /// How many states are kept at most.
+    pub states: u32,
+    /// How many steps are done at most.
+    pub steps: u64,
+    /// What the names of the log files begin with, one of each outcome, where logs are asked for.
+    pub log: Option<FileName>,
+    /// What is shown of each outcome.
+    pub show: Show,
+}
+
 /// What a command line asks for.
 #[derive(Debug, Drop)]
 pub enum Command {
     /// Runs the net of a wiring file by rounds, and writes what it did into a log file where one is named.
-    Run {
-        wiring: FileName,
-        options: Options,
-        log: Option<FileName>,
-        /// What is shown of the net that the run leaves.
-        show: Show,
-    },
+    Run(Running),
     /// Runs the net of a wiring file by free workers, and writes what they did into a log file where one is named:
     /// `options.rounds` are the turns.
-    Free {
-        wiring: FileName,
-        options: Options,
-        log: Option<FileName>,
-        /// What is shown of the net that the workers leave.
-        show: Show,
-    },
+    Free(Running),
     /// Finds every way in which the runs of the net of a wiring file may end, whatever their timing.
-    Explore {
-        wiring: FileName,
-        /// How many states are kept at most.
-        states: u32,
-        /// How many steps are done at most.
-        steps: u64,
-        /// What the names of the log files begin with, one of each outcome, where logs are asked for.
-        log: Option<FileName>,
-        /// What is shown of each outcome.
-        show: Show,
-    },
+    Explore(Exploring),
     /// Does the first events of a log file on the net of a wiring file.
     Replay {
         wiring: FileName,
         log: FileName,
         /// How many events are done at most; a negative number leaves out so many of the last ones.
         events: i64,
-        /// What is shown of the net that the events leave.
-        show: Show,
+        /// What is printed of the replay.
+        printing: Printing,
     },
     /// Does the first events of a log file on the net of a wiring file, and writes where it stands.
     Where {
@@ -90,11 +113,30 @@ pub enum Command {
         log: FileName,
         /// How many events are done at most; a negative number leaves out so many of the last ones.
         events: i64,
+        /// The files of names.
+        names: NamesFiles,
+    },
+    /// Does the first events of a log file on the net of a wiring file, and writes the history of a node.
+    Steps(Stepping),
+    /// Does the events of a log file on the net of a wiring file, and writes the history of some bytes of a node.
+    Watch(Watching),
+    /// Does the first events of a log file on the net of a wiring file, and writes a picture of them.
+    Chart {
+        wiring: FileName,
+        log: FileName,
+        /// How many events are done at most; a negative number leaves out so many of the last ones.
+        events: i64,
+    },
+    /// Looks through a wiring file and its images, and writes all that is wrong, or what the net is.
+    Check {
+        wiring: FileName,
     },
     /// Writes the instructions of an image file, as those of a node of this kind.
     Dis {
         image: FileName,
         kind: Kind,
+        /// The file of the names of addresses, where one is named.
+        names: Option<FileName>,
     },
 }
 
@@ -114,6 +156,10 @@ impl Which {
             Which::Explore => "temu explore",
             Which::Replay => "temu replay",
             Which::Where => "temu where",
+            Which::Steps => "temu steps",
+            Which::Watch => "temu watch",
+            Which::Chart => "temu chart",
+            Which::Check => "temu check",
             Which::Dis => "temu dis",
         }
     }
@@ -128,11 +174,15 @@ impl Which {
             Which::Explore => EXPLORE,
             Which::Replay => REPLAY,
             Which::Where => WHERE,
+            Which::Steps => STEPS,
+            Which::Watch => WATCH,
+            Which::Chart => CHART,
+            Which::Check => CHECK,
             Which::Dis => DIS,
         }
     }
 
-    /// What the arguments of the command ask for; nothing where a word of `--show` stands for nothing.
+    /// What the arguments of the command ask for; nothing where a word of `--show` or `--address` stands for nothing.
     pub(crate) fn asked(
         self,
         alloc: Global,
@@ -151,56 +201,67 @@ impl Which {
                 wiring: file(alloc, given, "wiring")?,
                 log: file(alloc, given, "log")?,
                 events: signed_number(given, "events"),
+                names: names_files(alloc, given)?,
+            })),
+            Which::Steps => Ok(Some(steps_asked(alloc, given)?)),
+            Which::Watch => watch_asked(alloc, given),
+            Which::Chart => Ok(Some(chart_asked(alloc, given)?)),
+            Which::Check => Ok(Some(Command::Check {
+                wiring: file(alloc, given, "wiring")?,
             })),
             Which::Dis => Ok(Some(Command::Dis {
                 image: file(alloc, given, "image")?,
                 kind: kind(given),
+                names: optional_file(alloc, given, "names")?,
             })),
         }
     }
 }
 
-/// What the arguments of `run` ask for; nothing where the word of `--show` stands for nothing.
+/// What the arguments of `run` ask for; nothing where the word of `--show` stands for nothing, or `--json` has no
+/// form for it.
 fn run_asked(alloc: Global, given: &ArgMatches) -> Result<Option<Command>, AllocError>
     requires { HasAll (spec.rules_of Which.Run) (rows_of (found_of given.now)) }
     ensures command { IfOk result (λ c. spec.asked_in Which.Run (rows_of (found_of given.now)) ≡ c) }
     ensures range { IfOk result (λ c. IfSome c spec.IsInRange) }
 {
-    let Some(show) = shown(given) else {
+    let Some(printing) = printing_asked(given) else {
         return Ok(None);
     };
-    Ok(Some(Command::Run {
+    Ok(Some(Command::Run(Running {
         wiring: file(alloc, given, "wiring")?,
         options: options(given, "rounds"),
         log: optional_file(alloc, given, "log")?,
-        show,
-    }))
+        printing,
+    })))
 }
 
-/// What the arguments of `free` ask for; nothing where the word of `--show` stands for nothing.
+/// What the arguments of `free` ask for; nothing where the word of `--show` stands for nothing, or `--json` has no
+/// form for it.
 fn free_asked(alloc: Global, given: &ArgMatches) -> Result<Option<Command>, AllocError>
     requires { HasAll (spec.rules_of Which.Free) (rows_of (found_of given.now)) }
     ensures command { IfOk result (λ c. spec.asked_in Which.Free (rows_of (found_of given.now)) ≡ c) }
     ensures range { IfOk result (λ c. IfSome c spec.IsInRange) }
 {
-    let Some(show) = shown(given) else {
+    let Some(printing) = printing_asked(given) else {
         return Ok(None);
     };
-    Ok(Some(Command::Free {
+    Ok(Some(Command::Free(Running {
         wiring: file(alloc, given, "wiring")?,
         options: options(given, "turns"),
         log: optional_file(alloc, given, "log")?,
-        show,
-    }))
+        printing,
+    })))
 }
 
-/// What the arguments of `replay` ask for; nothing where the word of `--show` stands for nothing.
+/// What the arguments of `replay` ask for; nothing where the word of `--show` stands for nothing, or `--json` has no
+/// form for it.
 fn replayed(alloc: Global, given: &ArgMatches) -> Result<Option<Command>, AllocError>
     requires { HasAll (spec.rules_of Which.Replay) (rows_of (found_of given.now)) }
     ensures command { IfOk result (λ c. spec.asked_in Which.Replay (rows_of (found_of given.now)) ≡ c) }
     ensures range { IfOk result (λ c. IfSome c spec.IsInRange) }
 {
-    let Some(show) = shown(given) else {
+    let Some(printing) = printing_asked(given) else {
         return Ok(None);
     };
     let wiring = file(alloc, given, "wiring")?;
@@ -210,7 +271,7 @@ fn replayed(alloc: Global, given: &ArgMatches) -> Result<Option<Command>, AllocE
         wiring,
         log,
         events,
-        show,
+        printing,
     }))
 }
 
@@ -224,13 +285,13 @@ fn explored(alloc: Global, given: &ArgMatches) -> Result<Option<Command>, AllocE
         return Ok(None);
     };
     let prefix = optional_file(alloc, given, "log")?;
-    Ok(Some(Command::Explore {
+    Ok(Some(Command::Explore(Exploring {
         wiring: file(alloc, given, "wiring")?,
         states: number(given, "states"),
         steps: long_number(given, "steps"),
         log: prefix,
         show,
-    }))
+    })))
 }
 
 /// The options of a run, whose limit has this name.
@@ -243,6 +304,26 @@ fn options(given: &ArgMatches, limit: &str) -> Options
         workers: number(given, "workers") as usize,
         rounds: number(given, limit),
         slice: number(given, "slice"),
+    }
+}
+
+/// What the words of `--show` and `--json` ask to be printed of a run, if they stand for anything.
+fn printing_asked(given: &ArgMatches) -> Option<Printing>
+    requires { HasText (codes "show") (rows_of (found_of given.now)) }
+    ensures { result ≡ spec.printing_in (rows_of (found_of given.now)) }
+{
+    printing_of(is_given(given, "json"), shown(given)?)
+}
+
+/// What is printed where this is to be shown, as JSON or in lines. Where a net stands is told in lines alone.
+fn printing_of(as_json: bool, show: Show) -> Option<Printing>
+    ensures { result ≡ spec.printing_of as_json show }
+{
+    match (as_json, show) {
+        (false, show) => Some(Printing::Lines(show)),
+        (true, Show::Dump) => Some(Printing::Json { with_nodes: true }),
+        (true, Show::Nothing) => Some(Printing::Json { with_nodes: false }),
+        (true, Show::Where) => None,
     }
 }
 
@@ -314,17 +395,29 @@ pub enum Form {
     Text,
     /// A text behind an option, and what it is where that is left out.
     TextOr(&'static str),
+    /// A text behind an option that may be given several times.
+    Texts,
+    /// An option with nothing behind it.
+    Flag,
+    /// A text behind an option that has to be given.
+    WantedText,
     /// A number behind an option, from the least to the most, and what it is where that is left out.
     Number(i64, i64, &'static str),
+    /// A number behind an option that has to be given, from the least to the most.
+    WantedNumber(i64, i64),
 }
 
 /// All commands, in the order of help.
-pub(crate) const COMMANDS: [Which; 6] = [
+pub(crate) const COMMANDS: [Which; 10] = [
     Which::Run,
     Which::Free,
     Which::Explore,
     Which::Replay,
     Which::Where,
+    Which::Steps,
+    Which::Watch,
+    Which::Chart,
+    Which::Check,
     Which::Dis,
 ];
 
@@ -338,7 +431,7 @@ const LIMIT: Form = Form::Number(0, 4_294_967_295, "100000");
 const SLICE: Form = Form::Number(1, LONGEST_SLICE as i64, "64");
 
 /// `WIRING`, whose holds are ignored.
-const WIRING: Argument = Argument {
+pub(crate) const WIRING: Argument = Argument {
     name: "wiring",
     form: Form::File,
     value: "WIRING",
@@ -346,7 +439,7 @@ const WIRING: Argument = Argument {
 };
 
 /// `LOG`.
-const LOG_TO_READ: Argument = Argument {
+pub(crate) const LOG_TO_READ: Argument = Argument {
     name: "log",
     form: Form::File,
     value: "LOG",
@@ -365,11 +458,19 @@ const LOG_TO_WRITE: Argument = Argument {
 const WHAT: Form = Form::TextOr("dump");
 
 /// `--events N`.
-const EVENTS: Argument = Argument {
+pub(crate) const EVENTS: Argument = Argument {
     name: "events",
     form: Form::Number(-4_294_967_295, 4_294_967_295, "4294967295"),
     value: "N",
     help: "How many events are done at most, from the first on; -N: all but the last N. -4294967295 to 4294967295",
+};
+
+/// `--json`.
+const JSON: Argument = Argument {
+    name: "json",
+    form: Form::Flag,
+    value: "",
+    help: "Prints JSON, an object a line",
 };
 
 /// `--show WHAT` of a run.
@@ -411,6 +512,7 @@ pub const RUN: CommandRow = CommandRow {
         },
         LOG_TO_WRITE,
         SHOW,
+        JSON,
     ],
     below: "\
 In: a wiring file such as
@@ -458,9 +560,23 @@ kept, as `sink 3 messages 1`, and a line for each of them, as `kept 01020304`; l
 With `--show where` it tells in place of memories, sources and sinks where the processes and links
 stand, as `temu where` does; with `--show none` nothing.
 
+With `--json` each line is an object of JSON, for other programs:
+
+  {\"msg\": {\"from\": [0, 1], \"to\": [1, 2], \"bytes\": \"01020304\"}}
+  {\"halt\": 0}
+  {\"freeze\": {\"node\": 1, \"break\": \"LengthMismatch\"}}
+  {\"node\": 0, \"state\": \"ok\", \"memory\": [{\"at\": \"80000080\", \"bytes\": \"1124f251\"}]}
+  {\"source\": 2, \"done\": 1, \"of\": 2}
+  {\"sink\": 3, \"kept\": [\"01020304\"]}
+  {\"end\": \"quiet\", \"rounds\": 9}
+
+The state of a node is `ok`, `halted` or `frozen`, and behind `frozen` stands the break. A byte that
+a pending input is to write is `--`. `--json` and `--show where` do not go together.
+
 Examples:
   temu run pair.toml --workers 4 --log pair.log
-  temu run pair.toml --rounds 1000 --show where",
+  temu run pair.toml --rounds 1000 --show where
+  temu run pair.toml --json --show none",
 };
 
 /// `free`.
@@ -489,12 +605,13 @@ pub const FREE: CommandRow = CommandRow {
         },
         LOG_TO_WRITE,
         SHOW,
+        JSON,
     ],
     below: "\
 In: a wiring file (see `temu run --help`), whose holds are ignored.
 
-Out: what `temu run` prints, with `--show` too; last `end quiet`, where nothing is left to do, or
-`end turns`.
+Out: what `temu run` prints, with `--show` and `--json` too; last `end quiet`, where nothing is left
+to do, or `end turns`.
 
 Each worker is one thread, which makes so many turns over its own nodes and waits for nobody.
 Packets cross between threads by rings of two places, so the threads' timing decides which order
@@ -576,12 +693,13 @@ Example:
 pub const REPLAY: CommandRow = CommandRow {
     name: "replay",
     about: "Does the events of a log on the net of a wiring file, and prints its trace and its memories",
-    arguments: &[WIRING, LOG_TO_READ, EVENTS, SHOW],
+    arguments: &[WIRING, LOG_TO_READ, EVENTS, SHOW, JSON],
     below: "\
 In: a wiring file (see `temu run --help`) and a log, which has a line for each event: `run 0`,
 `send 0 1`, `data 1 2`, `take 1 2` or `ack 0 1`, with the number of the node and that of its link.
 
-Out: what `temu run` prints of these events, with `--show` too; last `end replay E` after E events.
+Out: what `temu run` prints of these events, with `--show` and `--json` too; last `end replay E`
+after E events.
 With `--events 40` the first 40 events are done, or all where there are no more; with `--events -3`
 all but the last 3. A bad line behind them is told all the same.
 
@@ -594,7 +712,7 @@ Examples:
 pub const WHERE: CommandRow = CommandRow {
     name: "where",
     about: "Does the events of a log on the net of a wiring file, and prints where each process stands then",
-    arguments: &[WIRING, LOG_TO_READ, EVENTS],
+    arguments: &[WIRING, LOG_TO_READ, EVENTS, NAMES],
     below: "\
 In: a wiring file (see `temu run --help`) and a log (see `temu replay --help`).
 
@@ -630,11 +748,73 @@ link that a process, a source or a sink waits for, and what is lacking there:
 
   stuck #80000101 of 0: output on link 1 to 1.2, no input there
   stuck #80000601 of 1: input on link 2 from 0.1, node 0 is frozen
+  circle 0 waits for 1 waits for 0         nodes that wait for one another: of all such circles
+                                           with this lowest node the shortest
+
+Then for each node that has halted the event that halted it, and its instruction:
+
+  halted node 0 by event 4: #80000084: div
 
 Last `end replay E` after E events.
 
+A file of `--names` has lines such as `800000f0 got`: an address, of eight hexadecimal digits, and
+its name. Then each address of a node's memory has the nearest name at it or below it behind it, as
+`#800000f8 got+8`, but for the `stuck` lines. Of a node the first file counts that is of this node or
+of each.
+
+Examples:
+  temu where pair.toml pair.log --events 40
+  temu where pair.toml pair.log --names 0=sender.names --names 1=receiver.names",
+};
+
+/// `check`.
+pub const CHECK: CommandRow = CommandRow {
+    name: "check",
+    about: "Says all that is wrong with a wiring file and its images, or what the net is",
+    arguments: &[Argument {
+        name: "wiring",
+        form: Form::File,
+        value: "WIRING",
+        help: "The wiring file, as TOML",
+    }],
+    below: "\
+In: a wiring file and its images (see `temu run --help`).
+
+Out: where something is wrong, a line for each of all such things, the place first; where the text of
+the wiring is wrong, the number of its line before it:
+
+  line 1, wiring: version is missing
+  line 3, node 0: the key mem is unknown; did you mean memory?
+  line 2, node 0: memory is missing
+
+or, where the file is a wiring,
+
+  node 0: the image a.img cannot be read
+  node 1: the memory has 2047 bytes; it has to have a multiple of 4, from 2048 to 1048576
+  node 2: segment 0 has 8 bytes at #800007fc; programs may use #80000048 on, up to below #80000800
+  node 2: process 1, #80000101, is refused with AlreadyLive: a process before it has this workspace
+  wire 3: 5.0 is no link of a node
+  wire 4: 0.1 is an end of wire 0 already
+  hold 0: no wire is at 2.3
+
+Nodes, wires, sources, sinks and holds are numbered from 0 in the order of the file, and so are the
+segments and the processes of an image. Where a memory has a wrong size, what it holds is not judged.
+
+Else what the net is: `nothing is wrong`, and a line for each of its parts; for each process that
+begins where no segment has a byte, and for each link that has no wire:
+
+  nothing is wrong
+  node 0: kind 1, memory 2048 bytes, image a.img
+  node 0: process 0, #80000101, begins at #80000100, which no segment holds
+  node 0: no wire is at link 0
+  wire 0: 0.1 and 1.2
+  source 0: messages 3, to 1.0
+  sink 0: bytes 64, from 1.1
+
+Exit status: 0 nothing is wrong, so that `temu run` does not refuse the net; 2 something is.
+
 Example:
-  temu where pair.toml pair.log --events 40",
+  temu check pair.toml",
 };
 
 /// `dis`.
@@ -654,6 +834,12 @@ pub const DIS: CommandRow = CommandRow {
             value: "N",
             help: "The kind of the node that the image is for: 1 or 2",
         },
+        Argument {
+            name: "names",
+            form: Form::Text,
+            value: "FILE",
+            help: "Puts labels before the instructions whose addresses have names in this file",
+        },
     ],
     below: "\
 In: a boot image: the 8 bytes TEMUIMG1, the numbers of segments and of processes as little-endian
@@ -665,8 +851,12 @@ shown as `80000080: db xx`.
 
 With `--kind 2` the bytes 25 fa are `dup`, which nodes of kind 1 do not have.
 
-Example:
-  temu dis first.img",
+With `--names` a line `got:` stands before an instruction at whose address the file, as that of
+`temu where`, has a name.
+
+Examples:
+  temu dis first.img
+  temu dis first.img --names first.names",
 };
 
 /// What `--version` tells behind the program's name: the version, and the kit that the program is proved with.
@@ -681,6 +871,10 @@ Examples:
   temu explore pair.toml
   temu replay pair.toml pair.log
   temu where pair.toml pair.log --events -3
+  temu steps pair.toml pair.log --node 1 --last 20
+  temu watch pair.toml pair.log --node 1 --address 80000100
+  temu chart pair.toml pair.log > pair.svg
+  temu check pair.toml
   temu dis first.img
 
 `temu run --help` or `temu help run`, and their like, tell what goes into a command and what comes

@@ -8,6 +8,7 @@ ghost use Rattle.twords.specs.CommandLines as spec;
 ghost use Rattle.twords.specs.CommandLines.{command_of, refusals};
 ghost use Rattle.twords.specs.Table.{IsInRange};
 
+use crate::arguments::is_given;
 use crate::help_words::with_help_option;
 use crate::joined_words::{texts_of, with_events_joined};
 use crate::parsers::{parser, program};
@@ -45,13 +46,21 @@ fn read_without_help(alloc: Global, words: &[&str]) -> Result<Command, CommandFa
 {
     match read_taken(alloc, words) {
         Ok(Ok(command)) => Ok(command),
-        Ok(Err(which)) => Err(refused_show(alloc, which)?),
+        Ok(Err(unread)) => Err(refused_word(alloc, &unread)?),
         Err(fault) => Err(fault),
     }
 }
 
-/// What words ask for that the parser takes; the command alone, where its word of `--show` stands for nothing.
-fn read_taken(alloc: Global, words: &[&str]) -> Result<Result<Command, Which>, CommandFault>
+/// A command of whose words one stands for nothing.
+#[derive(Clone, Copy)]
+struct Unread {
+    which: Which,
+    /// What is told of that word.
+    refusal: &'static str,
+}
+
+/// What words ask for that the parser takes; why not, where a word of an option stands for nothing.
+fn read_taken(alloc: Global, words: &[&str]) -> Result<Result<Command, Unread>, CommandFault>
     ensures command { IfOk result (λ taken. spec.command_without_help (map (λ w. w.now) words.now)
         ≡ spec.command_taken taken) }
     ensures range { IfOk result (λ taken. IfOk taken IsInRange) }
@@ -64,14 +73,32 @@ fn read_taken(alloc: Global, words: &[&str]) -> Result<Result<Command, Which>, C
     Ok(asked(alloc, name, given)?)
 }
 
-/// The fault of a word of `--show` of this command that stands for nothing.
-fn refused_show(alloc: Global, which: Which) -> Result<CommandFault, AllocError>
+/// The fault of a word that stands for nothing.
+fn refused_word(alloc: Global, unread: &Unread) -> Result<CommandFault, AllocError>
     ensures { IfOk result (λ fault. kind_of fault ≡ InvalidValue) }
 {
-    parser(alloc, which)?.bin_name(which.called())?.error(
-        ErrorKind::InvalidValue,
-        "invalid value for '--show <WHAT>': not dump, where or none",
-    )
+    parser(alloc, unread.which)?
+        .bin_name(unread.which.called())?
+        .error(ErrorKind::InvalidValue, unread.refusal)
+}
+
+/// What is told of the word of this command that stands for nothing.
+fn refusal(which: Which, given: &ArgMatches) -> &'static str {
+    if which == Which::Watch {
+        "invalid value for '--address <A>': not 1 to 8 hexadecimal digits, as 80000100"
+    } else if is_given(given, "json") && is_where(given) {
+        "the argument '--json' cannot be used with '--show where'"
+    } else {
+        "invalid value for '--show <WHAT>': not dump, where or none"
+    }
+}
+
+/// Whether the word of `--show` is `where`.
+fn is_where(given: &ArgMatches) -> bool {
+    match given.get_str("show") {
+        Some(word) => word == "where",
+        None => false,
+    }
 }
 
 /// The command of this name, if there is one.
@@ -86,13 +113,12 @@ fn named(name: &str) -> Option<Which>
     None
 }
 
-/// What the arguments of the command of this name ask for; the command alone, where its word of `--show` stands for
-/// nothing.
+/// What the arguments of the command of this name ask for; why not, where a word of an option stands for nothing.
 fn asked(
     alloc: Global,
     name: &str,
     given: &ArgMatches,
-) -> Result<Result<Command, Which>, AllocError>
+) -> Result<Result<Command, Unread>, AllocError>
     requires { spec.IsWhole name.now (rows_of (found_of given.now)) }
     ensures command { IfOk result (λ taken. spec.command_in (Some (name.now, rows_of (found_of given.now)))
         ≡ spec.command_taken taken) }
@@ -103,6 +129,9 @@ fn asked(
     };
     match which.asked(alloc, given)? {
         Some(command) => Ok(Ok(command)),
-        None => Ok(Err(which)),
+        None => Ok(Err(Unread {
+            which,
+            refusal: refusal(which, given),
+        })),
     }
 }

@@ -1,6 +1,7 @@
-use Rattle.std.proofs.Common.{◌∙◌, ap, map, Bor}
-use Rattle.clap.specs.Words.{Text, found_of, rows_of}
-use Rattle.twords.specs.CommandLines.{command_in}
+use Rattle.std.proofs.Common.{◌≡◌, ◌∙◌, ap, map, subst, Bor}
+use Rattle.std.proofs.lemmas.Result.{err_from_is_err_and}
+use Rattle.clap.specs.Words.{App, HasKind, Text, app_of, fault_of, found_of, is_simple_and_free, rows_of}
+use Rattle.twords.specs.CommandLines.{command_in, program}
 use Rattle.twords.proofs.WordAnswers.{met}
 use Rattle.twords.proofs.words.read_taken.Goals as goal
 
@@ -27,3 +28,12 @@ returns-clause-refused c =
     c.in_ok-program.ensures c.in_ok-matches.ensures.kinds c.in_ok-matches.ensures.matches c.in-Some.ensures.name
     c.in-Some.ensures.rows in
     found.0
+
+pub returns-in_err-matches-clause-refused : goal.returns-in_err-matches-clause-refused
+returns-in_err-matches-clause-refused c =
+    let app : app_of c.in_ok-program.field-0 ≡ program = c.in_ok-program.ensures in
+    let kind : HasKind (fault_of program (map (λ (w : Bor Text). w.now) c.args.words.now)) c.in_err-matches.field-0.0 =
+    subst (λ (a : App). HasKind (fault_of a (map (λ (w : Bor Text). w.now) c.args.words.now)) c.in_err-matches.field-0.0)
+    app (c.in_err-matches.ensures.kinds (ap is_simple_and_free app)) in
+    let fault = err_from_is_err_and c.from_residual-in_err-matches.result c.from_residual-in_err-matches.ensures.1 in
+    rw (fault.1, fault.2) kind
