@@ -1,3 +1,4 @@
 pub mod Nearest
 pub mod NameLines
 pub mod NamedTexts
+pub mod LabelledTexts

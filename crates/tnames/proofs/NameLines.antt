@@ -1,5 +1,6 @@
 -- A file of names that is read line by line.
-use Rattle.std.proofs.Common.{◌≡◌, ◌≢◌, ◌∙◌, sym, ap, refl, ℕ, suc, ◌+◌, ◌<◌, ◌==◌, List, [], ◌∷◌, ◌++◌, length, take, drop, get_or}
+use Rattle.std.proofs.Common.{◌≡◌, ◌≢◌, ◌∙◌, sym, ap, refl, ℕ, suc, ◌+◌, ◌<◌, ◌==◌, List, [], ◌∷◌, ◌++◌, length, take}
+use Rattle.std.proofs.Common.{drop, get_or}
 use Rattle.std.proofs.Common.{append_assoc, add-one, length-append, Option, Some, None, Result, Ok, Err, arith}
 use Rattle.std.specs.Prelude.{position}
 use Rattle.std.proofs.Math.Seq.{drop-cons}
@@ -89,7 +90,7 @@ rest-bad ns rest end h is =
     ∙ ap Err (sym (add-one (length ns)))
 
 -- no line ends
-split-none : (rest : List ℕ) → Lacks 10 rest → split rest ≡ ([], rest)
+pub split-none : (rest : List ℕ) → Lacks 10 rest → split rest ≡ ([], rest)
 split-none [] f = refl
 split-none (b ∷ rest) f =
     rw (ne_eqb b 10 (All-head (λ c. c ≢ 10) b rest f), split-none rest (All-tail (λ c. c ≢ 10) b rest f)) refl

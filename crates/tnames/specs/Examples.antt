@@ -5,7 +5,10 @@ use Rattle.hex.specs.Hex.{decode_pairs}
 use Rattle.tnames.specs.declared.names.Name.{Name}
 use Rattle.tnames.specs.Names.{name_at}
 use Rattle.tnames.specs.Lines.{name_of, names_of}
-use Rattle.tnames.specs.Texts.{named_text, label_text}
+use Rattle.tnames.specs.declared.nodes.NodeNames.{NodeNames}
+use Rattle.tnames.specs.Texts.{in_memory, named_text, label_text}
+use Rattle.tnames.specs.Listings.{labelled_text}
+use Rattle.tnames.specs.Nodes.{text_of_node}
 
 abbrev four : List Name
 four =
@@ -68,12 +71,50 @@ a_text : named_text four (codes "Iptr #800000f8, Wptr #80000100; #80000008 #8000
 unfolding named_text decode_pairs digits
 a_text = refl
 
+-- the last address of the largest memory, and the first behind it
+in_the_largest : in_memory (Some 0x80ff_ffff) ≡ Some 0x80ff_ffff
+in_the_largest = refl
+
+behind_the_largest : in_memory (Some 0x8100_0000) ≡ None
+behind_the_largest = refl
+
+below_the_lowest : in_memory (Some 0x7fff_ffff) ≡ None
+below_the_lowest = refl
+
+-- a number is no address, though a name stands below it
+a_number : named_text four (codes "A #00000017 B #80000100")
+    ≡ codes "A #00000017 B #80000100 loop"
+unfolding named_text decode_pairs digits
+a_number = refl
+
 a_dump : named_text four (codes "800000f0: 2a 00 00 00") ≡ codes "800000f0: 2a 00 00 00"
 unfolding named_text decode_pairs digits
 a_dump = refl
 
 a_label : label_text (name_at four 0x8000_00f0) ≡ codes "got:" ++ 10 ∷ []
 a_label = refl
+
+a_listing : labelled_text four (codes "800000f0: ldc 4" ++ 10 ∷ (codes "800000f1: j 0" ++ 10 ∷ (codes "80000100: in")))
+    ≡ codes "got:" ++ 10 ∷ (codes "800000f0: ldc 4" ++ 10 ∷ (codes "800000f1: j 0" ++ 10 ∷ (codes "80000100: in")))
+unfolding decode_pairs
+a_listing = refl
+
+abbrev of_two_nodes : List NodeNames
+of_two_nodes =
+    record { node = Some 1; names = record { address = 0x8000_00f0; text = codes "mine" } ∷ [] }
+    ∷ record { node = None; names = four } ∷ []
+
+-- names of its own come first; any other node has those of each
+of_its_own : text_of_node of_two_nodes 1 (codes "#800000f4") ≡ codes "#800000f4 mine+4"
+unfolding named_text decode_pairs digits
+of_its_own = refl
+
+of_each : text_of_node of_two_nodes 0 (codes "#800000f4") ≡ codes "#800000f4 got+4"
+unfolding named_text decode_pairs digits
+of_each = refl
+
+without_names : text_of_node [] 0 (codes "#800000f4") ≡ codes "#800000f4"
+without_names = refl
 
 no_label : label_text (name_at four 0x8000_00f1) ≡ []
 no_label = refl

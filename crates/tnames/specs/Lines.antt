@@ -1,6 +1,7 @@
 -- Which names the lines of a file stand for.
 -- Source: own choice, a format of this program; `nm` and the maps of linkers have address and name in this order.
-use Rattle.std.specs.Prelude.{ℕ, suc, ◌≡◌, [], ◌∷◌, Bool, ◌&&◌, ◌==◌, nat_le, nat_lt, List, length, take, drop, slice_index, Option, Some, None}
+use Rattle.std.specs.Prelude.{ℕ, suc, ◌≡◌, [], ◌∷◌, Bool, ◌&&◌, ◌==◌, nat_le, nat_lt, List, length, take, drop}
+use Rattle.std.specs.Prelude.{slice_index, Option, Some, None}
 use Rattle.std.specs.Prelude.{option_map, Result, Ok, Err, if◌then◌else◌}
 use Rattle.std.specs.List.{list_all}
 use Rattle.std.specs.Int.{w32, from_be_bytes}
@@ -32,7 +33,8 @@ has_name line = nat_lt 9 (length line) && slice_index line 8 == 32 && list_all i
 -- the name that a line stands for: eight hexadecimal digits, a blank and the name
 abbrev pub name_of : List ℕ → Option Name
 name_of line =
-    if has_name line then option_map (λ address. record { address = address; text = drop 9 line }) (address_of (take 8 line))
+    if has_name line
+    then option_map (λ address. record { address = address; text = drop 9 line }) (address_of (take 8 line))
     else None
 
 -- nothing may stand behind the last end of a line

@@ -1,21 +1,29 @@
 -- Texts with names behind the addresses in them.
 -- Source: own choice, a format of this program.
-use Rattle.std.specs.Prelude.{ℕ, zero, suc, ◌+◌, ◌-◌, Bool, ◌&&◌, ◌||◌, ◌==◌, nat_le, List, [], ◌++◌, flat_map}
+use Rattle.std.specs.Prelude.{ℕ, zero, suc, ◌+◌, ◌-◌, Bool, ◌&&◌, ◌||◌, ◌==◌, nat_le, nat_lt, List, [], ◌++◌, flat_map}
 use Rattle.std.specs.Prelude.{length, take, drop, slice_index, Option, Some, None, codes, decimal, if◌then◌else◌}
 use Rattle.std.specs.List.{list_all, range_with_len}
+use Rattle.tword.specs.Limits.{largest_memory}
+use Rattle.tword.specs.declared.kind.Kind.TheVariants.{Two}
 use Rattle.tfiles.specs.Logs.{line}
 use Rattle.tnames.specs.declared.names.Name.{Name}
-use Rattle.tnames.specs.Names.{name_at}
+use Rattle.tnames.specs.Names.{name_at, place_of}
 use Rattle.tnames.specs.Lines.{address_of}
 
 -- a hexadecimal digit in lower case
 abbrev pub is_lower_digit : ℕ → Bool
 is_lower_digit byte = (nat_le 48 byte && nat_le byte 57) || (nat_le 97 byte && nat_le byte 102)
 
+-- an address, where the largest memory has it: #80000000 to #80ffffff
+abbrev pub in_memory : Option ℕ → Option ℕ
+in_memory (Some address) = if nat_lt (place_of address) (largest_memory Two) then Some address else None
+in_memory None = None
+
 -- the address that `#` and hexadecimal digits in lower case stand for, eight of them
 abbrev pub printed_address : List ℕ → Option ℕ
 printed_address text =
-    if slice_index text 0 == 35 && list_all is_lower_digit (drop 1 text) then address_of (drop 1 text) else None
+    if slice_index text 0 == 35 && list_all is_lower_digit (drop 1 text) then in_memory (address_of (drop 1 text))
+    else None
 
 -- the address in which a text ends
 abbrev pub address_at_end : List ℕ → Option ℕ

@@ -69,7 +69,7 @@ impl Names {
 }
 
 /// Where an address lies in the memory: how far above the lowest address.
-fn place_of(address: Word) -> u32
+pub(crate) fn place_of(address: Word) -> u32
     ensures { result ≡ spec.place_of address }
 {
     address.minus(Word::new(MOST_NEG)).get()

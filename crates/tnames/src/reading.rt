@@ -68,14 +68,14 @@ pub fn read_names(alloc: Global, bytes: &[u8]) -> Result<Names, NamesFault>
 }
 
 /// Where the first line ends.
-fn end_of_line(bytes: &[u8]) -> Option<usize>
+pub(crate) fn end_of_line(bytes: &[u8]) -> Option<usize>
     ensures { result ≡ position (λ byte. byte == 10) bytes.now }
 {
     bytes.iter().position(|byte| *byte == b'\n')
 }
 
 /// What stands behind the byte at a place.
-fn behind(bytes: &[u8], place: usize) -> &[u8]
+pub(crate) fn behind(bytes: &[u8], place: usize) -> &[u8]
     requires { place < length bytes.now }
     ensures { result.now ≡ drop (place + 1) bytes.now }
 {

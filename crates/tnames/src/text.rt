@@ -8,16 +8,17 @@ ghost use Rattle.tnames.specs.Texts as spec;
 ghost use Rattle.tnames.specs.Texts.{behind, label_at, label_text, name_text, named_text};
 ghost use Rattle.tnames.specs.Names.{name_at};
 
-use crate::names::Names;
+use crate::names::{Names, place_of};
 use crate::reading::{DIGITS, address_of};
 use tfiles::writing::output::Output;
 use tfiles::writing::text::put_decimal;
 use tfiles::{CountedWrite, WriteFault};
 use tword::Word;
+use tword::limits::LARGEST_MEMORY_TWO;
 
 /// Writes a text with names (own choice of format): each address in it, `#` and eight hexadecimal digits in lower case,
 /// is followed by a blank and its name, with how far above it the address lies: `#800000f8 got+8`, or `#800000f0 got`.
-/// An address without a name is followed by nothing. All else stays as it is.
+/// A word that lies in no memory, or has no name, is followed by nothing. All else stays as it is.
 ///
 /// # Errors
 /// Where the writer fails or takes nothing. Just so many of the first bytes are written as the fault tells.
@@ -107,7 +108,17 @@ fn printed_address(text: &[u8]) -> Option<Word>
     ensures { result ≡ spec.printed_address text.now }
 {
     match text {
-        [b'#', digits @ ..] if are_lower_digits(digits) => address_of(digits),
+        [b'#', digits @ ..] if are_lower_digits(digits) => in_memory(address_of(digits)),
+        _ => None,
+    }
+}
+
+/// An address, where a memory may have it.
+fn in_memory(address: Option<Word>) -> Option<Word>
+    ensures { result ≡ spec.in_memory address }
+{
+    match address {
+        Some(address) if place_of(address) < LARGEST_MEMORY_TWO => Some(address),
         _ => None,
     }
 }

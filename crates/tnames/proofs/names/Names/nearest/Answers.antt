@@ -13,11 +13,13 @@ loop-name-preserved c =
     ∙ ap (λ (n : Name). take c.loop-name.name-index names ++ n ∷ []) (sym c.name-item.is) in
     subst (λ (ns : List Name). IsBestSoFar c.args.address ns c.if-is_nearer.best) (sym next)
     (elim c.if-is_nearer.branch [
-      | then-is_nearer w ↦ subst (IsBestSoFar c.args.address (take c.loop-name.name-index names ++ c.name-item.result ∷ []))
+      | then-is_nearer w ↦ subst
+          (IsBestSoFar c.args.address (take c.loop-name.name-index names ++ c.name-item.result ∷ []))
           (sym w.best-is)
           (so_far-next c.args.address (take c.loop-name.name-index names) c.loop-name.best c.name-item.result
           c.is_nearer.result c.loop-name.invariant c.is_nearer.ensures w.if-is_nearer.true)
-      | else-is_nearer w ↦ subst (IsBestSoFar c.args.address (take c.loop-name.name-index names ++ c.name-item.result ∷ []))
+      | else-is_nearer w ↦ subst
+          (IsBestSoFar c.args.address (take c.loop-name.name-index names ++ c.name-item.result ∷ []))
           (sym w.best-is)
           (so_far-kept c.args.address (take c.loop-name.name-index names) c.loop-name.best c.name-item.result
           c.is_nearer.result c.loop-name.invariant c.is_nearer.ensures w.if-is_nearer.false)
