@@ -1,8 +1,13 @@
+pub mod AwaitedNodes
+pub mod CircleSets
+pub mod ClosedPaths
+pub mod NodeBits
 pub mod QuietNets
 pub mod StuckFacts
 pub mod WhereNodes
 pub mod WhereRoles
 pub mod UnseenBytes
+pub mod UnseenCircles
 pub mod UnseenEvents
 pub mod UnseenNets
 pub mod UnseenWaits

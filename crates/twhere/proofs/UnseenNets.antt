@@ -32,6 +32,7 @@ use Rattle.twhere.specs.Standing.{processor_where, queue_facts, reason_text, reg
 use Rattle.twhere.specs.Standing.{waiting_facts}
 use Rattle.twhere.specs.Standing.{code_text, node_stuck, saved_iptr, stuck_text, texts_from, where_text, word_text}
 use Rattle.twhere.specs.Unseen.{HiddenIsUnseen, TextIsOfTheView, hidden_net, hidden_node}
+use Rattle.twhere.proofs.UnseenCircles.{circles_same}
 use Rattle.twhere.proofs.UnseenEvents.{quiet_same}
 use Rattle.twhere.proofs.UnseenWaits.{node_stuck_same}
 use Rattle.twhere.proofs.UnseenBytes.{fetched_same, iptr_same}
@@ -200,12 +201,13 @@ texts_same f g same k (s ∷ nodes) h =
     ap₂ (λ (a b : List ℕ). a ++ b) (same k s (h zero s (omega arith)))
     (texts_same f g same (suc k) nodes (All-tail IsSoundNode s nodes h))
 
--- those that wait at links
+-- those that wait at links, and the circles
 stuck_same : (net : NetState) → IsSound net → stuck_text (hidden_net net) ≡ stuck_text net
 stuck_same net sound =
     ap₂ (λ (b : Bool) (t : List ℕ). if b then t else []) (quiet_same net sound)
+    (ap₂ (λ (a b : List ℕ). a ++ b)
     (texts_same (node_stuck (hidden_net net)) (node_stuck net) (λ k s h. node_stuck_same net k s) 0 net.nodes
-    sound.nodes)
+    sound.nodes) (circles_same net))
 
 -- a net
 pub hidden_is_unseen : HiddenIsUnseen

@@ -1,5 +1,6 @@
 -- What is printed of where the processes and the links of a net stand: a line for each node, and below it a line for
--- each fact; behind the nodes, where no event is enabled, a line for each link that anyone waits for.
+-- each fact; behind the nodes, where no event is enabled, a line for each link that anyone waits for, and one for each
+-- circle of nodes that wait for one another.
 -- Source: own choice, a format of this program; the names of registers, flags and queues are the Compiler Writer's
 -- Guide's (1988).
 use Rattle.std.specs.Prelude.{ℕ, zero, suc, ◌+◌, Bool, true, false, nat_le, List, [], ◌∷◌, ◌++◌, map, flat_map}
@@ -43,7 +44,8 @@ use Rattle.twhere.specs.declared.waits.Lack.TheVariants.{Frozen, Halted, Room, P
 use Rattle.twhere.specs.declared.waits.Wait.{Wait}
 use Rattle.twhere.specs.declared.waits.Want.{Want}
 use Rattle.twhere.specs.declared.waits.Want.TheVariants.{Output, Input, Alternative}
-use Rattle.twhere.specs.Waits.{lack, sink_waits, source_waits, wait_at, waiter_waits}
+use Rattle.twhere.specs.Circles.{circle, numbers_from}
+use Rattle.twhere.specs.Waits.{lack, sink_waits, source_waits, wait_at, waiter_waits, waits_for}
 
 -- ---- words and instructions
 
@@ -379,9 +381,30 @@ abbrev pub texts_from : (ℕ → NodeState → List ℕ) → ℕ → List NodeSt
 texts_from text k [] = []
 texts_from text k (n ∷ ns) = text k n ++ texts_from text (suc k) ns
 
--- all that wait at links, where the net is quiet: nothing more happens by itself
+-- ---- circles of nodes that wait for one another
+
+-- a node that another one waits for
+abbrev pub awaited_text : ℕ → List ℕ
+awaited_text n = numbered (codes " waits for ") n
+
+-- a circle: its lowest node, and those behind it in their order up to itself, if it has one
+abbrev pub circle_fact : (lowest : ℕ) → Option (List ℕ) → List ℕ
+circle_fact lowest (Some behind) = line (numbered (codes "circle ") lowest ++ flat_map awaited_text behind)
+circle_fact lowest None = []
+
+-- the circles of so many nodes, by which of them waits for which, in the order of their lowest nodes
+abbrev pub circle_facts : ℕ → (ℕ → ℕ → Bool) → List ℕ
+circle_facts count waits = flat_map (λ n. circle_fact n (circle count waits n)) (numbers_from 0 count)
+
+-- those of a net
+abbrev pub circles_text : NetState → List ℕ
+circles_text net = circle_facts (length net.nodes) (waits_for net)
+
+-- ---- the whole
+
+-- all that wait at links, and the circles, where the net is quiet: nothing more happens by itself
 abbrev pub stuck_text : NetState → List ℕ
-stuck_text net = if is_quiet net then texts_from (node_stuck net) 0 net.nodes else []
+stuck_text net = if is_quiet net then texts_from (node_stuck net) 0 net.nodes ++ circles_text net else []
 
 -- a net
 abbrev pub where_text : NetState → List ℕ

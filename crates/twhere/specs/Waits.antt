@@ -2,15 +2,18 @@
 -- Source: the Compiler Writer's Guide (1988): a process waits at a link until the other end has its part. What is
 -- told to be lacking: own choice.
 use Rattle.std.specs.Prelude.{ℕ, Bool, false, ◌==◌, List, [], ◌∷◌, Option, Some, None, is_some, if◌then◌else◌}
-use Rattle.std.specs.List.{flat_map}
+use Rattle.std.specs.List.{flat_map, list_any}
 use Rattle.tproc.specs.declared.waiter.Reason.{Reason}
 use Rattle.tproc.specs.declared.waiter.Reason.TheVariants.{Receives, Sends, LinkInput, LinkOutput, Chooses}
 use Rattle.tproc.specs.declared.waiter.Waiter.{Waiter}
 use Rattle.tproc.specs.Machine.{Control}
 use Rattle.tproc.specs.LinkChannels.{link_end}
+use Rattle.tlink.specs.Roles.{Role, Processor, Source, Sink}
 use Rattle.tlink.specs.Node.{NodeState, counts_at, output_at, input_at}
 use Rattle.tplan.specs.declared.plan.End.{End}
+use Rattle.tplan.specs.declared.plan.Wire.{Wire}
 use Rattle.tnet.specs.Net.{NetState, four_links, node_at}
+use Rattle.tnet.specs.Wires.{far_ends}
 use Rattle.twhere.specs.declared.waits.Want.{Want}
 use Rattle.twhere.specs.declared.waits.Want.TheVariants.{Output, Input, Alternative}
 use Rattle.twhere.specs.declared.waits.Wait.{Wait}
@@ -78,3 +81,29 @@ lack_at want e None = Partner
 -- what a node of this number lacks at a link that is wired to an end; its own break comes first
 abbrev pub lack : NetState → ℕ → NodeState → Want → End → Lack
 lack net k n want e = if is_some n.broken then Frozen k else lack_at want e (node_at net e.node)
+
+-- ---- and for which nodes
+
+-- the links that a node waits for: those of its processes, of the source or of the sink
+abbrev pub role_waits : Role → NodeState → List Waiter → List Wait
+role_waits Processor n waiting = flat_map (waiter_waits n.machine.control) waiting
+role_waits (Source over rest) n waiting = source_waits n
+role_waits (Sink kept) n waiting = sink_waits n
+
+-- an end is at the node of this number
+abbrev pub is_at : ℕ → Option End → Bool
+is_at b (Some e) = e.node == b
+is_at b None = false
+
+-- one of the waits of a node is at a link whose far end is at another node
+abbrev pub leads_to : List Wire → (a b : ℕ) → List Wait → Bool
+leads_to wires a b waits = list_any (λ w. is_at b (far_ends wires a w.link)) waits
+
+-- a node of this number waits for another, if it is there
+abbrev pub node_waits_for : List Wire → (a b : ℕ) → Option NodeState → Bool
+node_waits_for wires a b (Some n) = leads_to wires a b (role_waits n.role n n.machine.control.waiting)
+node_waits_for wires a b None = false
+
+-- a node of a net waits for another
+abbrev pub waits_for : NetState → ℕ → ℕ → Bool
+waits_for net a b = node_waits_for net.wires a b (node_at net a)

@@ -21,7 +21,8 @@ use tnet::Net;
 
 /// Where the processes and the links of each node stand (own choice of format, `specs/Standing`), in the order of the
 /// nodes, sources and sinks behind them; behind all nodes, where no event is enabled, who waits at a link and what is
-/// lacking there. The processes that are queued or wait are those that `list_net` lists. It takes no memory.
+/// lacking there, and each circle of nodes that wait for one another. The processes that are queued or wait are those
+/// that `list_net` lists. It takes no memory.
 pub fn put_where<W: CountedWrite>(out: &mut Output<'_, W>, net: &Net, listed: &[Listed])
     requires listed { listed.now ≡ map (λ n. spec.listed_of n.machine.control) net.now.nodes }
     requires few { length net.now.nodes ≤ most_nodes }
@@ -29,6 +30,22 @@ pub fn put_where<W: CountedWrite>(out: &mut Output<'_, W>, net: &Net, listed: &[
 {
     put_nodes(out, net, listed);
     put_stuck(out, net, listed);
+}
+
+/// Where a node of this number and its links stand, as `put_where` writes it. Its processes that are queued or wait are
+/// those that `list_net` lists. It takes no memory.
+pub fn put_node_where<W: CountedWrite>(
+    out: &mut Output<'_, W>,
+    net: &Net,
+    number: u32,
+    node: &Node,
+    listed: &Listed,
+)
+    requires whole { IsWhole node.now }
+    requires listed { listed.now ≡ spec.listed_of node.now.machine.control }
+    ensures { Tells W.contents W.failures out.old out.new (spec.node_where net.now number node.now) }
+{
+    put_node(out, net, number, node, listed);
 }
 
 /// Where each node stands.

@@ -10,6 +10,7 @@ ghost use Rattle.twhere.specs.Standing as spec;
 ghost use Rattle.twhere.specs.Waits.{guard_at, sink_waits, source_waits, wait_at};
 ghost use Rattle.twhere.specs.declared.stuck.Who.TheVariants.{Process, TheSource, TheSink};
 
+use crate::circles::put_circles;
 use crate::facts::put_word;
 use crate::listing::Listed;
 use crate::net_node::NetNode;
@@ -35,8 +36,9 @@ pub(crate) enum Who {
     TheSink,
 }
 
-/// All that wait at links, where the net is quiet: nothing more happens by itself.
-pub(crate) fn put_stuck<W: CountedWrite>(out: &mut Output<'_, W>, net: &Net, listed: &[Listed])
+/// All that wait at links, and the circles of nodes that wait for one another, where the net is quiet: nothing more
+/// happens by itself.
+pub fn put_stuck<W: CountedWrite>(out: &mut Output<'_, W>, net: &Net, listed: &[Listed])
     requires listed { listed.now ≡ map (λ n. spec.listed_of n.machine.control) net.now.nodes }
     requires few { length net.now.nodes ≤ most_nodes }
     ensures { Tells W.contents W.failures out.old out.new (spec.stuck_text net.now) }
@@ -44,6 +46,7 @@ pub(crate) fn put_stuck<W: CountedWrite>(out: &mut Output<'_, W>, net: &Net, lis
     net.know_sound();
     if net.is_quiet() {
         put_nodes(out, net, listed);
+        put_circles(out, net, listed);
     }
 }
 
