@@ -7,7 +7,8 @@ use Rattle.tplan.specs.declared.event.Event.{Event}
 use Rattle.tnet.specs.Net.{NetState}
 use Rattle.thistory.specs.declared.steps.Asked.{Asked}
 use Rattle.thistory.specs.declared.watch.Place.{Place}
-use Rattle.thistory.specs.Deeds.{net_behind}
+use Rattle.thistory.specs.Deeds.{done_of, net_behind}
+use Rattle.thistory.specs.Halts as halts
 use Rattle.thistory.specs.Steps.{event_text, net_after, own_count, steps_from}
 use Rattle.thistory.specs.Watch as watch
 
@@ -60,3 +61,15 @@ watch_next p k es d net l =
 pub watch_end : (p : Place) (k : ℕ) (es : List Event) (net : NetState) → length es ≤ k
     → watch.watch_from p k (drop k es) net ≡ []
 watch_end p k es net l = ap (λ (es : List Event). watch.watch_from p k es net) (drop_of_length-le es l)
+
+-- and those of events that halted nodes
+pub halts_next : (named : ℕ → List ℕ → List ℕ) (k : ℕ) (es : List Event) (d : Event) (net : NetState) → k < length es
+    → halts.halts_from named k (drop k es) net
+    ≡ halts.event_text named k (done_of net (get_or es k d))
+    ++ halts.halts_from named (k + 1) (drop (k + 1) es) (net_behind net (get_or es k d))
+halts_next named k es d net l =
+    rw (add-one k) (ap (λ (es : List Event). halts.halts_from named k es net) (drop-cons es k d l))
+
+pub halts_end : (named : ℕ → List ℕ → List ℕ) (k : ℕ) (es : List Event) (net : NetState) → length es ≤ k
+    → halts.halts_from named k (drop k es) net ≡ []
+halts_end named k es net l = ap (λ (es : List Event). halts.halts_from named k es net) (drop_of_length-le es l)

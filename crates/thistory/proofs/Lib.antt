@@ -2,3 +2,8 @@ pub mod Numbers
 pub mod Histories
 pub mod HiddenBytes
 pub mod Changes
+pub mod UnseenAnswers
+pub mod UnseenDeeds
+pub mod UnseenHistories
+pub mod UnseenLines
+pub mod UnseenNets

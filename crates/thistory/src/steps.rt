@@ -104,8 +104,8 @@ fn put_step<W: CountedWrite>(out: &mut Output<'_, W>, net: &Net, number: u64, do
     }
 }
 
-/// Whether an event was done.
-fn was_done(answer: &Result<Emitted, StepFault>) -> bool
+/// Whether an event was done, by the answer of the net: one that froze its node was.
+pub fn was_done(answer: &Result<Emitted, StepFault>) -> bool
     ensures { result ≡ spec.was_done answer.now }
 {
     match answer {
