@@ -16,7 +16,8 @@ use Rattle.twiring.specs.Wirings.{items_in, items_of, is_texts, are_tables, is_t
 use Rattle.twiring.specs.Wirings.{is_no_message, is_node_kind, number_of, text_of, end_of, kind_of, node_kind_of}
 use Rattle.twiring.specs.Wirings.{message_at}
 use Rattle.twiring.specs.WiringParts.{Reading, both, made, known, value_or, number, number_in, text_in, end_in, kind_in}
-use Rattle.twiring.specs.WiringParts.{node_kind, node_kind_in, message, message_in, version, version_in, one_more, more_in, table_in, array_in}
+use Rattle.twiring.specs.WiringParts.{node_kind, node_kind_in, message, message_in, version, version_in, one_more}
+use Rattle.twiring.specs.WiringParts.{more_in, table_in, array_in}
 
 -- which tests of a part hold, in the order in which their faults are told
 pub record Tests : Type 0 where

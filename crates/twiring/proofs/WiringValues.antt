@@ -172,7 +172,8 @@ source_value t =
     source_from (end_of (get_member (codes "end") t), map message_at (items_of (get_member (codes "messages") t)))
 
 source_in-judged : (t : Members)
-    → source_in t ≡ judged (table_tests source_keys source_keys source_wrong source_bad has_bad_message none_in t) (source_value t)
+    → source_in t ≡ judged (table_tests source_keys source_keys source_wrong source_bad has_bad_message none_in t)
+    (source_value t)
 source_in-judged t =
     table-judged source_keys source_keys t source_from _ _ source_wrong source_bad has_bad_message none_in _
     (ap₂ both (end-judged (codes "end") t) (messages-judged (codes "messages") t) ∙ both-judged _ _ _ _)

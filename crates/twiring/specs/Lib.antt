@@ -3,3 +3,6 @@ pub mod Messages
 pub mod Wirings
 pub mod WiringParts
 pub mod WiringExamples
+pub mod NearKeys
+pub mod NearExamples
+pub mod Flaws

@@ -21,7 +21,7 @@ use tword::{Items, Kind};
 pub const DEFAULT_TIMESLICE: u32 = 1_024;
 
 /// What a part of a wiring stands for, or its lowest fault.
-type Reading<T> = Result<T, WiringFault>;
+pub(crate) type Reading<T> = Result<T, WiringFault>;
 
 /// The wiring that a text stands for (own choice of format), as TOML: `version`, which is 1 or 2, `timeslice`, which
 /// may be absent, and the arrays `node` (`memory` in bytes, `image`), `wire` (its ends `a` and `b`, each a node and a
@@ -90,7 +90,7 @@ fn known_root_keys(root: &Table, first: bool) -> Reading<()>
 }
 
 /// The version is 1.
-fn is_first(root: &Table) -> bool
+pub(crate) fn is_first(root: &Table) -> bool
     ensures { result ≡ is_first_in (table_view root.now) }
 {
     match value_at(root, "version") {
@@ -266,14 +266,14 @@ fn known_keys(table: &Table, names: &[&str]) -> Reading<()>
 }
 
 /// A key is one of these.
-fn is_one_of(key: &str, names: &[&str]) -> bool
+pub(crate) fn is_one_of(key: &str, names: &[&str]) -> bool
     ensures { result ≡ spec_is_one_of key.now (map (λ name. name.now) names.now) }
 {
     names.iter().any(|name| *name == key)
 }
 
 /// The version, which has to be there and to be 1 or 2.
-fn version_at(root: &Table) -> Reading<()>
+pub(crate) fn version_at(root: &Table) -> Reading<()>
     ensures { result ≡ spec.required spec.version_in (codes "version") (table_view root.now) }
 {
     match required(root, "version")?.as_integer() {
@@ -284,7 +284,7 @@ fn version_at(root: &Table) -> Reading<()>
 }
 
 /// The timeslice, which may be absent.
-fn timeslice_at(root: &Table) -> Reading<u32>
+pub(crate) fn timeslice_at(root: &Table) -> Reading<u32>
     ensures { result ≡ spec.value_or (Ok default_timeslice) spec.number_in
         (get_member (codes "timeslice") (table_view root.now)) }
 {
@@ -295,7 +295,7 @@ fn timeslice_at(root: &Table) -> Reading<u32>
 }
 
 /// The kind of a node, which is 1 where none is named.
-fn node_kind_at(table: &Table) -> Reading<Kind>
+pub(crate) fn node_kind_at(table: &Table) -> Reading<Kind>
     ensures { result ≡ spec.node_kind_at (table_view table.now) }
 {
     match value_at(table, "kind") {
@@ -305,35 +305,35 @@ fn node_kind_at(table: &Table) -> Reading<Kind>
 }
 
 /// The number at a key.
-fn number_at(table: &Table, key: &str) -> Reading<u32>
+pub(crate) fn number_at(table: &Table, key: &str) -> Reading<u32>
     ensures { result ≡ spec.required spec.number_in key.now (table_view table.now) }
 {
     number(required(table, key)?)
 }
 
 /// The end at a key.
-fn end_at(table: &Table, key: &str) -> Reading<End>
+pub(crate) fn end_at(table: &Table, key: &str) -> Reading<End>
     ensures { result ≡ spec.required spec.end_in key.now (table_view table.now) }
 {
     end(required(table, key)?)
 }
 
 /// The kind of packets at a key.
-fn kind_at(table: &Table, key: &str) -> Reading<PacketKind>
+pub(crate) fn kind_at(table: &Table, key: &str) -> Reading<PacketKind>
     ensures { result ≡ spec.required spec.kind_in key.now (table_view table.now) }
 {
     kind(required(table, key)?)
 }
 
 /// The name of a file at a key.
-fn name_at(alloc: Global, table: &Table, key: &str) -> Reading<FileName>
+pub(crate) fn name_at(alloc: Global, table: &Table, key: &str) -> Reading<FileName>
     ensures { IsWiringAnswer (spec.required spec.text_in key.now (table_view table.now)) result }
 {
     name(alloc, required(table, key)?)
 }
 
 /// The messages at a key.
-fn messages_at(alloc: Global, table: &Table, key: &str) -> Reading<Items<Items<u8>>>
+pub(crate) fn messages_at(alloc: Global, table: &Table, key: &str) -> Reading<Items<Items<u8>>>
     ensures { IsWiringAnswer
         (spec.required (spec.array_in spec.message_in) key.now (table_view table.now)) result }
 {
@@ -452,7 +452,7 @@ fn required<'a>(table: &'a Table, key: &str) -> Reading<&'a Value>
 }
 
 /// The value at a key.
-fn value_at<'a>(table: &'a Table, key: &str) -> Option<&'a Value>
+pub(crate) fn value_at<'a>(table: &'a Table, key: &str) -> Option<&'a Value>
     ensures { option_map (λ v. view v.now) result ≡ get_member key.now (table_view table.now) }
 {
     table.get(key)

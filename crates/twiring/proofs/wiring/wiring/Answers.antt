@@ -15,7 +15,8 @@ use Rattle.twiring.proofs.WiringValues.{wiring_from}
 use Rattle.twiring.proofs.wiring.wiring.Goals as goal
 
 -- the whole, from what may be answered of its parts
-answer-wiring : (t : Members) (first : Bool) (n : Reading (List WiringNode)) (w : Reading (List Wire)) (s : Reading (List SourcePlan))
+answer-wiring : (t : Members) (first : Bool) (n : Reading (List WiringNode)) (w : Reading (List Wire))
+    (s : Reading (List SourcePlan))
     (k : Reading (List SinkPlan)) (h : Reading (List Hold)) (answer : Reading Wiring)
     → first ≡ is_first_in t
     → known (root_keys t) t done ≡ done → IsWiringAnswer (array_at (node_in first) (codes "node") t) n
@@ -26,7 +27,8 @@ answer-wiring : (t : Members) (first : Bool) (n : Reading (List WiringNode)) (w 
 answer-wiring t first n w s k h answer own keys ns ws ss ks hs e =
     let ns' : IsWiringAnswer (array_at (node_in (is_first_in t)) (codes "node") t) n =
     subst (λ b. IsWiringAnswer (array_at (node_in b) (codes "node") t) n) own ns in
-    let net : IsWiringAnswer (both (array_at (node_in (is_first_in t)) (codes "node") t) (array_at wire_in (codes "wire") t))
+    let net : IsWiringAnswer
+    (both (array_at (node_in (is_first_in t)) (codes "node") t) (array_at wire_in (codes "wire") t))
     (both n w) =
     answer-both _ n _ w _ ns' ws refl in
     let ends : IsWiringAnswer (ends_in t) (both s k) = answer-both _ s _ k _ ss ks refl in
@@ -45,7 +47,8 @@ returns c =
     let arrays = c.both-arrays.ensures ∙ ap₂ both c.both-net.ensures rest in
     let parts = c.both-2.ensures ∙ ap₂ both c.head.ensures arrays in
     answer-wiring (table_view c.args.root.now) c.is_first-first.result c.array_at-nodes.result c.array_at-wires.result
-    c.array_at-sources.result c.array_at-sinks.result c.array_at-holds.result _ c.is_first-first.ensures (search rules) c.array_at-nodes.ensures
+    c.array_at-sources.result c.array_at-sinks.result c.array_at-holds.result _ c.is_first-first.ensures
+    (search rules) c.array_at-nodes.ensures
     c.array_at-wires.ensures c.array_at-sources.ensures c.array_at-sinks.ensures c.array_at-holds.ensures
     (ap (made wiring_from) (sym parts) ∙ ap (made wiring_from) c.in_ok-timeslice.was)
 
@@ -56,6 +59,7 @@ returns-in_err-timeslice c =
     let parts = c.both-2.ensures ∙ ap₂ both c.head.ensures arrays in
     let same : made wiring_from c.both-2.result ≡ c.from_residual-in_err-timeslice.result = search rules in
     answer-wiring (table_view c.args.root.now) c.is_first-first.result c.array_at-nodes.result c.array_at-wires.result
-    c.array_at-sources.result c.array_at-sinks.result c.array_at-holds.result _ c.is_first-first.ensures (search rules) c.array_at-nodes.ensures
+    c.array_at-sources.result c.array_at-sinks.result c.array_at-holds.result _ c.is_first-first.ensures
+    (search rules) c.array_at-nodes.ensures
     c.array_at-wires.ensures c.array_at-sources.ensures c.array_at-sinks.ensures c.array_at-holds.ensures
     (ap (made wiring_from) (sym parts) ∙ same)
