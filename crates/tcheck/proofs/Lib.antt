@@ -1,0 +1,15 @@
+pub mod Found
+pub mod Rests
+pub mod Beginnings
+pub mod Crowds
+pub mod Refusals
+pub mod Zips
+pub mod Nothing
+pub mod FineNodes
+pub mod FineEnds
+pub mod FinePlans
+pub mod FineHolds
+pub mod Accepted
+pub mod Wholes
+pub mod Ones
+pub mod FoundFaults

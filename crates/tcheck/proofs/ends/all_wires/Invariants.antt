@@ -1,0 +1,7 @@
+use Rattle.std.proofs.Common.{◌≡◌, take}
+use Rattle.tnet.specs.Building.{all_wires}
+use Rattle.tcheck.proofs.ends.all_wires.Given as goal
+
+-- the wires so far
+abbrev pub invariant-loop-place : goal.invariant-loop-place
+invariant-loop-place l = l.wires.items ≡ take l.place (all_wires l.plan)

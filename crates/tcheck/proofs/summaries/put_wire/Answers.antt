@@ -1,0 +1,9 @@
+use Rattle.tfiles.proofs.Told.{tells_then}
+use Rattle.tcheck.proofs.summaries.put_wire.Goals as goal
+
+pub returns : goal.returns
+returns g c =
+    tells_then c.put_numbered.ensures
+    (tells_then c.put.ensures
+    (tells_then c.put_end.ensures
+    (tells_then c.put_behind.ensures c.put-2.ensures)))

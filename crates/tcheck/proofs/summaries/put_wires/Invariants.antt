@@ -1,0 +1,10 @@
+use Rattle.std.proofs.Common.{drop}
+use Rattle.tfiles.proofs.Told.{GoesOn}
+use Rattle.tcheck.specs.Summaries.{texts_from, wire_text}
+use Rattle.tcheck.proofs.summaries.put_wires.Given as goal
+
+-- what was told and what is left
+abbrev pub invariant-loop-number : goal.invariant-loop-number
+invariant-loop-number g l =
+    GoesOn g.W.Write.contents g.W.CountedWrite.failures l.initial.out l.out
+    (texts_from wire_text l.number (drop l.number l.wires)) (texts_from wire_text 0 l.wires)

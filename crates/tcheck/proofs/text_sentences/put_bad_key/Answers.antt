@@ -1,0 +1,8 @@
+use Rattle.tfiles.proofs.Told.{tells_as, tells_then}
+use Rattle.tcheck.proofs.text_sentences.put_bad_key.Goals as goal
+
+pub returns : goal.returns
+returns g c =
+    tells_then c.put_part.ensures
+    (tells_then c.put.ensures
+    (tells_then (tells_as c.put-2.ensures c.key_text.ensures) (tells_as c.put-3.ensures c.fault_text.ensures)))
