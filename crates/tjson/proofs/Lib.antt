@@ -1,0 +1,4 @@
+pub mod Lines
+pub mod Commas
+pub mod Memories
+pub mod NodeLines

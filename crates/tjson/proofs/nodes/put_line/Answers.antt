@@ -1,0 +1,5 @@
+use Rattle.tfiles.proofs.Told.{tells_then}
+use Rattle.tjson.proofs.nodes.put_line.Goals as goal
+
+pub returns : goal.returns
+returns g c = tells_then c.put_node.ensures c.put.ensures

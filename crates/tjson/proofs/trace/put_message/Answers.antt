@@ -1,0 +1,10 @@
+use Rattle.tfiles.proofs.Told.{tells_then}
+use Rattle.tjson.proofs.trace.put_message.Goals as goal
+
+pub returns : goal.returns
+returns g c =
+    tells_then c.put.ensures
+    (tells_then
+    (tells_then c.put_end.ensures
+    (tells_then c.put-2.ensures
+    (tells_then c.put_end-2.ensures (tells_then c.put-3.ensures c.put_bytes.ensures)))) c.put-4.ensures)

@@ -1,0 +1,6 @@
+use Rattle.tfiles.proofs.Told.{tells_then}
+use Rattle.tjson.proofs.Lines.{ends_line}
+use Rattle.tjson.proofs.trace.put_note.Goals as goal
+
+pub returns : goal.returns
+returns g c = tells_then c.put.ensures (ends_line c.put_member.ensures c.put-2.ensures)
