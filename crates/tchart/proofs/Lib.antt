@@ -1,0 +1,4 @@
+mod Counts
+mod Layouts
+mod UnseenCharts
+mod UnseenMessages

@@ -1,0 +1,15 @@
+use Rattle.std.proofs.Common.{Bool, [], ap, sym, ◌∙◌}
+use Rattle.std.specs.Prelude.{if◌then◌else◌}
+use Rattle.tfiles.proofs.Told.{tells_as, tells_none}
+use Rattle.tchart.specs.Drawing.{mark_text}
+use Rattle.tchart.proofs.drawing.put_upper.Goals as goal
+
+pub returns-then-not-is_below : goal.returns-then-not-is_below
+returns-then-not-is_below g c =
+    tells_as c.put_mark.ensures
+    (ap (λ (b : Bool). if b then [] else mark_text c.args.mark.now) (sym c.if-not-is_below.true ∙ c.is_below.ensures))
+
+pub returns-else-not-is_below : goal.returns-else-not-is_below
+returns-else-not-is_below g c =
+    tells_as (tells_none c.args.out.now)
+    (ap (λ (b : Bool). if b then [] else mark_text c.args.mark.now) (sym c.if-not-is_below.false ∙ c.is_below.ensures))

@@ -1,0 +1,124 @@
+//! The layout of a run: its columns and its marks.
+
+ghost use Rattle.std.specs.Prelude.{◌≡◌, ◌≤◌, IfOk, OnOk, length};
+ghost use Rattle.tword.specs.Limits.{most_nodes};
+ghost use Rattle.thistory.specs.Deeds.{net_behind};
+ghost use Rattle.thistory.specs.Steps.{net_after};
+ghost use Rattle.tchart.specs.Layout as spec;
+ghost use Rattle.tchart.specs.Plots.{laid};
+ghost use Rattle.tchart.specs.Shown.{shown_of};
+
+use crate::marks::Mark;
+use crate::plot::Plot;
+use crate::shown::see;
+use std::alloc::{AllocError, Global};
+use tlink::{Node, Role};
+use tnet::Net;
+use tplan::Event;
+use tword::Items;
+use tword::limits::MOST_NODES;
+
+/// What a column is of.
+#[derive(Clone, Copy)]
+pub enum Kind {
+    Node,
+    Source,
+    Sink,
+}
+
+/// A column of a picture.
+#[derive(Clone, Copy)]
+pub struct Column {
+    pub kind: Kind,
+    /// The number of the node, source or sink.
+    pub number: u8,
+}
+
+/// A picture of a run.
+#[derive(Drop)]
+pub struct Chart {
+    /// The columns, by their numbers.
+    pub columns: Items<Column>,
+    /// What is drawn.
+    pub marks: Items<Mark>,
+    /// The lowest row; beyond the last one that is drawn, one more than that.
+    pub rows: u32,
+}
+
+/// Does events on a net, in their order, and lays out what they did (own choice, `specs/Layout`). One that is not
+/// enabled changes nothing, and is not shown. It takes memory for the marks of the first 2,000 rows: a row has a few
+/// for each node.
+///
+/// # Errors
+/// Where the allocator refuses.
+pub fn lay_out(alloc: Global, net: &mut Net, events: &[Event]) -> Result<Chart, AllocError>
+    ensures chart { IfOk result (λ c. c ≡ spec.chart_of events.now net.old) }
+    ensures left { OnOk result (net.new ≡ net_after events.now net.old) }
+{
+    let columns = columns(alloc, net)?;
+    let mut plot = Plot::new(alloc)?;
+    lay_all(alloc, net, events, &mut plot)?;
+    let rows = plot.rows();
+    plot.end(rows)?;
+    Ok(Chart {
+        columns,
+        marks: plot.into_marks(),
+        rows,
+    })
+}
+
+/// Does events on a net, and lays out what they did.
+fn lay_all(
+    alloc: Global,
+    net: &mut Net,
+    events: &[Event],
+    plot: &mut Plot,
+) -> Result<(), AllocError>
+    ensures plot { OnOk result (plot.new ≡ spec.laid_from 0 events.now net.old plot.old) }
+    ensures left { OnOk result (net.new ≡ net_after events.now net.old) }
+{
+    for (number, event) in events.iter().enumerate() {
+        lay_one(alloc, net, number as u64, *event, plot)?;
+    }
+    Ok(())
+}
+
+/// Does an event on a net, and lays out what it did.
+fn lay_one(
+    alloc: Global,
+    net: &mut Net,
+    number: u64,
+    event: Event,
+    plot: &mut Plot,
+) -> Result<(), AllocError>
+    ensures plot { OnOk result (plot.new ≡ laid event.node number (shown_of net.old event) plot.old) }
+    ensures left { OnOk result (net.new ≡ net_behind net.old event) }
+{
+    let shown = see(alloc, net, event)?;
+    plot.lay(event.node, number, shown)
+}
+
+/// The columns of a net.
+fn columns(alloc: Global, net: &Net) -> Result<Items<Column>, AllocError>
+    ensures { IfOk result (λ c. c ≡ spec.columns_below most_nodes net.now.nodes) }
+{
+    let mut columns = Vec::new(alloc);
+    for number in 0..MOST_NODES as u8 {
+        if let Some(node) = net.nodes().get(usize::from(number)) {
+            columns.push(column_of(number, node))?;
+        }
+    }
+    Ok(Items::new(columns))
+}
+
+/// The column of a node of this number.
+fn column_of(number: u8, node: &Node) -> Column
+    ensures { result ≡ spec.column_of number node.now }
+{
+    let kind = match node.role() {
+        Role::Processor(_) => Kind::Node,
+        Role::Source(_) => Kind::Source,
+        Role::Sink(_) => Kind::Sink,
+    };
+    Column { kind, number }
+}
