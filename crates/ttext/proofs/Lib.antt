@@ -1,8 +1,11 @@
 pub mod OpenedFiles
 pub mod SmallNets
 mod LoggedReplays
+mod ReachedNets
 mod GatheredWorkers
 pub mod NodeLists
+mod Outside
+mod HistoryFaults
 pub mod ToldOnce
 mod EntryTests
 mod Headings

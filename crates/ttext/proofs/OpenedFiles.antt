@@ -73,7 +73,10 @@ next_fault files place images f d l so_far due = due_here f (image_of (get_or fi
     due_here (fault.Net b) r e h = behind (fault.Net b) r e (ap (as_image place) (sym e) ∙ h)
     due_here (fault.Rounds n) r e h = behind (fault.Rounds n) r e (ap (as_image place) (sym e) ∙ h)
     due_here (fault.Log n) r e h = behind (fault.Log n) r e (ap (as_image place) (sym e) ∙ h)
+    due_here (fault.Names n) r e h = behind (fault.Names n) r e (ap (as_image place) (sym e) ∙ h)
     due_here (fault.Replay n) r e h = behind (fault.Replay n) r e (ap (as_image place) (sym e) ∙ h)
+    due_here (fault.NoNode n) r e h = behind (fault.NoNode n) r e (ap (as_image place) (sym e) ∙ h)
+    due_here (fault.NoMemory a) r e h = behind (fault.NoMemory a) r e (ap (as_image place) (sym e) ∙ h)
     due_here fault.NoLog r e h = behind fault.NoLog r e (ap (as_image place) (sym e) ∙ h)
     due_here (fault.Output w) r e h = h
 

@@ -1,9 +1,6 @@
 -- The line by which the program tells why it printed nothing, or not all.
 -- Source: own choice.
-use Rattle.std.specs.Prelude.{ℕ, List, [], ◌∷◌, ◌++◌, codes, decimal, flat_map, if◌then◌else◌}
-use Rattle.std.specs.Char.{encode_utf8, is_control}
-use Rattle.std.specs.Str.{chars}
-use Rattle.hex.specs.Hex.{encode_lower}
+use Rattle.std.specs.Prelude.{ℕ, List, [], ◌∷◌, ◌++◌, codes, decimal}
 use Rattle.tplan.specs.declared.plan.BuildFault.{BuildFault}
 use Rattle.tplan.specs.declared.plan.BuildFault.TheVariants as build
 use Rattle.trounds.specs.declared.report.NetFault.{NetFault}
@@ -16,10 +13,14 @@ use Rattle.tplan.specs.declared.wiring.WiringFault.{WiringFault}
 use Rattle.tplan.specs.declared.wiring.WiringFault.TheVariants as wiring
 use Rattle.tfiles.specs.declared.log_reading.LogFault.{LogFault}
 use Rattle.tfiles.specs.declared.log_reading.LogFault.TheVariants as log
+use Rattle.tnames.specs.Escapes.{escaped_text}
+use Rattle.tnames.specs.declared.reading.NamesFault.{NamesFault}
+use Rattle.tnames.specs.declared.reading.NamesFault.TheVariants as names
 use Rattle.ttext.specs.declared.fault.Fault.{Fault}
 use Rattle.ttext.specs.declared.fault.Fault.TheVariants as fault
 use Rattle.tfiles.specs.Logs.{line}
 use Rattle.tfiles.specs.Texts.{break_name, words}
+use Rattle.twhere.specs.Standing.{word_text}
 
 -- want of memory has the same line wherever it was met
 abbrev pub memory_words : List (List ℕ)
@@ -69,32 +70,32 @@ abbrev pub log_words : LogFault → List (List ℕ)
 log_words (log.BadLine n) = codes "log line" ∷ decimal n ∷ []
 log_words log.OutOfMemory = memory_words
 
+-- a fault of a file of names
+abbrev pub names_words : NamesFault → List (List ℕ)
+names_words (names.BadLine n) = codes "names line" ∷ decimal n ∷ []
+names_words names.OutOfMemory = memory_words
+
 -- a fault of a replay
 abbrev pub replay_words : ReplayFault → List (List ℕ)
 replay_words (replays.NotEnabled place) = codes "replay event" ∷ decimal place ∷ []
 replay_words replays.OutOfMemory = memory_words
 
--- a byte that is told by its number, as `\x0a`
-abbrev pub escaped_byte : ℕ → List ℕ
-escaped_byte b = (92 ∷ 120 ∷ []) ++ encode_lower (b ∷ [])
-
--- a character of a name: a control character (U+0000 to U+001F, U+007F to U+009F) by its bytes in UTF-8, else itself
-abbrev pub letter_text : ℕ → List ℕ
-letter_text c = if is_control c then flat_map escaped_byte (encode_utf8 c) else encode_utf8 c
-
--- a name, character by character, so that it stays on one line
-abbrev pub name_text : List ℕ → List ℕ
-name_text name = flat_map letter_text (chars name)
+-- a node has no memory at an address
+abbrev pub no_memory_words : ℕ → List (List ℕ)
+no_memory_words address = codes "no memory at" ∷ word_text address ∷ []
 
 -- what is told of a fault
 abbrev pub fault_words : Fault → List (List ℕ)
-fault_words (fault.File name) = codes "file" ∷ name_text name.bytes.items ∷ []
+fault_words (fault.File name) = codes "file" ∷ escaped_text name.bytes.items ∷ []
 fault_words (fault.Wiring f) = wiring_words f
 fault_words (fault.Image n f) = image_words n f
 fault_words (fault.Net f) = net_words f
 fault_words (fault.Rounds f) = rounds_words f
 fault_words (fault.Log f) = log_words f
+fault_words (fault.Names f) = names_words f
 fault_words (fault.Replay f) = replay_words f
+fault_words (fault.NoNode n) = codes "no node" ∷ decimal n ∷ []
+fault_words (fault.NoMemory address) = no_memory_words address
 fault_words (fault.Output f) = codes "output" ∷ []
 fault_words fault.NoLog = codes "no log" ∷ []
 fault_words fault.Memory = memory_words

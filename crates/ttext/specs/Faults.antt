@@ -7,6 +7,7 @@ use Rattle.trounds.specs.declared.report.NetFault.TheVariants as rounds
 use Rattle.trounds.specs.declared.replays.ReplayFault.TheVariants as replays
 use Rattle.tfiles.specs.declared.image.ImageFault.TheVariants as image
 use Rattle.tfiles.specs.declared.log_reading.LogFault.TheVariants as log
+use Rattle.tnames.specs.declared.reading.NamesFault.TheVariants as names
 use Rattle.ttext.specs.declared.fault.Fault.{Fault}
 use Rattle.ttext.specs.declared.fault.Fault.TheVariants as fault
 
@@ -18,6 +19,7 @@ wants_memory (fault.Image n image.OutOfMemory) = true
 wants_memory (fault.Net build.OutOfMemory) = true
 wants_memory (fault.Rounds rounds.OutOfMemory) = true
 wants_memory (fault.Log log.OutOfMemory) = true
+wants_memory (fault.Names names.OutOfMemory) = true
 wants_memory (fault.Replay replays.OutOfMemory) = true
 wants_memory f = false
 

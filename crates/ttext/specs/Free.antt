@@ -23,8 +23,9 @@ use Rattle.ttext.specs.declared.fault.Fault.TheVariants as fault
 use Rattle.ttext.specs.Commands.{net_verdict, IsLogCut, LogGrows}
 use Rattle.ttext.specs.declared.verdict.Verdict.{Verdict}
 use Rattle.ttext.specs.Outcomes.{opened_of, unless_refused, ShowsOneRun}
-use Rattle.twords.specs.declared.table.Show.{Show}
-use Rattle.ttext.specs.PrintedRuns.{last_line, printed_run}
+use Rattle.twords.specs.declared.table.Printing.{Printing}
+use Rattle.ttext.specs.PrintedRuns.{printed_run}
+use Rattle.ttext.specs.declared.printed_run.RunEnd.{RunEnd}
 use Rattle.ttext.specs.declared.printed_run.RunEnd.TheVariants.{Turns}
 
 -- a net for so many workers, if they are neither too few nor too many; the options' rounds are the turns
@@ -59,55 +60,55 @@ pub record AreFreeUnkept (opened : NetState) (o : Options) (t : Told) : Type 0 w
   pub run : IsSeenRun opened history t.net
   pub notes_told : t.notes ≡ notes history opened
 
--- the last line of what is printed of free workers
-abbrev pub free_last : Gathered → List ℕ
-free_last g = last_line (Turns (is_quiet g.net))
+-- how free workers ended
+abbrev pub end_of : Gathered → RunEnd
+end_of g = Turns (is_quiet g.net)
 
--- what is printed of free workers, with this of the net that they leave
-abbrev pub free_text : Show → Gathered → List ℕ
-free_text what g = printed_run what g.notes g.net (Turns (is_quiet g.net))
+-- what is printed of free workers
+abbrev pub free_text : Printing → Gathered → List ℕ
+free_text printing g = printed_run printing g.notes g.net (end_of g)
 
 -- free workers ran, their text is written, and their net is answered
-pub record IsFreeShown {W : Type 0} (contents : W → Option (List ℕ)) (what : Show) (w : Wiring) (files : List (List ℕ))
-    (o : Options) (net : NetState) (old new : W) : Type 0 where
+pub record IsFreeShown {W : Type 0} (contents : W → Option (List ℕ)) (printing : Printing) (w : Wiring)
+    (files : List (List ℕ)) (o : Options) (net : NetState) (old new : W) : Type 0 where
   pub gathered : Gathered
   pub ran : IsFreeRun w files o gathered
   pub net_is : net ≡ gathered.net
-  pub text : Appends (contents old) (contents new) (free_text what gathered)
-  pub run : ShowsOneRun what w files gathered.history (free_last gathered) (contents old) (contents new)
+  pub text : Appends (contents old) (contents new) (free_text printing gathered)
+  pub run : ShowsOneRun printing w files gathered.history (end_of gathered) (contents old) (contents new)
 
 -- what has gone out where the text of free workers was due and a fault is answered: nothing; or, where the output
 -- failed, the beginning of the text of what workers did
-abbrev pub IsFreeLeft : {W : Type 0} → (W → Option (List ℕ)) → Show → (Gathered → Type 0) → W → W → Fault → Type 0
-IsFreeLeft contents what may old new (fault.Output f) = (g : Gathered) × may g
-    × IsCut (contents old) (contents new) (free_text what g) f.written
-IsFreeLeft contents what may old new f = new ≡ old
+abbrev pub IsFreeLeft : {W : Type 0} → (W → Option (List ℕ)) → Printing → (Gathered → Type 0) → W → W → Fault → Type 0
+IsFreeLeft contents printing may old new (fault.Output f) = (g : Gathered) × may g
+    × IsCut (contents old) (contents new) (free_text printing g) f.written
+IsFreeLeft contents printing may old new f = new ≡ old
 
 -- ---- the command: the text, and then the log
 
 -- free workers ran, and all is written: the text of one run of the rendezvous machine, and its log, where there is to
 -- be one
-pub record IsFreeDone {W L : Type 0} (contents : W → Option (List ℕ)) (log_contents : L → Option (List ℕ)) (what : Show)
-    (w : Wiring) (files : List (List ℕ)) (o : Options) (told : Verdict) (old new : W) (log_old log_new : Option L)
-    : Type 0 where
+pub record IsFreeDone {W L : Type 0} (contents : W → Option (List ℕ)) (log_contents : L → Option (List ℕ))
+    (printing : Printing) (w : Wiring) (files : List (List ℕ)) (o : Options) (told : Verdict) (old new : W)
+    (log_old log_new : Option L) : Type 0 where
   pub gathered : Gathered
   pub ran : IsFreeRun w files o gathered
   -- whether a node is frozen is told
   pub frozen : told ≡ net_verdict gathered.net
-  pub text : Appends (contents old) (contents new) (free_text what gathered)
+  pub text : Appends (contents old) (contents new) (free_text printing gathered)
   -- the headline: the text is that of one run of the rendezvous machine, in which each message that is complete is one
   -- step that copies it whole
-  pub run : ShowsOneRun what w files gathered.history (free_last gathered) (contents old) (contents new)
+  pub run : ShowsOneRun printing w files gathered.history (end_of gathered) (contents old) (contents new)
   pub log : LogGrows log_contents log_old log_new (log_text gathered.history)
 
 -- what has gone out where the command answers a fault: nothing; or, where the output failed, the beginning of the text
 -- of what workers did and nothing of the log, or the text whole and the beginning of the log
-abbrev pub IsFreeCut : {W L : Type 0} → (W → Option (List ℕ)) → (L → Option (List ℕ)) → Show → (Gathered → Type 0) → W
-    → W → Option L → Option L → Fault → Type 0
-IsFreeCut contents log_contents what may old new log_old log_new (fault.Output f) =
+abbrev pub IsFreeCut : {W L : Type 0} → (W → Option (List ℕ)) → (L → Option (List ℕ)) → Printing → (Gathered → Type 0)
+    → W → W → Option L → Option L → Fault → Type 0
+IsFreeCut contents log_contents printing may old new log_old log_new (fault.Output f) =
     (g : Gathered)
     × may g
-    × ((IsCut (contents old) (contents new) (free_text what g) f.written × (log_new ≡ log_old))
-    ⊎ (Appends (contents old) (contents new) (free_text what g)
+    × ((IsCut (contents old) (contents new) (free_text printing g) f.written × (log_new ≡ log_old))
+    ⊎ (Appends (contents old) (contents new) (free_text printing g)
     × IsLogCut log_contents log_old log_new (log_text g.history) f.written))
-IsFreeCut contents log_contents what may old new log_old log_new f = (new ≡ old) × (log_new ≡ log_old)
+IsFreeCut contents log_contents printing may old new log_old log_new f = (new ≡ old) × (log_new ≡ log_old)

@@ -5,8 +5,10 @@ pub mod Outcomes
 pub mod Replays
 pub mod Faults
 pub mod FaultLines
+pub mod Charts
 pub mod Commands
 pub mod NetStanding
+pub mod Histories
 pub mod Free
 pub mod Tellings
 pub mod Differences

@@ -27,8 +27,8 @@ use Rattle.ttext.specs.declared.fault.Fault.{Fault}
 use Rattle.ttext.specs.declared.fault.Fault.TheVariants as fault
 use Rattle.tfiles.specs.Images.{image_of}
 use Rattle.ttext.specs.Plans.{node_of, plan_of, net_of}
-use Rattle.ttext.specs.PrintedRuns.{last_line, printed_run, shown_run}
-use Rattle.twords.specs.declared.table.Show.{Show}
+use Rattle.ttext.specs.PrintedRuns.{printed_run}
+use Rattle.twords.specs.declared.table.Printing.{Printing}
 use Rattle.ttext.specs.declared.printed_run.RunEnd.{RunEnd}
 use Rattle.ttext.specs.declared.printed_run.RunEnd.TheVariants as end_by
 use Rattle.tfiles.specs.Failures.{HasRisen}
@@ -95,13 +95,9 @@ is_quiet_end ending.Rounds = false
 abbrev pub end_of : Report → RunEnd
 end_of r = end_by.Rounds (is_quiet_end r.«end») r.rounds
 
--- the last line of what is printed of rounds
-abbrev pub last_of : Report → List ℕ
-last_of r = last_line (end_of r)
-
--- what is printed of a report, with this of the net that it leaves
-abbrev pub report_text : Show → Report → List ℕ
-report_text what r = printed_run what r.notes r.net (end_of r)
+-- what is printed of a report
+abbrev pub report_text : Printing → Report → List ℕ
+report_text printing r = printed_run printing r.notes r.net (end_of r)
 
 -- a fault is the one that is due, unless memory was wanted; nothing was to be written yet
 abbrev pub IsFaultOf : {T : Type 0} → Result T Fault → Fault → Type 0
@@ -147,13 +143,13 @@ pub record IsOpening (w : Wiring) (files : List (List ℕ)) (opened : NetState) 
 
 -- the headline of a text: it is that of one run of the rendezvous machine from the opening of the plan, whose steps are
 -- the images of these events
-pub record ShowsOneRun (what : Show) (w : Wiring) (files : List (List ℕ)) (events : List Event) (last : List ℕ)
+pub record ShowsOneRun (printing : Printing) (w : Wiring) (files : List (List ℕ)) (events : List Event) (by : RunEnd)
     (old new : Option (List ℕ)) : Type 0 where
   pub opened : NetState
   pub left : NetState
   pub opening : IsOpening w files opened
   -- the events, and what is seen of them
   pub run : IsSeenRun opened events left
-  -- what is printed: the notes of this run, and the memories of the net that it leaves, or where that net stands, or
-  -- nothing of it
-  pub printed : Appends old new (shown_run what (notes events opened) left last)
+  -- what is printed: the notes of this run, the memories of the net that it leaves, or where that net stands, or
+  -- nothing of it, and how it ended
+  pub printed : Appends old new (printed_run printing (notes events opened) left by)

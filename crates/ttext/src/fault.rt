@@ -1,7 +1,7 @@
 //! Why a command printed nothing, or not all.
 
 ghost use Rattle.std.specs.Prelude.{◌≡◌};
-ghost use Rattle.ttext.specs.declared.fault.Fault.TheVariants.{Log, Memory, Net, Output, Replay, Rounds, Wiring};
+ghost use Rattle.ttext.specs.declared.fault.Fault.TheVariants.{Log, Memory, Names, Net, Output, Replay, Rounds, Wiring};
 ghost use Rattle.ttext.specs.Faults as spec;
 
 use std::alloc::{AllocError, AllocFailed};
@@ -9,8 +9,10 @@ use tfiles::image::ImageFault;
 use tfiles::log_reading::LogFault;
 use tfiles::writing::output::WriteFault;
 use thiserror::Error;
+use tnames::NamesFault;
 use tplan::{BuildFault, WiringFault};
 use trounds::{NetFault, ReplayFault};
+use tword::Word;
 
 /// Why a command printed nothing, or not all.
 #[derive(Debug, Drop, Error)]
@@ -33,9 +35,18 @@ pub enum Fault {
     /// The log is none.
     #[error("the file is no log: {0}")]
     Log(LogFault),
+    /// A file of names is none.
+    #[error("the file is none of names: {0}")]
+    Names(NamesFault),
     /// An event of the log is not enabled.
     #[error("an event of the log is not enabled: {0:?}")]
     Replay(ReplayFault),
+    /// The net has no node, source or sink of this number.
+    #[error("the net has no node {0}")]
+    NoNode(u8),
+    /// The node has no memory at this address.
+    #[error("the node has no memory at {0:?}")]
+    NoMemory(Word),
     /// The output failed.
     #[error("{0}")]
     Output(WriteFault),
@@ -82,6 +93,7 @@ impl Fault {
             | Fault::Net(BuildFault::OutOfMemory)
             | Fault::Rounds(NetFault::OutOfMemory)
             | Fault::Log(LogFault::OutOfMemory)
+            | Fault::Names(NamesFault::OutOfMemory)
             | Fault::Replay(ReplayFault::OutOfMemory) => true,
             _ => false,
         }
@@ -141,6 +153,14 @@ impl From<LogFault> for Fault {
 
     fn from(fault: LogFault) -> Fault {
         Fault::Log(fault).settled()
+    }
+}
+
+impl From<NamesFault> for Fault {
+    ghost from_gives = { λ given fault. fault ≡ spec.settled (Names given) };
+
+    fn from(fault: NamesFault) -> Fault {
+        Fault::Names(fault).settled()
     }
 }
 

@@ -8,15 +8,17 @@ ghost use Rattle.ttext.specs.FaultLines as spec;
 ghost use Rattle.ttext.specs.Faults.{status_of};
 
 use crate::fault::Fault;
-use crate::name::put_name;
 use tfiles::break_names::break_name;
 use tfiles::counted::CountedWrite;
 use tfiles::image::ImageFault;
 use tfiles::log_reading::LogFault;
 use tfiles::writing::output::{Output, WriteFault};
 use tfiles::writing::text::put_decimal;
+use tnames::{NamesFault, put_escaped};
 use tplan::{BuildFault, WiringFault};
 use trounds::{NetFault, ReplayFault};
+use twhere::put_word;
+use tword::Word;
 
 /// Writes the line of a fault (own choice of format), as `temu: net N6 EndTwice 1`, and answers the exit status of
 /// the program: 2 for bad input, 3 where the output failed or no log was found, 4 where there was no memory.
@@ -55,14 +57,17 @@ fn put_fault<W: CountedWrite>(out: &mut Output<'_, W>, fault: &Fault)
     match fault {
         Fault::File(name) => {
             out.put(b"file ");
-            put_name(out, name.as_str());
+            put_escaped(out, name.as_str());
         }
         Fault::Wiring(fault) => out.put(wiring_text(*fault)),
         Fault::Image(node, fault) => put_image_fault(out, *node, *fault),
         Fault::Net(fault) => put_net_fault(out, fault),
         Fault::Rounds(fault) => put_rounds_fault(out, *fault),
         Fault::Log(fault) => put_log_fault(out, *fault),
+        Fault::Names(fault) => put_names_fault(out, *fault),
         Fault::Replay(fault) => put_replay_fault(out, *fault),
+        Fault::NoNode(number) => put_numbered(out, b"no node ", usize::from(*number)),
+        Fault::NoMemory(address) => put_no_memory(out, *address),
         Fault::Output(_) => out.put(b"output"),
         Fault::NoLog => out.put(b"no log"),
         Fault::Memory => out.put(b"memory"),
@@ -154,6 +159,16 @@ fn put_log_fault<W: CountedWrite>(out: &mut Output<'_, W>, fault: LogFault)
     }
 }
 
+/// A fault of a file of names.
+fn put_names_fault<W: CountedWrite>(out: &mut Output<'_, W>, fault: NamesFault)
+    ensures { Tells W.contents W.failures out.old out.new (words (spec.names_words fault)) }
+{
+    match fault {
+        NamesFault::BadLine(line) => put_numbered(out, b"names line ", line),
+        NamesFault::OutOfMemory => out.put(b"memory"),
+    }
+}
+
 /// A fault of a replay.
 fn put_replay_fault<W: CountedWrite>(out: &mut Output<'_, W>, fault: ReplayFault)
     ensures { Tells W.contents W.failures out.old out.new (words (spec.replay_words fault)) }
@@ -162,6 +177,14 @@ fn put_replay_fault<W: CountedWrite>(out: &mut Output<'_, W>, fault: ReplayFault
         ReplayFault::NotEnabled(place) => put_numbered(out, b"replay event ", place),
         ReplayFault::OutOfMemory => out.put(b"memory"),
     }
+}
+
+/// An address at which a node has no memory.
+fn put_no_memory<W: CountedWrite>(out: &mut Output<'_, W>, address: Word)
+    ensures { Tells W.contents W.failures out.old out.new (words (spec.no_memory_words address)) }
+{
+    out.put(b"no memory at ");
+    put_word(out, address);
 }
 
 /// Some text with a number behind it.

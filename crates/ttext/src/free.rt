@@ -14,7 +14,7 @@ ghost use Rattle.tfiles.specs.Failures.{HasStayed};
 ghost use Rattle.ttext.specs.declared.fault.Fault.TheVariants.{Memory};
 ghost use Rattle.ttext.specs.declared.printed_run.RunEnd.TheVariants.{Turns};
 ghost use Rattle.ttext.specs.Free as spec;
-ghost use Rattle.ttext.specs.Free.{shared_of, shared_with, free_last, AreFree, AreFreeUnkept, IsFreeLeft, IsFreeRun};
+ghost use Rattle.ttext.specs.Free.{shared_of, shared_with, AreFree, AreFreeUnkept, IsFreeLeft, IsFreeRun};
 ghost use Rattle.ttext.specs.Free.{IsFreeShown};
 ghost use Rattle.ttext.specs.Outcomes.{HasOutputCause, IsDue, IsFaultOf, ShowsOneRun};
 
@@ -34,7 +34,7 @@ use tnet::laws::quiet_is_nothing_enabled;
 use tplan::{Options, Wiring};
 use trounds::NetFault;
 use tword::Items;
-use twords::Show;
+use twords::Printing;
 
 /// Runs the net of a wiring and the files of its images, one file a node, by free workers: each makes so many turns
 /// as the options have rounds, on a thread of its own where one can be started, or stops at a full clock, or when
@@ -53,7 +53,7 @@ pub fn free_text<R: Threads + Sync, W: CountedWrite>(
     wiring: &Wiring,
     files: Items<Items<u8>>,
     options: &Options,
-    show: Show,
+    printing: Printing,
     out: &mut W,
 ) -> Result<Gathered, Fault>
     requires { length files ≡ length wiring.now.nodes }
@@ -63,15 +63,17 @@ pub fn free_text<R: Threads + Sync, W: CountedWrite>(
         (IsDue (shared_of wiring.now files options.now)) }
 
     // what is printed of free workers is written
-    ensures text { IfOk result (λ g. Appends (W.contents out.old) (W.contents out.new) (spec.free_text show g)) }
+    ensures text { IfOk result (λ g. Appends (W.contents out.old) (W.contents out.new) (spec.free_text printing g)) }
 
     // the headline: this is the text of one run of the rendezvous machine, in which each message that is complete
     // is one step that copies it whole; what is shown is that of the net that it leaves
     ensures run { IfOk result
-        (λ g. ShowsOneRun show wiring.now files g.history (free_last g) (W.contents out.old) (W.contents out.new)) }
+        (λ g. ShowsOneRun printing wiring.now files g.history (spec.end_of g) (W.contents out.old)
+        (W.contents out.new)) }
 
     // where a fault is answered nothing is written, or the beginning of the text of what workers did
-    ensures left { IfErr result (IsFreeLeft W.contents show (IsFreeRun wiring.now files options.now) out.old out.new) }
+    ensures left { IfErr result
+        (IsFreeLeft W.contents printing (IsFreeRun wiring.now files options.now) out.old out.new) }
 
     // the output failed just where a write did
     ensures cause { IfErr result (HasOutputCause (W.failures out.old) (W.failures out.new)) }
@@ -80,9 +82,9 @@ pub fn free_text<R: Threads + Sync, W: CountedWrite>(
     let net = open_net(alloc, wiring, files)?;
     let gathered = run_free(rt, alloc, net, options)?;
     let end = end_of(&gathered.net);
-    let lists = lists_for(alloc, show, &gathered.net)?;
+    let lists = lists_for(alloc, printing, &gathered.net)?;
     let notes = gathered.notes.as_slice();
-    write_run(out, notes, &gathered.net, end, show, lists.as_slice())?;
+    write_run(out, notes, &gathered.net, end, printing, lists.as_slice())?;
     Ok(gathered)
 }
 
@@ -96,23 +98,24 @@ pub(crate) fn free_net<R: Threads + Sync, W: CountedWrite>(
     wiring: &Wiring,
     files: Items<Items<u8>>,
     options: &Options,
-    show: Show,
+    printing: Printing,
     out: &mut W,
 ) -> Result<Net, Fault>
     requires { length files ≡ length wiring.now.nodes }
     ensures answer { MatchResult result
-        (λ net. IsFreeShown W.contents show wiring.now files options.now net out.old out.new)
+        (λ net. IsFreeShown W.contents printing wiring.now files options.now net out.old out.new)
         (IsDue (shared_of wiring.now files options.now)) }
-    ensures left { IfErr result (IsFreeLeft W.contents show (IsFreeRun wiring.now files options.now) out.old out.new) }
+    ensures left { IfErr result
+        (IsFreeLeft W.contents printing (IsFreeRun wiring.now files options.now) out.old out.new) }
     ensures cause { IfErr result (HasOutputCause (W.failures out.old) (W.failures out.new)) }
     ensures stayed { OnOk result (HasStayed (W.failures out.old) (W.failures out.new)) }
 {
     let net = open_net(alloc, wiring, files)?;
     let told = tell_free(rt, alloc, net, options)?;
     let end = end_of(&told.net);
-    let lists = lists_for(alloc, show, &told.net)?;
+    let lists = lists_for(alloc, printing, &told.net)?;
     let notes = told.notes.as_slice();
-    write_run(out, notes, &told.net, end, show, lists.as_slice())?;
+    write_run(out, notes, &told.net, end, printing, lists.as_slice())?;
     Ok(told.net)
 }
 

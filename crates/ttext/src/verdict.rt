@@ -14,6 +14,8 @@ pub enum Verdict {
     Marked,
     /// An exploration was cut.
     Cut,
+    /// A wiring or its images were looked through, and something is wrong.
+    Wrong,
 }
 
 impl Verdict {
@@ -28,7 +30,7 @@ impl Verdict {
         }
     }
 
-    /// The exit status of the program: 0, 1 or 5.
+    /// The exit status of the program: 0, 1, 5 or 2.
     pub fn status(self) -> u8
         ensures { result ≡ spec.verdict_status self }
     {
@@ -36,6 +38,7 @@ impl Verdict {
             Verdict::Clear => 0,
             Verdict::Marked => 1,
             Verdict::Cut => 5,
+            Verdict::Wrong => 2,
         }
     }
 }

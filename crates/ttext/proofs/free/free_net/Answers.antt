@@ -5,7 +5,7 @@ use Rattle.tnet.specs.Quiet.{is_quiet}
 use Rattle.ttext.specs.declared.printed_run.RunEnd.{RunEnd}
 use Rattle.ttext.specs.declared.printed_run.RunEnd.TheVariants.{Turns}
 use Rattle.ttext.specs.Free.{shared_with}
-use Rattle.ttext.specs.PrintedRuns.{last_line, printed_run, shown_run}
+use Rattle.ttext.specs.PrintedRuns.{printed_run}
 use Rattle.ttext.proofs.free.free_net.Goals as goal
 
 pub returns-clause-answer : goal.returns-clause-answer
@@ -14,7 +14,7 @@ returns-clause-answer g c =
     let told = c.in_ok-told.told in
     let old = g.W.Write.contents c.args.out.now in
     let new = g.W.Write.contents c.write_run.new.out in
-    let what = c.args.show in
+    let what = c.args.printing in
     let by_end : Appends old new (printed_run what c.as_slice-notes.result.now told.net (Turns (is_quiet told.net))) =
     subst (λ (e : RunEnd). Appends old new (printed_run what c.as_slice-notes.result.now told.net e)) c.end_of-end.ensures
     c.in_ok-write_run.ensures.out in
@@ -36,7 +36,7 @@ returns-clause-answer g c =
         opening = c.in_ok-net.ensures.opening;
         run = t.run;
         printed = subst
-            (λ (n : List Note). Appends old new (shown_run what n told.net (last_line (Turns (is_quiet told.net)))))
+            (λ (n : List Note). Appends old new (printed_run what n told.net (Turns (is_quiet told.net))))
             t.notes_told text;
       };
     }

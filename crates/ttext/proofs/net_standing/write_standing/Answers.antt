@@ -4,7 +4,7 @@ use Rattle.ttext.proofs.net_standing.write_standing.Goals as goal
 
 pub returns : goal.returns
 returns g c =
-    let told = tells_then c.put_where.ensures c.put_replay_end.ensures in
+    let told = tells_then c.put.ensures c.put_replay_end.ensures in
     record {
       out = written_out c.new-output.ensures told c.finish.ensures _ (search rules);
       cause = cut_by_failure c.new-output.ensures told c.finish.ensures _ (search rules);

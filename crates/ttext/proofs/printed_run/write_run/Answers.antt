@@ -1,12 +1,11 @@
 use Rattle.std.proofs.Common.{rules}
-use Rattle.tfiles.proofs.Told.{cut_by_failure, tells_then, whole_without_failure, written_out}
+use Rattle.tfiles.proofs.Told.{cut_by_failure, whole_without_failure, written_out}
 use Rattle.ttext.proofs.printed_run.write_run.Goals as goal
 
 pub returns : goal.returns
 returns g c =
-    let told = tells_then c.put_trace.ensures (tells_then c.put_shown.ensures c.put_end.ensures) in
     record {
-      out = written_out c.new-output.ensures told c.finish.ensures _ (search rules);
-      cause = cut_by_failure c.new-output.ensures told c.finish.ensures _ (search rules);
-      stayed = whole_without_failure c.new-output.ensures told c.finish.ensures _ (search rules);
+      out = written_out c.new-output.ensures c.put_run.ensures c.finish.ensures _ (search rules);
+      cause = cut_by_failure c.new-output.ensures c.put_run.ensures c.finish.ensures _ (search rules);
+      stayed = whole_without_failure c.new-output.ensures c.put_run.ensures c.finish.ensures _ (search rules);
     }
