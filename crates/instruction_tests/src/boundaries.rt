@@ -22,7 +22,7 @@ const VALUES: [u32; 12] = [
 ];
 
 /// What the operations on registers do at all stacks of boundary values and all flags: name, code, and the digest that
-/// `boundary.py` works out from the tables of the instruction set.
+/// `tests/reference/boundary` works out from the tables of the instruction set.
 const OPERATIONS: [(&str, u32, u64); 44] = [
     ("rev", 0x00, 0xe17a_ca9f_22a1_7c80),
     ("bsub", 0x02, 0xbdc5_a15a_073c_eb00),
@@ -109,7 +109,7 @@ fn instruction(function: Function, operand: u32) -> Instruction {
     }
 }
 
-/// What follows, as `boundary.py` numbers it.
+/// What follows, as `tests/reference/boundary` numbers it.
 fn number_of(next: Next) -> u32 {
     match next {
         Next::Go => 0,

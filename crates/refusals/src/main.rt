@@ -3,7 +3,7 @@
 //! and is called again. It prints which call was refused, and then what the net came to, which is the same whichever
 //! request for memory is refused.
 //!
-//! At most one request of a run may be refused: `tools/sweep` refuses each in turn, by a library that is preloaded.
+//! At most one request of a run may be refused: `tests/sweep` refuses each in turn, by a library that is preloaded.
 #![tactic(auto)]
 
 mod alike;

@@ -1,5 +1,5 @@
 //! Events drawn at random on small nets of real programs. What they come to was worked out by a program that was
-//! written apart, `random_events.py` beside src/.
+//! written apart, `tests/reference/random_events`.
 
 use crate::plans::{CODE, LOW, SENDER, event, lengths, node, pair, plan, receiver, ring, wire};
 use std::alloc::{AllocError, Global};
@@ -8,7 +8,7 @@ use tlink::{Emitted, Mark, Packet, StepFault};
 use tnet::Net;
 use tplan::{Act, Event, NodePlan, Plan};
 
-/// The nets, as `random_events.py` explains them.
+/// The nets, as `tests/reference/random_events` explains them.
 #[derive(Clone, Copy, Debug)]
 enum Program {
     /// Three nodes hand 4 bytes round.

@@ -1,4 +1,4 @@
-/* Preloaded by tools/sweep: refuses one request of the program.
+/* Preloaded by tests/sweep: refuses one request of the program.
 
    REFUSE_MEMORY=N  the Nth request for memory is refused, counted from 1
    REFUSE_THREAD=N  the Nth thread does not start

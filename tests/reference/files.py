@@ -1,0 +1,71 @@
+"""The files of a net: a wiring with its images, and a log; what is wrong with them is told as `temu` tells it."""
+import pathlib
+
+import formats
+import images
+import rounds
+from net import BadNet, Net
+
+
+class Fault(Exception):
+    """A fault of an input, as its line tells it."""
+
+
+def read(name):
+    """Returns the bytes of a file."""
+    try:
+        return pathlib.Path(name).read_bytes()
+    except (OSError, ValueError) as fault:
+        raise Fault(f"file {name}") from fault
+
+
+def read_plan(name):
+    """Returns the plan of a wiring, its holds, and the bytes of the images of its nodes."""
+    try:
+        plan, paths, holds = formats.read_wiring(read(name).decode())
+    except UnicodeDecodeError as fault:
+        raise Fault(f"file {name}") from fault
+    except formats.BadWiring as fault:
+        raise Fault(f"wiring {fault}") from fault
+    return plan, holds, [read(it) for it in paths]
+
+
+def read_events(name):
+    """Returns the events of a log."""
+    try:
+        return formats.read_log(read(name))
+    except formats.BadLog as fault:
+        raise Fault(f"log line {fault}") from fault
+
+
+def load(plan, contents):
+    """Gives the nodes of a plan their images."""
+    for number, (node, content) in enumerate(zip(plan.nodes, contents)):
+        try:
+            node.segments, node.processes = images.read_image(content)
+        except images.BadImage as fault:
+            raise Fault(f"image {number} {fault}") from fault
+
+
+def net_of(plan):
+    """Returns the net of a plan before its first event."""
+    try:
+        return Net(plan)
+    except BadNet as fault:
+        raise Fault(f"net {fault}") from fault
+
+
+def run(net, holds, slice_, most):
+    """Does rounds, and returns their events and the last line."""
+    bad = rounds.bad_hold(net, holds)
+    if bad is not None:
+        raise Fault(f"rounds BadHold {bad}")
+    return rounds.run(net, holds, slice_, most)
+
+
+def replay(net, events):
+    """Does all events of a log, and returns the last line."""
+    early = rounds.replay(net, events)
+    if early is not None:
+        raise Fault(f"replay event {early}")
+    return f"end replay {len(events)}"

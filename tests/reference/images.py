@@ -1,0 +1,49 @@
+"""Boot images (docs/MACHINE.md, section 15) and the bytes of instructions.
+
+Images are written, and instructions encoded and told, by examples/make.py, which stands alone, since it is for users;
+what the tests need besides is a reader of images.
+"""
+import pathlib
+import struct
+import sys
+
+sys.path.append(str(pathlib.Path(__file__).resolve().parents[2] / "examples"))
+# The names of functions and operations, the shortest bytes and the text of an instruction, images, and listings.
+from make import FUNCTIONS, OPERATION_NAMES, OPERATIONS, chain, text_of  # noqa: E402,F401
+from make import image, image_of, read_listing  # noqa: E402,F401
+
+MAGIC, SEGMENTS, PROCESSES = b"TEMUIMG1", 4096, 512
+
+
+class BadImage(Exception):
+    """The fault of an image."""
+
+
+def read_image(content):
+    """Returns the segments (address, bytes) and the processes (descriptor, Iptr) of an image."""
+    if content[:8] != MAGIC:
+        raise BadImage("I1 BadMagic")
+    counts = [int.from_bytes(content[at : at + 4], "little") for at in (8, 12) if len(content) >= at + 4]
+    if any(count > most for count, most in zip(counts, (SEGMENTS, PROCESSES))):
+        raise BadImage("I2 TooMany")
+    if len(counts) < 2:
+        raise BadImage("I3 Truncated")
+    at, segments = 16, []
+    for _ in range(counts[0]):
+        start, length = pair_at(content, at)
+        segments.append((start, content[at + 8 : at + 8 + length]))
+        at += 8 + length
+    processes = [pair_at(content, at + 8 * number) for number in range(counts[1])]
+    behind = at + 8 * counts[1]
+    if behind > len(content):
+        raise BadImage("I3 Truncated")
+    if behind < len(content):
+        raise BadImage("I4 Trailing")
+    return segments, processes
+
+
+def pair_at(content, at):
+    """Returns the two words that stand there."""
+    if at + 8 > len(content):
+        raise BadImage("I3 Truncated")
+    return struct.unpack_from("<II", content, at)

@@ -1,0 +1,85 @@
+"""The memory of a node, and the touches of it (docs/MACHINE.md, sections 2 and 5)."""
+import collections
+import copy
+import itertools
+
+from words import FIRST, LOWEST, MODULUS
+
+# A message that pends at a link.
+Offer = collections.namedtuple("Offer", "process buffer length")
+
+
+class Break(Exception):
+    """A broken rule of use, by its name."""
+
+
+def require(holds, name):
+    """Breaks a rule that does not hold."""
+    if not holds:
+        raise Break(name)
+
+
+class Memory:
+    """The bytes of a node, and who may not touch them now."""
+
+    def __init__(self, size):
+        self.bytes = bytearray(size)
+        # The workspaces of processes that are queued or wait, and the messages that pend at the links.
+        self.saved, self.inputs, self.outputs = set(), [None] * 4, [None] * 4
+
+    def copy(self):
+        other = copy.copy(self)
+        for name, value in vars(self).items():
+            setattr(other, name, copy.copy(value))
+        return other
+
+    def get(self, address, length):
+        return self.bytes[address - LOWEST : address - LOWEST + length]
+
+    def set(self, address, content):
+        self.bytes[address - LOWEST : address - LOWEST + len(content)] = content
+
+    def word(self, address):
+        return int.from_bytes(self.get(address % MODULUS, 4), "little")
+
+    def set_word(self, address, value):
+        self.set(address % MODULUS, (value % MODULUS).to_bytes(4, "little"))
+
+    def touch(self, start, length, writes, own=None):
+        """Checks a touch of bytes; `own` is a workspace that is saved besides."""
+        if length == 0:
+            return
+        end = start + length
+        require(LOWEST <= start and end <= LOWEST + len(self.bytes), "BadAddress")
+        require(start >= FIRST, "Reserved")
+        for offer in self.inputs + self.outputs if writes else self.inputs:
+            if offer and start < offer.buffer + offer.length and offer.buffer < end:
+                raise Break("InTransit")
+        for workspace in self.saved:
+            if start < workspace and workspace - 12 < end:
+                raise Break("SavedWord")
+        require(own is None or not (start < own and own - 12 < end), "SavedWord")
+
+    def touch_word(self, address, writes, own=None):
+        """Checks a touch of a word."""
+        require(address % 4 == 0, "Unaligned")
+        self.touch(address % MODULUS, 4, writes, own)
+
+    def may_leave(self, workspace):
+        """The deschedule check."""
+        for below in (12, 8, 4):
+            self.touch_word(workspace - below, True)
+
+    def rows(self):
+        """Yields the rows of 16 bytes that have something to show: the address, and two hexadecimal digits a byte, or
+        `--` where it is hidden."""
+        hidden = bytearray(len(self.bytes))
+        for offer in filter(None, self.inputs):
+            hidden[offer.buffer - LOWEST : offer.buffer - LOWEST + offer.length] = b"\1" * offer.length
+        # Large blocks of zeros are passed over at once.
+        blocks = [range(it, min(it + 4096, len(hidden)), 16) for it in range(0, len(hidden), 4096)
+                  if (self.bytes[it : it + 4096] + hidden[it : it + 4096]).strip(b"\0")]
+        for start in itertools.chain.from_iterable(blocks):
+            row, mask = self.bytes[start : start + 16], hidden[start : start + 16]
+            if any(row) or any(mask):
+                yield LOWEST + start, ["--" if it else f"{byte:02x}" for byte, it in zip(row, mask)]
