@@ -1,0 +1,334 @@
+-- The accesses of a step: what is kept of a place tells of all that was accessed there, and the step knows of all that
+-- its accesses collide with.
+use Rattle.std.proofs.Common.{◌≡◌, ◌≢◌, ℕ, ◌≤◌, ◌⊎◌, inl, inr, Bool, true, false, not, cond, ◌&&◌, ◌||◌, ◌==◌, List, []}
+use Rattle.std.proofs.Common.{◌∷◌}
+use Rattle.std.proofs.Common.{ap, refl, sym, ◌∙◌, subst, arith, slice_index, nat_le, None, Contains}
+use Rattle.std.proofs.Common.{true≢false}
+use Rattle.std.proofs.lemmas.Bool.{eqb-true, eq-eqb, leb-true}
+use Rattle.std.proofs.lemmas.List.{get_or-set_other}
+use Rattle.tagents.specs.Agents.{Agents}
+use Rattle.tagents.specs.Clocks.{Entry}
+use Rattle.tagents.specs.Tables.{Access as PlaceAccess, Accesses, HasAccess, Table}
+use Rattle.tclocks.specs.declared.mode.Mode.{Mode}
+use Rattle.tclocks.specs.declared.step.Step.{Step}
+use Rattle.tclocks.specs.declared.step.Access.{Access}
+use Rattle.tclocks.specs.Modes.{collide, covers}
+use Rattle.tclocks.specs.Places.{knows_of, races, first_race, NotesAccess}
+use Rattle.tclocks.specs.Checks.{Check, clock_of, accesses_at, IsAccessed}
+use Rattle.tclocks.specs.Numbers.{Numbers}
+use Rattle.tclocks.specs.Followed.{counted, IsClosed, Tells, IsCovered, AreAccessed}
+use Rattle.tclocks.proofs.Lists.{test, found-none}
+use Rattle.tclocks.proofs.ModeLemmas.{covers-self, covers-collide, covers-trans}
+
+-- a test that one of two holds
+either : (a b : Bool) → (a || b) ≡ true → (a ≡ true) ⊎ (b ≡ true)
+either true b h = inl refl
+either false b h = inr h
+
+-- what collides and does not race is known
+known-one : (a b : Bool) → (a && not b) ≡ false → a ≡ true → b ≡ true
+known-one true true h c = refl
+known-one true false h c = absurd (true≢false h)
+known-one false b h c = absurd (true≢false (sym c))
+
+both : (a b : Bool) → (a && b) ≡ true → (a ≡ true) × (b ≡ true)
+both true true h = (refl, refl)
+both true false h = absurd (true≢false (sym h))
+both false b h = absurd (true≢false (sym h))
+
+both-true : (a b : Bool) → a ≡ true → b ≡ true → (a && b) ≡ true
+both-true true true h g = refl
+both-true true false h g = g
+both-true false b h g = h
+
+same-or-not : (i j : ℕ) → (i ≡ j) ⊎ (i ≢ j)
+same-or-not i j = grind arith
+
+module _ {State Agent Label Place Kind : Type 0} (m : Agents State Agent Label) (accesses : Accesses Place Kind Label)
+    (numbers : Numbers Agent Place Kind) (entries : List (Entry Agent Label)) (f : Entry Agent Label) (x n : ℕ)
+    (clock : List ℕ) (bound : ℕ → ℕ) where
+  -- the step comes behind the others: its number, its clock, and how many steps each agent has begun
+  pub record IsNext : Type 0 where
+    pub agent : numbers.agent (m.agent_of f.label) ≡ x
+    pub place : f.place ≡ n
+    pub past : (a : Agent) → f.past a ≡ counted numbers clock a
+    pub own : slice_index clock x ≡ n
+    pub begun : bound x ≡ n
+    pub closed : IsClosed m numbers entries clock
+    pub collide : (j k : Kind) → accesses.collide j k ≡ true → collide (numbers.mode j) (numbers.mode k) ≡ true
+
+  abbrev pub step : Step
+  step = record { agent = x; number = n }
+
+  closed-all : IsNext → IsClosed m numbers (f ∷ entries) clock
+  closed-all s = (λ k a. (let e : f.past a ≡ counted numbers clock a = s.past a in omega (arith, e)), s.closed)
+
+  abbrev pub AreKept : Check → Type 0
+  AreKept c = (place : ℕ) (access : Access) → Contains (accesses_at c place) access
+      → access.step.number ≤ bound access.step.agent
+
+  abbrev pub AreCovered : Check → Table m accesses → Type 0
+  AreCovered c table = (p : Place) (k : Kind) (a : Agent)
+      → IsCovered m numbers (f ∷ entries) (accesses_at c (numbers.place p)) (numbers.mode k) a (table p k a)
+
+  abbrev pub AreBegun : Table m accesses → Type 0
+  AreBegun table = (p : Place) (k : Kind) (a : Agent) → table p k a ≤ bound (numbers.agent a)
+
+  -- an access that the step knows of was counted by its clock
+  known : IsNext → (access : Access) → access.step.number ≤ bound access.step.agent
+      → knows_of x clock access.step ≡ true → access.step.number ≤ slice_index clock access.step.agent
+  known s access few k =
+      elim (either (access.step.agent == x) (nat_le access.step.number (slice_index clock access.step.agent)) k) as
+      (λ _. access.step.number ≤ slice_index clock access.step.agent) [
+        | inl own ↦
+            let e : access.step.agent ≡ x = eqb-true access.step.agent x own in
+            let top : access.step.number ≤ bound x = subst (λ (i : ℕ). access.step.number ≤ bound i) e few in
+            subst (λ (i : ℕ). access.step.number ≤ slice_index clock i) (sym e)
+            (omega (arith, top, s.own, s.begun))
+        | inr counts ↦ leb-true access.step.number (slice_index clock access.step.agent) counts
+      ]
+
+  -- an access collides with nothing that the step does not know of
+  permits : IsNext → (c : Check) (access : PlaceAccess ℕ Mode) (table : Table m accesses) → AreKept c
+      → AreCovered c table → first_race x clock access.mode (accesses_at c access.place) ≡ None
+      → (p : Place) (j k : Kind) (a : Agent) → access.place ≡ numbers.place p → access.mode ≡ numbers.mode k
+      → accesses.collide j k ≡ true → table p j a ≤ counted numbers clock a
+  permits s c access table kept covered none p j k a here mode clash =
+      elim (covered p j a) as (λ _. table p j a ≤ counted numbers clock a) [
+        | inl zero_steps ↦ omega (arith, zero_steps)
+        | inr (other, has, over, tells) ↦
+            let there : Contains (accesses_at c access.place) other =
+            subst (λ (place : ℕ). Contains (accesses_at c place) other) (sym here) has in
+            let hits : collide other.mode access.mode ≡ true =
+            subst (λ (k : Mode). collide other.mode k ≡ true) (sym mode)
+            (covers-collide other.mode (numbers.mode j) (numbers.mode k) over (s.collide j k clash)) in
+            let calm : races x clock access.mode other ≡ false =
+            found-none (races x clock access.mode) (accesses_at c access.place) other none there in
+            tells clock (closed-all s)
+            (known s other (kept access.place other there)
+            (known-one (collide other.mode access.mode) (knows_of x clock other.step) calm hits))
+      ]
+
+  -- the table with an access of the step
+  abbrev hits : PlaceAccess ℕ Mode → Place → Kind → Agent → Bool
+  hits access p k a =
+      (access.place == numbers.place p) && (covers access.mode (numbers.mode k) && (numbers.agent a == x))
+
+  abbrev with_access : PlaceAccess ℕ Mode → Table m accesses → Table m accesses
+  with_access access table p k a = cond (hits access p k a) n (table p k a)
+
+  -- with all of them
+  abbrev pub tabled : List (PlaceAccess ℕ Mode) → Table m accesses → Table m accesses
+  tabled [] table = table
+  tabled (access ∷ rest) table = tabled rest (with_access access table)
+
+  -- what a hit means
+  record IsHit (access : PlaceAccess ℕ Mode) (p : Place) (k : Kind) (a : Agent) : Type 0 where
+    here : access.place ≡ numbers.place p
+    over : covers access.mode (numbers.mode k) ≡ true
+    own : numbers.agent a ≡ x
+
+  is_hit : (access : PlaceAccess ℕ Mode) (p : Place) (k : Kind) (a : Agent) → hits access p k a ≡ true
+      → IsHit access p k a
+  is_hit access p k a h =
+      let first : (access.place == numbers.place p ≡ true)
+      × ((covers access.mode (numbers.mode k) && (numbers.agent a == x)) ≡ true) =
+      both (access.place == numbers.place p) (covers access.mode (numbers.mode k) && (numbers.agent a == x)) h in
+      let rest : (covers access.mode (numbers.mode k) ≡ true) × ((numbers.agent a == x) ≡ true) =
+      both (covers access.mode (numbers.mode k)) (numbers.agent a == x) first.1 in
+      record {
+        here = eqb-true access.place (numbers.place p) first.0;
+        over = rest.0;
+        own = eqb-true (numbers.agent a) x rest.1;
+      }
+
+  begun_more : IsNext → (access : PlaceAccess ℕ Mode) (table : Table m accesses) → AreBegun table
+      → AreBegun (with_access access table)
+  begun_more s access table h p k a =
+      elim (test (hits access p k a)) as (λ _. with_access access table p k a ≤ bound (numbers.agent a)) [
+        | inl hit ↦
+            let own : numbers.agent a ≡ x = (is_hit access p k a hit).own in
+            let top : n ≤ bound (numbers.agent a) =
+            subst (λ (i : ℕ). n ≤ bound i) (sym own) (omega (arith, s.begun)) in
+            subst (λ (b : Bool). cond b n (table p k a) ≤ bound (numbers.agent a)) (sym hit) top
+        | inr miss ↦ subst (λ (b : Bool). cond b n (table p k a) ≤ bound (numbers.agent a)) (sym miss) (h p k a)
+      ]
+
+  table_grows : IsNext → (access : PlaceAccess ℕ Mode) (table : Table m accesses) → AreBegun table
+      → (p : Place) (k : Kind) (a : Agent) → table p k a ≤ with_access access table p k a
+  table_grows s access table h p k a =
+      elim (test (hits access p k a)) as (λ _. table p k a ≤ with_access access table p k a) [
+        | inl hit ↦
+            let own : numbers.agent a ≡ x = (is_hit access p k a hit).own in
+            let top : table p k a ≤ bound x = subst (λ (i : ℕ). table p k a ≤ bound i) own (h p k a) in
+            subst (λ (b : Bool). table p k a ≤ cond b n (table p k a)) (sym hit) (omega (arith, top, s.begun))
+        | inr miss ↦ subst (λ (b : Bool). table p k a ≤ cond b n (table p k a)) (sym miss) (omega arith)
+      ]
+
+  -- a new access tells of all that the step knows
+  new_tells : IsNext → (access : Access) → access.step ≡ step → (a : Agent) (k : ℕ) → k ≤ counted numbers clock a
+      → Tells m numbers (f ∷ entries) access a k
+  new_tells s access same a k h other closed counts =
+      let count : n ≤ slice_index other x =
+      subst (λ (t : Step). t.number ≤ slice_index other t.agent) same counts in
+      let first : f.place ≤ counted numbers other (m.agent_of f.label) =
+      subst (λ (i : ℕ). f.place ≤ slice_index other i) (sym s.agent) (omega (arith, count, s.place)) in
+      let all : f.past a ≤ counted numbers other a = closed.0 first a in
+      let e : f.past a ≡ counted numbers clock a = s.past a in
+      omega (arith, all, e, h)
+
+  -- what is kept of a place tells of the accesses there, those of the step too
+  covered_more : IsNext → (c d : Check) (access : PlaceAccess ℕ Mode) (table : Table m accesses) → AreKept c
+      → AreCovered c table
+      → NotesAccess clock (record { mode = access.mode; step = step }) (accesses_at c access.place)
+      (accesses_at d access.place)
+      → ((place : ℕ) → place ≢ access.place → accesses_at d place ≡ accesses_at c place)
+      → AreCovered d (with_access access table)
+  covered_more s c d access table kept covered noted others p k a =
+      elim (test (hits access p k a)) as
+      (λ _. IsCovered m numbers (f ∷ entries) (accesses_at d (numbers.place p)) (numbers.mode k) a
+      (with_access access table p k a)) [
+        | inl hit ↦
+            let is : IsHit access p k a = is_hit access p k a hit in
+            subst (λ (b : Bool). IsCovered m numbers (f ∷ entries) (accesses_at d (numbers.place p)) (numbers.mode k) a
+            (cond b n (table p k a))) (sym hit)
+            (inr (
+              record { mode = access.mode; step = step },
+              subst (λ (place : ℕ). Contains (accesses_at d place) (record { mode = access.mode; step = step })) is.here
+                  noted.noted,
+              is.over,
+              λ other closed counts. subst (λ (i : ℕ). n ≤ slice_index other i) (sym is.own) counts,
+            ))
+        | inr miss ↦
+            subst (λ (b : Bool). IsCovered m numbers (f ∷ entries) (accesses_at d (numbers.place p)) (numbers.mode k) a
+            (cond b n (table p k a))) (sym miss)
+            (elim (same-or-not (numbers.place p) access.place) as
+            (λ _. IsCovered m numbers (f ∷ entries) (accesses_at d (numbers.place p)) (numbers.mode k) a
+            (table p k a)) [
+              | inr away ↦
+                  subst (λ (list : List Access).
+                  IsCovered m numbers (f ∷ entries) list (numbers.mode k) a (table p k a))
+                  (sym (others (numbers.place p) away)) (covered p k a)
+              | inl here ↦ at_place s c d access table kept noted p k a here (covered p k a)
+            ])
+      ]
+    where
+      at_place : IsNext → (c d : Check) (access : PlaceAccess ℕ Mode) (table : Table m accesses) → AreKept c
+          → NotesAccess clock (record { mode = access.mode; step = step }) (accesses_at c access.place)
+          (accesses_at d access.place)
+          → (p : Place) (k : Kind) (a : Agent) → numbers.place p ≡ access.place
+          → IsCovered m numbers (f ∷ entries) (accesses_at c (numbers.place p)) (numbers.mode k) a (table p k a)
+          → IsCovered m numbers (f ∷ entries) (accesses_at d (numbers.place p)) (numbers.mode k) a (table p k a)
+      at_place s c d access table kept noted p k a here (inl none) = inl none
+      at_place s c d access table kept noted p k a here (inr (old, has, over, tells)) =
+          let there : Contains (accesses_at c access.place) old =
+          subst (λ (place : ℕ). Contains (accesses_at c place) old) here has in
+          elim (noted.kept old there) as
+          (λ _. IsCovered m numbers (f ∷ entries) (accesses_at d (numbers.place p)) (numbers.mode k) a (table p k a)) [
+            | inl still ↦
+                inr (old, subst (λ (place : ℕ). Contains (accesses_at d place) old) (sym here) still, over, tells)
+            | inr replaced ↦ inr (
+              record { mode = access.mode; step = step },
+              subst (λ (place : ℕ). Contains (accesses_at d place) (record { mode = access.mode; step = step }))
+                  (sym here) noted.noted,
+              covers-trans access.mode old.mode (numbers.mode k) replaced.covered over,
+              new_tells s (record { mode = access.mode; step = step }) refl a (table p k a)
+                  (tells clock (closed-all s) (known s old (kept access.place old there) replaced.known)),
+            )
+          ]
+
+  kept_more : IsNext → (c d : Check) (access : PlaceAccess ℕ Mode) → AreKept c
+      → NotesAccess clock (record { mode = access.mode; step = step }) (accesses_at c access.place)
+      (accesses_at d access.place)
+      → ((place : ℕ) → place ≢ access.place → accesses_at d place ≡ accesses_at c place) → AreKept d
+  kept_more s c d access kept noted others place new has =
+      elim (same-or-not place access.place) as (λ _. new.step.number ≤ bound new.step.agent) [
+        | inr away ↦ kept place new
+            (subst (λ (list : List Access). Contains list new) (others place away) has)
+        | inl here ↦
+            elim (noted.only new (subst (λ (q : ℕ). Contains (accesses_at d q) new) here has)) as
+            (λ _. new.step.number ≤ bound new.step.agent) [
+              | inl e ↦ subst (λ (t : Access). t.step.number ≤ bound t.step.agent) (sym e) (omega (arith, s.begun))
+              | inr old ↦ kept access.place new old
+            ]
+      ]
+
+  -- what is proved of the accesses of a step
+  pub record AreTabled (done : List (PlaceAccess ℕ Mode)) (c : Check) (table : Table m accesses) : Type 0 where
+    pub kept : AreKept c
+    pub covered : AreCovered c (tabled done table)
+    pub begun : AreBegun (tabled done table)
+    pub grows : (p : Place) (k : Kind) (a : Agent) → table p k a ≤ tabled done table p k a
+    pub notes : (p : Place) (k : Kind) (a : Agent) → HasAccess done (numbers.place p) (numbers.mode k)
+        → numbers.agent a ≡ x → n ≤ tabled done table p k a
+    pub permits : (p : Place) (j k : Kind) (a : Agent) → HasAccess done (numbers.place p) (numbers.mode k)
+        → accesses.collide j k ≡ true → table p j a ≤ counted numbers clock a
+
+  others_same : (c d : Check) (access : PlaceAccess ℕ Mode) → IsAccessed step access c d
+      → (place : ℕ) → place ≢ access.place → accesses_at d place ≡ accesses_at c place
+  others_same c d access is place away =
+      ap (λ (e : Check). accesses_at e place) is.only
+      ∙ get_or-set_other c.places access.place place (accesses_at d access.place) [] away
+
+  hit : (access : PlaceAccess ℕ Mode) (table : Table m accesses) (p : Place) (k : Kind) (a : Agent)
+      → access.place ≡ numbers.place p → access.mode ≡ numbers.mode k → numbers.agent a ≡ x
+      → with_access access table p k a ≡ n
+  hit access table p k a here mode own =
+      ap (λ (b : Bool). cond b n (table p k a))
+      (both-true (access.place == numbers.place p) (covers access.mode (numbers.mode k) && (numbers.agent a == x))
+      (eq-eqb access.place (numbers.place p) here)
+      (both-true (covers access.mode (numbers.mode k)) (numbers.agent a == x)
+      (subst (λ (j : Mode). covers access.mode j ≡ true) mode (covers-self access.mode))
+      (eq-eqb (numbers.agent a) x own)))
+
+  pub accessed : IsNext → (done : List (PlaceAccess ℕ Mode)) (c d : Check) (table : Table m accesses)
+      → clock_of c x ≡ clock → AreKept c → AreCovered c table → AreBegun table → AreAccessed step done c d
+      → AreTabled done d table
+  accessed s [] c d table same kept covered begun are =
+      record {
+        kept = subst (λ (e : Check). AreKept e) (sym are) kept;
+        covered = subst (λ (e : Check). AreCovered e table) (sym are) covered;
+        begun = begun;
+        grows = λ p k a. omega arith;
+        notes = λ p k a has own. absurd has;
+        permits = λ p j k a has clash. absurd has;
+      }
+  accessed s (access ∷ rest) c d table same kept covered begun (between, is, are) =
+      let noted : NotesAccess clock (record { mode = access.mode; step = step }) (accesses_at c access.place)
+      (accesses_at between access.place) =
+      subst (λ (own : List ℕ). NotesAccess own (record { mode = access.mode; step = step })
+      (accesses_at c access.place) (accesses_at between access.place)) same is.noted in
+      let none : first_race x clock access.mode (accesses_at c access.place) ≡ None =
+      subst (λ (own : List ℕ). first_race x own access.mode (accesses_at c access.place) ≡ None) same is.permitted in
+      let others : (place : ℕ) → place ≢ access.place → accesses_at between place ≡ accesses_at c place =
+      others_same c between access is in
+      let next : clock_of between x ≡ clock = ap (λ (e : Check). clock_of e x) is.only ∙ same in
+      let more : AreTabled rest d (with_access access table) =
+      accessed s rest between d (with_access access table) next (kept_more s c between access kept noted others)
+      (covered_more s c between access table kept covered noted others)
+      (begun_more s access table begun) are in
+      record {
+        kept = more.kept;
+        covered = more.covered;
+        begun = more.begun;
+        grows = λ p k a. (let one : table p k a ≤ with_access access table p k a =
+            table_grows s access table begun p k a in
+            let all : with_access access table p k a ≤ tabled rest (with_access access table) p k a =
+            more.grows p k a in
+            omega (arith, one, all));
+        notes = λ p k a has own. elim has as (λ _. n ≤ tabled (access ∷ rest) table p k a) [
+          | inl here ↦
+              let now : with_access access table p k a ≡ n = hit access table p k a here.0 here.1 own in
+              let all : with_access access table p k a ≤ tabled rest (with_access access table) p k a =
+              more.grows p k a in
+              omega (arith, now, all)
+          | inr later ↦ more.notes p k a later own
+        ];
+        permits = λ p j k a has clash. elim has as (λ _. table p j a ≤ counted numbers clock a) [
+          | inl here ↦ permits s c access table kept covered none p j k a here.0 here.1 clash
+          | inr later ↦
+              let one : table p j a ≤ with_access access table p j a = table_grows s access table begun p j a in
+              let all : with_access access table p j a ≤ counted numbers clock a = more.permits p j k a later clash in
+              omega (arith, one, all)
+        ];
+      }

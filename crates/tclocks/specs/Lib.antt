@@ -1,0 +1,19 @@
+-- The check of a run in one pass, and what it tells.
+-- modes of accesses, and which of them collide
+pub mod Modes
+-- clocks
+pub mod Clocks
+-- the accesses of a place that are kept
+pub mod Places
+-- what the check keeps
+pub mod Checks
+-- how they are kept
+pub mod Kept
+-- why an access is refused
+pub mod Refusals
+-- the numbers of what a machine has
+pub mod Numbers
+-- what clocks and places have to do with steps
+pub mod Followed
+-- what is proved of a run
+pub mod Laws

@@ -1,0 +1,40 @@
+//! What the check of a run proves of it, each law as the contract of a function that does nothing.
+
+ghost use Rattle.tclocks.specs.Laws.{ChecksBegin, StepsAreChecked, ClocksAreHandedOn, SlotsMayBeCleared, ChecksMayGrow};
+ghost use Rattle.tclocks.specs.Laws.{NumbersMayBeGiven, SeenStepsHaveNoRace};
+
+/// A check begins with no steps, of any machine.
+pub fn checks_begin<State, Agent, Label, Place, Kind>()
+    ensures { ChecksBegin State Agent Label Place Kind }
+{}
+
+/// A step of a machine that was told to the check is one more that it has seen: it begins, the clocks in slots that
+/// were written by steps that lead to it are joined, and each of its accesses is permitted and noted.
+pub fn steps_are_checked<State, Agent, Label, Place, Kind>()
+    ensures { StepsAreChecked State Agent Label Place Kind }
+{}
+
+/// After a step the clock of its agent may be handed on in a slot, or added to the clock there.
+pub fn clocks_are_handed_on<State, Agent, Label, Place, Kind>()
+    ensures { ClocksAreHandedOn State Agent Label Place Kind }
+{}
+
+/// A slot may be cleared.
+pub fn slots_may_be_cleared<State, Agent, Label, Place, Kind>()
+    ensures { SlotsMayBeCleared State Agent Label Place Kind }
+{}
+
+/// Agents, slots and places may be added.
+pub fn checks_may_grow<State, Agent, Label, Place, Kind>()
+    ensures { ChecksMayGrow State Agent Label Place Kind }
+{}
+
+/// Agents and places that were not added yet may be given other numbers.
+pub fn numbers_may_be_given<State, Agent, Label, Place, Kind>()
+    ensures { NumbersMayBeGiven State Agent Label Place Kind }
+{}
+
+/// The steps that a check has seen pass the check in one pass of machines of agents, so they have no race.
+pub fn seen_steps_have_no_race<State, Agent, Label, Place, Kind>()
+    ensures { SeenStepsHaveNoRace State Agent Label Place Kind }
+{}

@@ -1,0 +1,21 @@
+//! The check that a run of a machine of agents has no race, in one pass.
+//!
+//! - `mode`, `step`: how a step accesses a place; a step by its agent and its number
+//! - `clock`: how many steps of each agent are known
+//! - `place`: the accesses of a place that later ones have to know of
+//! - `race_check`: the check of a run
+//! - `laws`: what passes the check has no race
+#![tactic(auto)]
+
+mod clock;
+pub mod laws;
+pub mod mode;
+mod place;
+pub mod race_check;
+pub mod refusal;
+pub mod step;
+
+pub use mode::Mode;
+pub use race_check::RaceCheck;
+pub use refusal::Refusal;
+pub use step::{Access, Step};
