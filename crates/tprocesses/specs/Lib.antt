@@ -1,0 +1,34 @@
+-- The process machine: a net of transputers as processes that meet.
+-- places and names
+pub mod Places
+-- what may stand there
+pub mod Values
+-- how it changes
+pub mod Changes
+-- steps, part by part
+pub mod Parts
+-- touches of the memory
+pub mod Touching
+-- actions over places
+pub mod Performing
+-- processes that come, wait and end
+pub mod Standing
+-- messages
+pub mod ChannelMessages
+pub mod LinkMessages
+-- what an instruction needs to know
+pub mod Uses
+-- operations of the scheduler
+pub mod Scheduling
+-- instructions
+pub mod Instructions
+-- what instructions depend on
+pub mod Depending
+-- agents and their steps
+pub mod Machine
+-- before the first step
+pub mod Opening
+-- what a run certifies
+pub mod Certified
+-- runs of small programs
+pub mod Examples
