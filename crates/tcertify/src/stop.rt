@@ -1,0 +1,31 @@
+//! Why a step stops.
+
+ghost use Rattle.std.specs.Prelude.{◌≡◌};
+ghost use Rattle.tcertify.specs.declared.stop.Stop.TheVariants as stops;
+
+use tword::Break;
+
+/// Why a step stops: there is no certificate of a run with such a step.
+#[derive(Clone, Copy, Debug, PartialEq, Eq)]
+pub enum Stop {
+    /// A usage rule is broken.
+    Breaks(Break),
+    /// The processor halts.
+    Halts,
+    /// A register or a byte decides that the scheduler may have changed.
+    SawTheScheduler,
+    /// The instruction belongs to alternatives, which this machine does not have.
+    HasAlternatives,
+    /// A word is touched that is in use as a channel or as a count.
+    WordInUse,
+    /// A sink has no room for the message.
+    FullSink,
+}
+
+impl From<Break> for Stop {
+    ghost from_gives = { λ broken stop. stop ≡ stops.Breaks broken };
+
+    fn from(broken: Break) -> Stop {
+        Stop::Breaks(broken)
+    }
+}
