@@ -1,0 +1,298 @@
+-- The nodes of a plan before the first step are shown.
+use Rattle.std.proofs.Common.{◌≡◌, ℕ, suc, ◌+◌, ◌*◌, ◌<◌, ◌≤◌, ◌^◌, refl, sym, ap, ◌∙◌, subst, List, [], ◌∷◌, ◌++◌}
+use Rattle.std.proofs.Common.{length, get_or, Bool, true, false, cond, Result, Ok, Err, Option, Some, None, All, arith}
+use Rattle.std.proofs.Common.{Contains, fold}
+use Rattle.std.specs.Prelude.{slice_get}
+use Rattle.std.proofs.lemmas.List.Elements.{All-append, All-nil, All-cons, All-head, All-tail, Contains-get_or}
+use Rattle.std.proofs.lemmas.Option.{slice_get_within, get_or_from_slice_get}
+use Rattle.std.proofs.lemmas.List.{get_or-replicate}
+use Rattle.tword.specs.declared.breaks.Break.{Break}
+use Rattle.tword.specs.Words.{most_neg, word_below}
+use Rattle.tproc.specs.Machine.{Control, Machine, workspace_of, descheduled}
+use Rattle.tproc.specs.ProcessStatus.{reason_of}
+use Rattle.tproc.specs.declared.waiter.Reason.{Reason}
+use Rattle.tproc.specs.declared.waiter.LinkEnd.{LinkEnd}
+use Rattle.tproc.specs.LinkChannels.{link_end, quiet_end}
+use Rattle.tproc.specs.Placement.{IsWord}
+use Rattle.tproc.specs.Opening.{empty_machine, no_processes, loaded}
+use Rattle.tproc.proofs.Opening.{IsReadyMachine, is_ready_empty, is_ready_loaded}
+use Rattle.tlink.specs.Roles.{Processor}
+use Rattle.tplan.specs.declared.plan.Segment.{Segment}
+use Rattle.tplan.specs.declared.plan.Process.{Process}
+use Rattle.tplan.specs.declared.plan.NodePlan.{NodePlan}
+use Rattle.tplan.specs.declared.plan.Plan.{Plan}
+use Rattle.tnet.specs.Building.{fault_of, ArePlanWords, AreBytes, AreImageWords, loaded_machine, built_machine}
+use Rattle.tnet.specs.Building.{or_loaded}
+use Rattle.tnet.specs.Building.{opened_machine, opening_node, bad_process, bad_segment, is_bad_segment, is_bad_size}
+use Rattle.tnet.proofs.OpenedPlans.{IsFaultless, faultless, good_size, good_segment, no_position}
+use Rattle.tnet.proofs.OpenedNets.{quiet_link}
+use Rattle.tprocesses.specs.Places.{Place, Name, WordAt, Standing}
+use Rattle.tprocesses.specs.Values.{Value, Word, Free, Saved, Engaged, Request, IsWord as a_word, IsLink, IsHalf}
+use Rattle.tprocesses.specs.Values.{word_in}
+use Rattle.tprocesses.specs.Values.{Stand, Absent, IsStand}
+use Rattle.tprocesses.specs.Machine.{awaits_successor}
+use Rattle.tprocesses.specs.Touching.{word_number}
+use Rattle.tprocesses.specs.Opening.{opening_state, of_node, stand_of, opened_word, loaded_byte, is_below}
+use Rattle.tseen.specs.Words.{AreMarked, use_at}
+use Rattle.tseen.specs.Halves.{ShowsChannels, ShowsLink, half_asking}
+use Rattle.tseen.specs.Shown.{ShowsNode, OpeningIsShown}
+use Rattle.tseen.proofs.Loaded.{Holds, holds_all}
+use Rattle.tseen.proofs.Queued.{seats, seat_of, HasProcess}
+use Rattle.tseen.proofs.Built.{queued}
+use Rattle.tseen.proofs.Adding.{IsBuilt, built_all, among}
+use Rattle.tseen.proofs.OpenedWords.{word_known, saved_there}
+use Rattle.tseen.proofs.OpenedScripts.{processor_there, source_shown, sink_shown}
+use Rattle.tseen.proofs.OpenedNodes.{opened_name, control, of_node_is, processes_shown}
+
+module _ (p : Plan) (n : ℕ) (plan : NodePlan) (at : slice_get p.nodes n ≡ Some plan) (timeslice : ℕ)
+    (start m : Machine) (b : IsBuilt start plan.memory plan.image.processes m)
+    (empty : start.control ≡ no_processes timeslice plan.kind) (room : plan.memory ≤ 2 ^ 31)
+    (h : Holds (loaded_byte plan) plan.memory start.store) where
+  abbrev ds : List Process
+  ds = plan.image.processes
+
+  abbrev s : Place → Value
+  s = opening_state p
+
+  control_is : m.control ≡ queued plan.image.processes (no_processes timeslice plan.kind)
+  control_is = control p n plan at timeslice start m b empty
+
+  word_is : (k : ℕ) → s (WordAt n k) ≡ a_word (opened_word plan (most_neg + 4 * k))
+  word_is k =
+      ap (λ (w : Word). a_word w)
+      (of_node_is p n plan at timeslice start m b empty (record { cells = []; used = Free })
+      (λ plan. opened_word plan (most_neg + 4 * k)))
+
+  -- the use of a word
+  used_is : (k : ℕ) → (word_in (s (WordAt n k))).used ≡ (opened_word plan (most_neg + 4 * k)).used
+  used_is k = ap (λ (v : Value). (word_in v).used) (word_is k)
+
+  -- the saved words below a workspace
+  abbrev AreSaved : ℕ → Type 0
+  AreSaved w = All (λ k. use_at s n (word_below w k) ≡ Saved) (1 ∷ 2 ∷ 3 ∷ [])
+
+  saved_one : (q : Process) → Contains ds q → (k : ℕ) → k < 3
+      → use_at s n (word_below (workspace_of q.wdesc) (suc k)) ≡ Saved
+  saved_one q c k small =
+      used_is (word_number (word_below (workspace_of q.wdesc) (suc k)))
+      ∙ saved_there plan start m room b h q k c small
+
+  saved_of : (q : Process) → Contains ds q → AreSaved (workspace_of q.wdesc)
+  saved_of q c =
+      let P : ℕ → Type 0 = λ k. use_at s n (word_below (workspace_of q.wdesc) k) ≡ Saved in
+      All-cons P 1 (2 ∷ 3 ∷ []) (saved_one q c 0 (omega arith))
+      (All-cons P 2 (3 ∷ []) (saved_one q c 1 (omega arith))
+      (All-cons P 3 [] (saved_one q c 2 (omega arith)) (All-nil P)))
+
+  saved_seats : (v : ℕ) → All AreSaved (seats v ds)
+  saved_seats v k x inside =
+      by (get_or (seats v ds) k x)
+      (seat_of v (get_or (seats v ds) k x) ds
+      (among (seats v ds) (get_or (seats v ds) k x) (Contains-get_or (seats v ds) k x inside)))
+    where
+      by : (w : ℕ) → HasProcess ds v w → AreSaved w
+      by w y = subst AreSaved y.workspace (saved_of y.process y.there)
+
+  quiet : (l : ℕ) → link_end m.control l ≡ quiet_end
+  quiet l = quiet_link m l (ap (λ (c : Control). c.links) control_is)
+
+  no_successor : (t : Bool) → awaits_successor (cond t Saved Free) ≡ false
+  no_successor true = refl
+  no_successor false = refl
+
+  marks : AreMarked s n (λ _. None) m.control
+  marks =
+      record {
+        saved = subst (λ (c : Control). All AreSaved (descheduled c)) (sym control_is)
+            (All-append AreSaved (seats 0 ds ++ seats 1 ds) []
+            (All-append AreSaved (seats 0 ds) (seats 1 ds) (saved_seats 0) (saved_seats 1)) (All-nil AreSaved));
+        inputs = λ l o e.
+            (let f : None ≡ Some o = sym (ap (λ (x : LinkEnd). x.input) (quiet l)) ∙ e in cc);
+        outputs = λ k. refl;
+        no_successor = λ k.
+            ap awaits_successor (used_is k) ∙ no_successor (is_below plan (1 ∷ 2 ∷ 3 ∷ []) (most_neg + 4 * k));
+      }
+
+  not_engaged : (t : Bool) → cond t Saved Free ≡ Engaged → ⊥
+  not_engaged true e = cc
+  not_engaged false e = cc
+
+  no_half : (q : Request) → IsHalf None ≡ IsHalf (Some q) → ⊥
+  no_half q e = cc
+
+  nobody_waits : (process : ℕ) (r : Reason) → reason_of m.control process ≡ Some r → ⊥
+  nobody_waits process r e =
+      let f : None ≡ Some r = subst (λ (c : Control). reason_of c process ≡ Some r) control_is e in cc
+
+  channels : ShowsChannels s n (opened_name n ds) m
+  channels =
+      record {
+        taken = λ channel side q e. absurd (no_half q e);
+        halves = λ channel side. (None, refl);
+        waiting = λ process channel side buffer e. absurd (nobody_waits process _ e);
+        engaged = λ k e.
+            absurd (not_engaged (is_below plan (1 ∷ 2 ∷ 3 ∷ []) (most_neg + 4 * k)) (sym (used_is k) ∙ e));
+      }
+
+  link : (l : ℕ) → ShowsLink s n (opened_name n ds) (λ _. None) (opening_node Processor m) l
+  link l =
+      record {
+        input = ap (λ (x : LinkEnd). IsLink (half_asking (opened_name n ds) x.input)) (sym (quiet l));
+        output = refl;
+        offered = λ o e. (let f : None ≡ Some o = sym (ap (λ (x : LinkEnd). x.output) (quiet l)) ∙ e in cc);
+        forgotten = ap (λ (x : LinkEnd). x.remembered) (quiet l);
+        pending = λ q e _. cc;
+      }
+
+  pub node_shown : ShowsNode s n plan (opened_name n plan.image.processes) (λ _. None) (opening_node Processor m)
+  node_shown =
+      record {
+        role = refl;
+        works = refl;
+        runs_on = ap (λ (c : Control). c.halted) control_is;
+        size = b.ready.size;
+        kind = ap (λ (c : Control). c.kind) control_is;
+        store = λ k inside. record {
+          word = opened_word plan (most_neg + 4 * k);
+          is = word_is k;
+          cells = word_known plan start m room b h k inside;
+        };
+        marks = marks;
+        channels = channels;
+        links = λ l _. link l;
+        processes = processes_shown p n plan at timeslice start m b empty;
+      }
+
+-- loading changes no register and no queue
+loaded_control : (ss : List Segment) (m : Machine)
+    → (fold (λ m s. loaded s.address s.bytes m) m ss).control ≡ m.control
+loaded_control [] m = refl
+loaded_control (s ∷ ss) m = loaded_control ss (loaded s.address s.bytes m)
+
+loaded_ready : (memory : ℕ) (ss : List Segment) (m : Machine) → IsReadyMachine memory 0 m
+    → All (λ s. is_bad_segment memory s ≡ false) ss → All (λ s. IsWord s.address × AreBytes s.bytes) ss
+    → IsReadyMachine memory 0 (fold (λ m s. loaded s.address s.bytes m) m ss)
+loaded_ready memory [] m r good words = r
+loaded_ready memory (s ∷ ss) m r good words =
+    loaded_ready memory ss (loaded s.address s.bytes m)
+    (is_ready_loaded memory 0 s.address s.bytes m r
+    (All-head (λ s. IsWord s.address × AreBytes s.bytes) s ss words).1
+    (good_segment memory s (All-head (λ s. is_bad_segment memory s ≡ false) s ss good)))
+    (All-tail (λ s. is_bad_segment memory s ≡ false) s ss good)
+    (All-tail (λ s. IsWord s.address × AreBytes s.bytes) s ss words)
+
+module _ (timeslice : ℕ) (plan : NodePlan) (size : is_bad_size plan ≡ false) (segments : bad_segment plan ≡ None)
+    (words : AreImageWords plan.image) where
+  abbrev start : Machine
+  start = loaded_machine timeslice plan
+
+  good : All (λ s. is_bad_segment plan.memory s ≡ false) plan.image.segments
+  good = no_position (λ s. is_bad_segment plan.memory s) plan.image.segments segments
+
+  start_control : start.control ≡ no_processes timeslice plan.kind
+  start_control = loaded_control plan.image.segments (empty_machine plan.memory timeslice plan.kind)
+
+  start_holds : Holds (loaded_byte plan) plan.memory start.store
+  start_holds =
+      holds_all (λ _. 0) plan.memory plan.image.segments (empty_machine plan.memory timeslice plan.kind)
+      (record {
+        full = (is_ready_empty plan.memory timeslice plan.kind).size;
+        cells = λ i inside. get_or-replicate plan.memory i (Some 0) None inside;
+      }) good
+
+  start_built : IsBuilt start plan.memory [] start
+  start_built =
+      record {
+        control = start_control ∙ sym (ap (queued []) start_control);
+        iptrs = All-nil _;
+        others = λ i inside clear. refl;
+        distinct = λ i j d below inside. absurd (omega (arith, inside));
+        ready = loaded_ready plan.memory plan.image.segments (empty_machine plan.memory timeslice plan.kind)
+            (record {
+              size = (is_ready_empty plan.memory timeslice plan.kind).size;
+              visible = (is_ready_empty plan.memory timeslice plan.kind).visible;
+              placed = (is_ready_empty plan.memory timeslice plan.kind).placed;
+            }) good words.segments;
+      }
+
+  pub all_built : bad_process timeslice plan ≡ None
+      → IsBuilt start plan.memory plan.image.processes (opened_machine timeslice plan)
+  all_built none = by (built_machine timeslice plan) refl none
+    where
+      by : (x : Result Machine (ℕ × Break)) → built_machine timeslice plan ≡ x
+          → ◌≡◌ {A = Option (ℕ × Break)} (elim x [ Ok m ↦ None | Err fault ↦ Some fault ]) None
+          → IsBuilt start plan.memory plan.image.processes (or_loaded start x)
+      by (Ok m) e none =
+          built_all start plan.memory (good_size plan size) 0 plan.image.processes [] start m words.processes
+          start_built e
+      by (Err fault) e none = cc
+
+-- the processes of the image of a node, if the plan has the node
+abbrev processes_at : Plan → ℕ → List Process
+processes_at p n = of_node p n [] (λ plan. plan.image.processes)
+
+-- each node of a plan without a fault
+node_there : (p : Plan) → fault_of p ≡ None → ArePlanWords p → (n : ℕ) (plan : NodePlan)
+    → slice_get p.nodes n ≡ Some plan
+    → ShowsNode (opening_state p) n plan (opened_name n (processes_at p n)) (λ _. None)
+    (opening_node Processor (opened_machine p.timeslice plan))
+node_there p none words n plan at =
+    subst (λ (qs : List Process). ShowsNode (opening_state p) n plan (opened_name n qs) (λ _. None)
+    (opening_node Processor (opened_machine p.timeslice plan))) (sym same)
+    (node_shown p n plan at p.timeslice (loaded_machine p.timeslice plan) (opened_machine p.timeslice plan)
+    built (start_control p.timeslice plan size segments image)
+    (good_size plan size) (start_holds p.timeslice plan size segments image))
+  where
+    faults : IsFaultless p
+    faults = faultless p none
+
+    inside : n < length p.nodes
+    inside = slice_get_within p.nodes n plan at
+
+    there : get_or p.nodes n plan ≡ plan
+    there = get_or_from_slice_get p.nodes n plan plan at
+
+    size : is_bad_size plan ≡ false
+    size = subst (λ (x : NodePlan). is_bad_size x ≡ false) there (faults.sizes n plan inside)
+
+    segments : bad_segment plan ≡ None
+    segments = subst (λ (x : NodePlan). bad_segment x ≡ None) there (faults.segments n plan inside)
+
+    processes : bad_process p.timeslice plan ≡ None
+    processes = subst (λ (x : NodePlan). bad_process p.timeslice x ≡ None) there (faults.processes n plan inside)
+
+    image : AreImageWords plan.image
+    image = subst (λ (x : NodePlan). AreImageWords x.image) there (words.images n plan inside)
+
+    built : IsBuilt (loaded_machine p.timeslice plan) plan.memory plan.image.processes
+        (opened_machine p.timeslice plan)
+    built = all_built p.timeslice plan size segments image processes
+
+    same : processes_at p n ≡ plan.image.processes
+    same =
+        of_node_is p n plan at p.timeslice (loaded_machine p.timeslice plan) (opened_machine p.timeslice plan) built
+        (start_control p.timeslice plan size segments image) [] (λ q. q.image.processes)
+
+-- where the plan has no node there is no process
+nobody_there : (p : Plan) (x : Name) → slice_get p.nodes x.node ≡ None
+    → opening_state p (Standing x) ≡ IsStand Absent
+nobody_there p x none =
+    ap (λ (o : Option NodePlan). IsStand (elim o as (λ _. Stand)
+    [ Some q ↦ stand_of x.root x.path q | None ↦ Absent ])) none
+
+-- the opening of each plan without a fault
+pub opening_is_shown : OpeningIsShown
+opening_is_shown p none words =
+    record {
+      named = λ n. opened_name n (processes_at p n);
+      sent = λ n l. None;
+      wires = refl;
+      processors = λ n plan at. (
+        opening_node Processor (opened_machine p.timeslice plan),
+        processor_there p n plan at,
+        node_there p none words n plan at,
+      );
+      sources = source_shown p;
+      sinks = sink_shown p;
+      nobody = nobody_there p;
+    }

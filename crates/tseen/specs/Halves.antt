@@ -1,0 +1,73 @@
+-- The halves of channels and links of a node: who waits there.
+-- Source: own choice.
+use Rattle.std.specs.Prelude.{ℕ, ◌≡◌, false, Option, Some, None}
+use Rattle.tword.specs.Stores.{word_at}
+use Rattle.tword.specs.declared.span.Span.{Span}
+use Rattle.tproc.specs.declared.offer.Offer.{Offer}
+use Rattle.tproc.specs.declared.waiter.Reason.{Reason}
+use Rattle.tproc.specs.declared.waiter.Reason.TheVariants.{Receives, Sends}
+use Rattle.tproc.specs.declared.channels.Side.{Side}
+use Rattle.tproc.specs.declared.channels.Side.TheVariants.{Input, Output}
+use Rattle.tproc.specs.Machine.{Machine, buffer_of}
+use Rattle.tproc.specs.ProcessStatus.{reason_of}
+use Rattle.tproc.specs.LinkChannels.{link_end}
+use Rattle.tnet.specs.Rendezvous.{Node, was_copied}
+use Rattle.tnet.specs.Wires.{end_at}
+use Rattle.tprocesses.specs.Places.{Place, Name, WordAt, Half, LinkHalf}
+use Rattle.tprocesses.specs.Values.{Value, Request, Engaged, Link, Empty, Offered, IsHalf, IsLink, word_in}
+use Rattle.tprocesses.specs.Touching.{word_number}
+use Rattle.tseen.specs.Seats.{Seat, Waiting}
+use Rattle.tseen.specs.Outputs.{Pending, half_with}
+use Rattle.tseen.specs.Words.{use_at}
+
+-- what a process waits for that waits at a half of an internal channel
+abbrev pub reason_at : Side → (channel : ℕ) → Span → Reason
+reason_at Input channel buffer = Receives channel buffer.start buffer.size
+reason_at Output channel buffer = Sends channel buffer.start buffer.size
+
+-- what a process asks for whose offer is pending
+abbrev pub request_of : (Seat → Name) → Offer → Request
+request_of named o = record { process = named (Waiting o.wdesc); buffer = buffer_of o }
+
+-- what stands at the half of a link that has the input
+abbrev pub half_asking : (Seat → Name) → Option Offer → Link
+half_asking named None = Empty
+half_asking named (Some o) = Offered (request_of named o)
+
+module _ (s : Place → Value) (n : ℕ) (named : Seat → Name) where
+  -- a half of an internal channel is taken by a process that waits for it: its descriptor is in the channel
+  pub record IsTakenHalf (m : Machine) (channel : ℕ) (side : Side) (q : Request) : Type 0 where
+    pub process : ℕ
+    pub name : named (Waiting process) ≡ q.process
+    pub waits : reason_of m.control process ≡ Some (reason_at side channel q.buffer)
+    pub channel_word : word_at m.store channel ≡ process
+    pub engaged : use_at s n channel ≡ Engaged
+
+  -- the internal channels
+  pub record ShowsChannels (m : Machine) : Type 0 where
+    -- each half that is taken is that of a process that waits
+    pub taken : (channel : ℕ) (side : Side) (q : Request) → s (Half n channel side) ≡ IsHalf (Some q)
+        → IsTakenHalf m channel side q
+    -- each half is taken or not
+    pub halves : (channel : ℕ) (side : Side) → (h : Option Request) × (s (Half n channel side) ≡ IsHalf h)
+    -- each process that waits on a channel has its half
+    pub waiting : (process channel : ℕ) (side : Side) (buffer : Span)
+        → reason_of m.control process ≡ Some (reason_at side channel buffer)
+        → s (Half n channel side) ≡ IsHalf (Some (record { process = named (Waiting process); buffer = buffer }))
+    -- a word in use as a channel is one on which a process waits
+    pub engaged : (k : ℕ) → (word_in (s (WordAt n k))).used ≡ Engaged
+        → (channel : ℕ) × (side : Side) × (q : Request) × (word_number channel ≡ k)
+        × (s (Half n channel side) ≡ IsHalf (Some q))
+
+  -- a link
+  pub record ShowsLink (sent : ℕ → Option Pending) (node : Node) (l : ℕ) : Type 0 where
+    pub input : s (LinkHalf (end_at n l) Input) ≡ IsLink (half_asking named (link_end node.machine.control l).input)
+    pub output : s (LinkHalf (end_at n l) Output) ≡ IsLink (half_with (sent l))
+    -- an output that is pending is not over
+    pub offered : (o : Offer) → (link_end node.machine.control l).output ≡ Some o
+        → sent l ≡ Some (record { request = request_of named o; copied = was_copied node l })
+    -- no alternative has enabled the link
+    pub forgotten : (link_end node.machine.control l).remembered ≡ None
+    -- one whose message has not gone over is pending
+    pub pending : (p : Pending) → sent l ≡ Some p → p.copied ≡ false
+        → (o : Offer) × ((link_end node.machine.control l).output ≡ Some o)

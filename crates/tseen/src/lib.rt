@@ -1,0 +1,4 @@
+//! Runs of the rendezvous machine, as the process machine shows them.
+#![tactic(auto)]
+
+pub mod laws;
