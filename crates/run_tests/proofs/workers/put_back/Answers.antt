@@ -1,6 +1,0 @@
-use Rattle.std.proofs.Common.{subst, sym}
-use Rattle.tfree.specs.Opened.{ComeFromOneOpen}
-use Rattle.run_tests.proofs.workers.put_back.Goals as goal
-
-pub returns : goal.returns
-returns c = subst ComeFromOneOpen (sym c.in_ok-insert.ensures.items) c.requires.whole
