@@ -7,7 +7,7 @@ use trounds::NetFault;
 use tword::{Break, MemoryFault};
 
 /// What was done, and a checksum of what came out.
-#[derive(Clone, Copy, Debug)]
+#[derive(Clone, Copy)]
 pub struct Answer {
     /// How many operations were done.
     pub operations: u64,

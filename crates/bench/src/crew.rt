@@ -19,7 +19,7 @@ const LENGTH: u32 = 4;
 const RUNS: u32 = 262_144;
 
 /// What the nodes do.
-#[derive(Clone, Copy, Debug, PartialEq, Eq)]
+#[derive(Clone, Copy)]
 pub enum Load {
     /// All nodes compute.
     Computing,
@@ -30,7 +30,7 @@ pub enum Load {
 }
 
 /// How the workers go on.
-#[derive(Clone, Copy, Debug, PartialEq, Eq)]
+#[derive(Clone, Copy)]
 pub enum Manner {
     /// The workers go on in rounds, each of which all of them end before the next begins.
     Rounds,
@@ -40,7 +40,7 @@ pub enum Manner {
 
 /// Workers of a net: how they go on, what the nodes do, the most Runs of a node in a round or a turn, and how many
 /// workers there are.
-#[derive(Clone, Copy, Debug, PartialEq, Eq)]
+#[derive(Clone, Copy)]
 pub struct Crew {
     pub manner: Manner,
     pub load: Load,

@@ -16,7 +16,7 @@ const WORKSPACE: u32 = 0x8000_2000;
 const SAVED: u32 = 0x8000_4000;
 
 /// What is claimed while the loop runs.
-#[derive(Clone, Copy, Debug, PartialEq, Eq)]
+#[derive(Clone, Copy)]
 pub enum Claims {
     Nothing,
     /// Two link buffers, on both sides of all that it touches.

@@ -24,97 +24,98 @@ use std::thread::Threads;
 use std::{env, io};
 
 /// A benchmark.
-#[derive(Clone, Copy, Debug, PartialEq, Eq)]
+#[derive(Clone, Copy)]
 enum Benchmark {
     Decode,
     Local(Claims),
     Processor(Job),
-    Net(Ring),
+    /// A ring of so many nodes, with messages of so many bytes.
+    Ring(u8, u32),
     Pipeline,
-    Crew(Crew),
+    /// So many workers that go on in rounds, with slices of so many runs.
+    Rounds(Load, u32, usize),
+    /// So many free workers, with slices of so many runs.
+    Turns(Load, u32, usize),
     /// Turns over so many nodes that wait for ever.
     Idle(u8),
 }
 
-/// A process in the loop, among others.
-fn looping(others: Others) -> Benchmark {
-    Benchmark::Processor(Job::Loop(others))
-}
-
-/// The benchmark of so many processes that yield.
-fn switching(count: u16) -> Benchmark {
-    Benchmark::Processor(Job::Switch(count))
-}
-
-/// Messages of so many bytes between two processes, among others.
-fn messages(length: u32, others: Others) -> Benchmark {
-    Benchmark::Processor(Job::Message(length, others))
-}
-
-/// A ring of so many nodes, with messages of so many bytes.
-fn ring(nodes: u8, length: u32) -> Benchmark {
-    Benchmark::Net(Ring { nodes, length })
-}
-
-/// The benchmark of so many workers that go on in rounds.
-fn in_rounds(load: Load, slice: u32, workers: usize) -> Benchmark {
-    Benchmark::Crew(Crew {
-        manner: Manner::Rounds,
-        load,
-        slice,
-        workers,
-    })
-}
-
-/// The benchmark of so many free workers.
-fn in_turns(load: Load, slice: u32, workers: usize) -> Benchmark {
-    Benchmark::Crew(Crew {
-        manner: Manner::Free,
-        load,
-        slice,
-        workers,
-    })
-}
-
 /// The benchmarks, by name.
-fn benchmarks() -> [(&'static str, Benchmark); 34] {
-    [
-        ("decode", Benchmark::Decode),
-        ("local", Benchmark::Local(Claims::Nothing)),
-        ("local-links", Benchmark::Local(Claims::LinkBuffers)),
-        ("local-saved", Benchmark::Local(Claims::SavedWords)),
-        ("processor", looping(Others::Nobody)),
-        ("processor-queued", looping(Others::Queued(500))),
-        ("processor-waiting", looping(Others::Waiting(500))),
-        ("switch", switching(2)),
-        ("switch-500", switching(500)),
-        ("message", messages(4, Others::Nobody)),
-        ("message-500", messages(4, Others::Waiting(498))),
-        ("message-1024", messages(1_024, Others::Nobody)),
-        ("message-1024-500", messages(1_024, Others::Waiting(498))),
-        ("net-byte", ring(2, 1)),
-        ("net-kilobyte", ring(2, 1_024)),
-        ("net-ring", ring(64, 4)),
-        ("net-pipeline", Benchmark::Pipeline),
-        ("rounds-1024", in_rounds(Load::Computing, 1_024, 1)),
-        ("rounds-1024-2", in_rounds(Load::Computing, 1_024, 2)),
-        ("rounds-1024-4", in_rounds(Load::Computing, 1_024, 4)),
-        ("rounds-65536", in_rounds(Load::Computing, 65_536, 1)),
-        ("rounds-65536-2", in_rounds(Load::Computing, 65_536, 2)),
-        ("rounds-65536-4", in_rounds(Load::Computing, 65_536, 4)),
-        ("rounds-idle", in_rounds(Load::Waiting, 1_024, 1)),
-        ("run-ring", in_rounds(Load::Exchanging, 64, 1)),
-        ("free-compute", in_turns(Load::Computing, 1_024, 1)),
-        ("free-compute-2", in_turns(Load::Computing, 1_024, 2)),
-        ("free-compute-4", in_turns(Load::Computing, 1_024, 4)),
-        ("free-ring", in_turns(Load::Exchanging, 64, 1)),
-        ("free-ring-2", in_turns(Load::Exchanging, 64, 2)),
-        ("free-ring-4", in_turns(Load::Exchanging, 64, 4)),
-        ("turn-idle", Benchmark::Idle(1)),
-        ("turn-idle-2", Benchmark::Idle(2)),
-        ("turn-idle-64", Benchmark::Idle(64)),
-    ]
-}
+const BENCHMARKS: &[(&str, Benchmark)] = &[
+    ("decode", Benchmark::Decode),
+    ("local", Benchmark::Local(Claims::Nothing)),
+    ("local-links", Benchmark::Local(Claims::LinkBuffers)),
+    ("local-saved", Benchmark::Local(Claims::SavedWords)),
+    ("processor", Benchmark::Processor(Job::Loop(Others::Nobody))),
+    (
+        "processor-queued",
+        Benchmark::Processor(Job::Loop(Others::Queued(500))),
+    ),
+    (
+        "processor-waiting",
+        Benchmark::Processor(Job::Loop(Others::Waiting(500))),
+    ),
+    ("switch", Benchmark::Processor(Job::Switch(2))),
+    ("switch-500", Benchmark::Processor(Job::Switch(500))),
+    (
+        "message",
+        Benchmark::Processor(Job::Message(4, Others::Nobody)),
+    ),
+    (
+        "message-500",
+        Benchmark::Processor(Job::Message(4, Others::Waiting(498))),
+    ),
+    (
+        "message-1024",
+        Benchmark::Processor(Job::Message(1_024, Others::Nobody)),
+    ),
+    (
+        "message-1024-500",
+        Benchmark::Processor(Job::Message(1_024, Others::Waiting(498))),
+    ),
+    ("net-byte", Benchmark::Ring(2, 1)),
+    ("net-kilobyte", Benchmark::Ring(2, 1_024)),
+    ("net-ring", Benchmark::Ring(64, 4)),
+    ("net-pipeline", Benchmark::Pipeline),
+    ("rounds-1024", Benchmark::Rounds(Load::Computing, 1_024, 1)),
+    (
+        "rounds-1024-2",
+        Benchmark::Rounds(Load::Computing, 1_024, 2),
+    ),
+    (
+        "rounds-1024-4",
+        Benchmark::Rounds(Load::Computing, 1_024, 4),
+    ),
+    (
+        "rounds-65536",
+        Benchmark::Rounds(Load::Computing, 65_536, 1),
+    ),
+    (
+        "rounds-65536-2",
+        Benchmark::Rounds(Load::Computing, 65_536, 2),
+    ),
+    (
+        "rounds-65536-4",
+        Benchmark::Rounds(Load::Computing, 65_536, 4),
+    ),
+    ("rounds-idle", Benchmark::Rounds(Load::Waiting, 1_024, 1)),
+    ("run-ring", Benchmark::Rounds(Load::Exchanging, 64, 1)),
+    ("free-compute", Benchmark::Turns(Load::Computing, 1_024, 1)),
+    (
+        "free-compute-2",
+        Benchmark::Turns(Load::Computing, 1_024, 2),
+    ),
+    (
+        "free-compute-4",
+        Benchmark::Turns(Load::Computing, 1_024, 4),
+    ),
+    ("free-ring", Benchmark::Turns(Load::Exchanging, 64, 1)),
+    ("free-ring-2", Benchmark::Turns(Load::Exchanging, 64, 2)),
+    ("free-ring-4", Benchmark::Turns(Load::Exchanging, 64, 4)),
+    ("turn-idle", Benchmark::Idle(1)),
+    ("turn-idle-2", Benchmark::Idle(2)),
+    ("turn-idle-64", Benchmark::Idle(64)),
+];
 
 /// Does so much work of a benchmark.
 fn done<R: Threads + Sync>(
@@ -127,9 +128,26 @@ fn done<R: Threads + Sync>(
         Benchmark::Decode => mixed_code::decoded(alloc, amount),
         Benchmark::Local(claims) => local_loop::looped(alloc, amount, claims),
         Benchmark::Processor(job) => scheduling::worked(alloc, amount, job),
-        Benchmark::Net(ring) => nets::went_round(alloc, amount, ring),
+        Benchmark::Ring(nodes, length) => nets::went_round(alloc, amount, Ring { nodes, length }),
         Benchmark::Pipeline => pipeline::went_through(alloc, amount),
-        Benchmark::Crew(crew) => crew::worked(rt, alloc, amount, crew),
+        Benchmark::Rounds(load, slice, workers) => {
+            let crew = Crew {
+                manner: Manner::Rounds,
+                load,
+                slice,
+                workers,
+            };
+            crew::worked(rt, alloc, amount, crew)
+        }
+        Benchmark::Turns(load, slice, workers) => {
+            let crew = Crew {
+                manner: Manner::Free,
+                load,
+                slice,
+                workers,
+            };
+            crew::worked(rt, alloc, amount, crew)
+        }
         Benchmark::Idle(nodes) => idle::waited(alloc, amount, nodes),
     }
 }
@@ -142,7 +160,7 @@ fn main(rt: HostRuntime) -> io::Result<()> {
     let Some(wanted) = wanted else {
         return println!(rt; "no benchmark is named");
     };
-    for (name, benchmark) in benchmarks().iter() {
+    for (name, benchmark) in BENCHMARKS {
         if wanted.as_str() == "all" || wanted.as_str() == *name {
             match done(&rt, rt.alloc(), *benchmark, amount) {
                 Ok(answer) => println!(rt; "{name} {} {}", answer.operations, answer.sum)?,

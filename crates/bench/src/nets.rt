@@ -25,7 +25,7 @@ pub const BACK: u32 = 0x8000_0018;
 const SLICE: u32 = 64;
 
 /// A ring of so many nodes, each wired from its link 1 to link 2 of the next, with messages of so many bytes.
-#[derive(Clone, Copy, Debug, PartialEq, Eq)]
+#[derive(Clone, Copy)]
 pub struct Ring {
     pub nodes: u8,
     pub length: u32,

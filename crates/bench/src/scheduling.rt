@@ -35,7 +35,7 @@ const CROWD: u32 = 0x8000_4000;
 const NOT_PROCESS: u32 = 0x8000_0000;
 
 /// Which processes there are beside those that do the job.
-#[derive(Clone, Copy, Debug, PartialEq, Eq)]
+#[derive(Clone, Copy)]
 pub enum Others {
     Nobody,
     Queued(u16),
@@ -43,7 +43,7 @@ pub enum Others {
 }
 
 /// What the processes do.
-#[derive(Clone, Copy, Debug, PartialEq, Eq)]
+#[derive(Clone, Copy)]
 pub enum Job {
     /// The loop of instructions that touch no other process, in a high process.
     Loop(Others),
