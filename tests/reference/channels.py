@@ -81,7 +81,7 @@ class Channels:
         """The whole message passes."""
         self.memory.set_word(channel, NOT_PROCESS)
         if length:
-            self.memory.set(target, self.memory.get(source, length))
+            self.memory.copy_bytes(target, source, length)
         self.release(partner)
 
     def wait_on_channel(self, reason, partner, tells):

@@ -6,7 +6,7 @@ from images import OPERATIONS, image_of, read_listing
 from instructions import LOCAL
 from words import LOWEST
 
-# What may stand in a wiring in place of a value, and of a line that has none.
+# What may come in place of a value of a wiring, and of a line that has none.
 VALUES = r"""
 0 1 2 +2 0x2 0b1_0 0o02 02 -0 -1 3 258 4294967295 4294967296 9223372036854775807 9223372036854775808 2.0 2e0 nan true
 1979-05-27 "2" '2' [2] [0,1] [0x0,+1,] [0,1,2] [[0,1]] [-1,0] [0,4] [99,0] {} {end=1} [] ["00"] ["0"] [""] ["0g"]
@@ -18,7 +18,8 @@ BOUNDS = (0, 1, 2, 3, 31, 32, 63, 64, 0x7FFFFFFF, 0x80000000, 0x80000001, 0xFFFF
 CODE, ROW_WORKSPACE = LOWEST + 0x80, LOWEST + 0x100
 # Of a long row: where the lengths stand, and where its messages go.
 TABLE, BUFFER = LOWEST + 0x200, LOWEST + 0x800
-# Of a process: so many words of its workspace are below it, a buffer begins at this word, and locals are below that.
+# Of a process: this number of words of its workspace is below it, a buffer begins at this word, and locals are below
+# that.
 BELOW, LOOP, MESSAGE, LOCALS = 24, 13, 16, 12
 LONGEST = 32
 
@@ -204,10 +205,12 @@ class Mesh:
     """Nodes of several processes: statements are added to these one after another, messages to both sides at once, so
     that each has its partner if nothing else comes between."""
 
+    NODE = Node
+
     def __init__(self, dice, is_small, is_wild):
         self.dice, self.is_small = dice, is_small
         count = dice.choice([1, 2, 2] if is_small else [1, 2, 2, 3, 4])
-        self.nodes = [Node(dice, number, is_small) for number in range(count)]
+        self.nodes = [self.NODE(dice, number, is_small) for number in range(count)]
         self.drawn = Drawn(dice)
         self.drawn.timeslice = dice.choice([None, 1, 2, 3, 7, 20, 100])
         # Each way of a message has its sender and its receiver, by the instructions that push their channels.
@@ -328,15 +331,22 @@ class Mesh:
         process.add(f"    ldl {self.local()}, cj {no}", self.simple(process), f"    j {behind}", f"{no}:")
         process.add(self.simple(process), f"{behind}:")
 
+    @staticmethod
+    def start_child(process):
+        """Lets a process start another. Returns that, where it begins, and where this one goes on after both."""
+        node = process.node
+        child, begins, after, successor = node.process(process.priority), node.name(), node.name(), node.name()
+        process.add(f"    ldc {successor}, stl 0, ldc 2, stl 1")
+        process.add(f"    ldc {begins}-{after}, ldc #{child.workspace:08x}, startp", f"{after}:")
+        return child, begins, successor
+
     def add_par(self, process):
         """Another process that joins this one at its end."""
         node = process.node
         if not node.has_room():
             return
-        child, begins, after, behind = node.process(process.priority), node.name(), node.name(), node.name()
-        process.add(f"    ldc {behind}, stl 0, ldc 2, stl 1")
-        process.add(f"    ldc {begins}-{after}, ldc #{child.workspace:08x}, startp")
-        process.add(f"{after}:", self.simple(process), f"    ldc #{process.workspace:08x}, endp", f"{behind}:")
+        child, begins, successor = self.start_child(process)
+        process.add(self.simple(process), f"    ldc #{process.workspace:08x}, endp", f"{successor}:")
         process.add(*(f"    {self.raced(process)}" for _ in range(self.dice.randint(0, 4))))
         lines = [self.simple(child) for _ in range(self.dice.randint(0, 2))]
         node.behind += [f"{begins}:", *lines, f"    ldc #{process.workspace:08x}, endp"]

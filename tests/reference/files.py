@@ -69,3 +69,11 @@ def replay(net, events):
     if early is not None:
         raise Fault(f"replay event {early}")
     return f"end replay {len(events)}"
+
+
+def leads_to(plan, log, heading, dump):
+    """Tells whether the events of a log lead to an outcome or a freeze, as an exploration told it."""
+    net = net_of(plan)
+    if rounds.replay(net, read_events(log)) is not None or formats.dump_of(net) != dump:
+        return False
+    return any(net.frozen) if heading.startswith("freeze ") else net.is_quiet() and not any(net.frozen)

@@ -1,16 +1,17 @@
 """Boot images (docs/MACHINE.md, section 15) and the bytes of instructions.
 
-Images are written, and instructions encoded and told, by examples/make.py, which stands alone, since it is for users;
-what the tests need besides is a reader of images.
+Images are written, and instructions encoded and told, by examples/make.py, which needs no other file, since it is for
+users; what the tests need besides is a reader of images.
 """
 import pathlib
 import struct
 import sys
 
 sys.path.append(str(pathlib.Path(__file__).resolve().parents[2] / "examples"))
-# The names of functions and operations, the shortest bytes and the text of an instruction, images, and listings.
+# The names of functions and operations, the shortest bytes and the text of an instruction, images, listings, and the
+# memories of a dump.
 from make import FUNCTIONS, OPERATION_NAMES, OPERATIONS, chain, text_of  # noqa: E402,F401
-from make import image, image_of, read_listing  # noqa: E402,F401
+from make import image, image_of, memories, read_listing, word_at  # noqa: E402,F401
 
 MAGIC, SEGMENTS, PROCESSES = b"TEMUIMG1", 4096, 512
 
@@ -34,16 +35,16 @@ def read_image(content):
         segments.append((start, content[at + 8 : at + 8 + length]))
         at += 8 + length
     processes = [pair_at(content, at + 8 * number) for number in range(counts[1])]
-    behind = at + 8 * counts[1]
-    if behind > len(content):
+    end = at + 8 * counts[1]
+    if end > len(content):
         raise BadImage("I3 Truncated")
-    if behind < len(content):
+    if end < len(content):
         raise BadImage("I4 Trailing")
     return segments, processes
 
 
 def pair_at(content, at):
-    """Returns the two words that stand there."""
+    """Returns the two words that are there."""
     if at + 8 > len(content):
         raise BadImage("I3 Truncated")
     return struct.unpack_from("<II", content, at)

@@ -52,7 +52,7 @@ def minus_borrow(a, b, c):
     return b - a - (c & 1)
 
 
-# The operations on registers alone: each gives of A, B, C and the address behind it the stack that it leaves, and
+# The operations on registers alone: each gives of A, B, C and the address after it the stack that it leaves, and
 # whether it sets Error.
 LOCAL = {
     "rev": lambda a, b, c, after: ((b, a, c), False),
@@ -116,7 +116,7 @@ SIMPLE = {
 
 
 class Instructions:
-    """What the instructions of a process do to a processor; Iptr is behind the instruction already."""
+    """What the instructions of a process do to a processor; Iptr is after the instruction already."""
 
     def fail(self):
         """Sets Error, and halts where HaltOnError is set."""
@@ -196,7 +196,7 @@ class Instructions:
         self.memory.touch(self.c, self.a, False)
         self.memory.touch(self.b, self.a, True)
         if self.a:
-            self.memory.set(self.b, self.memory.get(self.c, self.a))
+            self.memory.copy_bytes(self.b, self.c, self.a)
         self.pop(2)
 
     def do_gcall(self):
@@ -213,11 +213,11 @@ class Instructions:
     def do_lend(self):
         self.memory.touch_word(self.b + 4, True)
         self.memory.touch_word(self.b, True)
-        count = (self.memory.word(self.b + 4) - 1) % MODULUS
+        count, index = (self.memory.word(self.b + 4) - 1) % MODULUS, self.memory.word(self.b)
         goes_round = signed(count) > 0
         if goes_round:
             self.may_end_timeslice()
-            self.memory.set_word(self.b, self.memory.word(self.b) + 1)
+            self.memory.set_word(self.b, index + 1)
             self.jump(self.iptr - self.a)
         self.memory.set_word(self.b + 4, count)
         self.pop(2)

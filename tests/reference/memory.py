@@ -23,7 +23,7 @@ class Memory:
     """The bytes of a node, and who may not touch them now."""
 
     def __init__(self, size):
-        self.bytes = bytearray(size)
+        self.size, self.bytes = size, bytearray(size)
         # The workspaces of processes that are queued or wait, and the messages that pend at the links.
         self.saved, self.inputs, self.outputs = set(), [None] * 4, [None] * 4
 
@@ -45,13 +45,21 @@ class Memory:
     def set_word(self, address, value):
         self.set(address % MODULUS, (value % MODULUS).to_bytes(4, "little"))
 
+    def copy_bytes(self, target, source, length):
+        """Copies bytes as if all of them were read first."""
+        self.set(target, self.get(source, length))
+
+    def bound(self, start, length):
+        """Checks that bytes lie in the memory and not in the closed area."""
+        require(LOWEST <= start and start + length <= LOWEST + self.size, "BadAddress")
+        require(start >= FIRST, "Reserved")
+
     def touch(self, start, length, writes, own=None):
         """Checks a touch of bytes; `own` is a workspace that is saved besides."""
         if length == 0:
             return
+        self.bound(start, length)
         end = start + length
-        require(LOWEST <= start and end <= LOWEST + len(self.bytes), "BadAddress")
-        require(start >= FIRST, "Reserved")
         for offer in self.inputs + self.outputs if writes else self.inputs:
             if offer and start < offer.buffer + offer.length and offer.buffer < end:
                 raise Break("InTransit")

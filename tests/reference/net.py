@@ -184,6 +184,7 @@ class Net:
     far, and `halts` are those that halted a node: the node, the event, and the instruction with its address."""
 
     def __init__(self, plan):
+        self.plan = plan
         self.parts, self.far = build(plan)
         self.frozen = [None] * len(self.parts)
         self.ends = {end: End() for end in self.links()}
@@ -238,7 +239,7 @@ class Net:
         part.step()
         if part.is_halted:
             self.notes.append(f"halt {number}")
-            # What sets Error writes no memory, so the instruction still stands there.
+            # What sets Error writes no memory, so the instruction is still there.
             self.halts.append((number, self.done, iptr, part.text_at(iptr)))
 
     def do_send(self, number, part, end, link):

@@ -6,7 +6,7 @@ from images import FUNCTIONS, OPERATION_NAMES, text_of
 from instructions import LOCAL, SIMPLE, Instructions
 from memory import Break, Memory, require
 from processes import LOW, Processes
-from words import LOWEST, MODULUS, signed
+from words import MODULUS, signed
 
 PREFIX, NEGATIVE_PREFIX, OPERATE = (FUNCTIONS.index(it) for it in ("pfix", "nfix", "opr"))
 MOST_BYTES = 16
@@ -37,11 +37,11 @@ class Processor(Processes, Channels, Instructions):
         return other
 
     def fetch(self, start):
-        """Returns the instruction there: function, operand, and the address behind it."""
+        """Returns the instruction there: function, operand, and the address after it."""
         operand, at = 0, start
         for _ in range(MOST_BYTES):
             self.memory.touch(at, 1, False)
-            function, data = divmod(self.memory.bytes[at - LOWEST], 16)
+            function, data = divmod(self.memory.get(at, 1)[0], 16)
             at = (at + 1) % MODULUS
             if function == PREFIX:
                 operand = 16 * (operand + data)
@@ -78,7 +78,7 @@ class Processor(Processes, Channels, Instructions):
         return jumps
 
     def execute(self, name, operand):
-        """Does an instruction by its name; Iptr is behind it already. True where a timeslice may end at it."""
+        """Does an instruction by its name; Iptr is after it already. True if a timeslice may end at it."""
         if name in LOCAL:
             (self.a, self.b, self.c), fails = LOCAL[name](self.a, self.b, self.c, self.iptr)
             if fails:

@@ -1,5 +1,6 @@
-"""Where the processes and links of a net stand, as `temu where` tells it (docs/MACHINE.md, section 15, Where)."""
-from formats import heading
+"""Where the processes and links of a net are, as `temu where` tells it (docs/MACHINE.md, section 15, Where), and all
+that a command prints of a net."""
+from formats import dump_of, heading
 from channels import ALTERNATIVE, OnChannel, OnLink
 from net import LINKS, Sink, Source
 from processes import HIGH, LOW
@@ -8,7 +9,7 @@ from words import IPTR, address, workspace_of
 
 
 def standing_of(net):
-    """Returns the lines that tell where a net stands, and why nothing goes on in it."""
+    """Returns the lines that tell where the parts of a net are, and why nothing goes on in it."""
     lines = []
     for number, part in enumerate(net.parts):
         lines.append(heading(net, number))
@@ -23,8 +24,18 @@ def standing_of(net):
 
 
 def halted_lines(net):
-    """Returns a line for each event that halted a node: `where` alone has them, behind all these."""
+    """Returns a line for each event that halted a node: `where` alone has them, after all these."""
     return [f"halted node {number} by event {event}: {address(at)}: {text}" for number, event, at, text in net.halts]
+
+
+# What `--show` may show of a net.
+SHOWN = {"dump": dump_of, "where": standing_of, "none": lambda net: []}
+
+
+def printed(net, command, show, last):
+    """Returns the text that a command prints of a net, with its last line."""
+    trace, halted = ([], halted_lines(net)) if command == "where" else (net.notes, [])
+    return "".join(f"{it}\n" for it in [*trace, *SHOWN[show](net), *halted, last])
 
 
 def fact(name, told):
@@ -179,4 +190,3 @@ def circles_of(joined):
                         longer.append((*path, it))
             paths = longer
     return lines
-

@@ -1,0 +1,97 @@
+"""A run of the process machine, and what its certificate tells of all runs of the net (docs/MACHINE.md, section 17)."""
+import collections
+import re
+
+import races
+from net import Sink, Source
+from places import AgentKind, Kind, Place
+from process_machine import Looks, ProcessMachine
+from words import LOWEST
+
+
+class Certificate:
+    """A run of the process machine with its verdict, and the messages that each wire tells, by its two ends."""
+
+    def __init__(self, net, most, **how):
+        self.machine, self.messages = ProcessMachine(net), collections.defaultdict(list)
+        self.verdict = races.certify(self.machine, most, tell=self.tell, **how)
+
+    def tell(self, step):
+        """Notes the message of a wire's step, before it is done."""
+        if step.agent.kind is AgentKind.WIRE:
+            far = self.machine.gates(step.agent)[0]
+            output = self.machine.value(far)
+            is_source = far.kind is Kind.MESSAGES
+            cells = output[0] if is_source else Looks(step, far.node).cells(output.buffer, output.length)
+            ends = f"{far.node}.{0 if is_source else far.key[0]} {step.agent.node}.{step.agent.key}"
+            self.messages[ends].append(text_of(cells))
+
+    def dump(self):
+        return list(dump_of(self.machine))
+
+    def agrees_with(self, dump):
+        """Tells whether the dump of an end has each byte that is known here, and no node is frozen or halted."""
+        known, shown = by_place(self.dump()), by_place(dump)
+        pairs = [(known.get(it) or zeros(shown[it]), shown.get(it) or zeros(known[it])) for it in {**known, **shown}]
+        return all(map(is_like, *zip(*pairs)))
+
+    def has_told(self, trace):
+        """Tells whether the messages of a trace are these, wire by wire."""
+        told = collections.defaultdict(list)
+        for line in trace:
+            _, sender, receiver, _, content = line.split()
+            told[f"{sender} {receiver}"].append(content)
+        return told.keys() == self.messages.keys() and all(
+            len(due) == len(told[ends]) and all(map(is_like, due, told[ends])) for ends, due in self.messages.items())
+
+
+def text_of(cells, between=""):
+    """Returns the digits of bytes, and `~~` for each that is unknown."""
+    return between.join("~~" if it is None else f"{it:02x}" for it in cells)
+
+
+def shown_cells(machine, number):
+    """Returns the bytes of a node at the end, and None for each that is unknown."""
+    cells = []
+    for word in range(machine.sizes[number] // 4):
+        cells += machine.value(Place(Kind.WORD, number, word)).cells
+    return cells
+
+
+def dump_of(machine):
+    """Yields the lines that tell memories, sources and sinks."""
+    for number, part in enumerate(machine.net.parts):
+        if isinstance(part, Source):
+            left = len(machine.value(Place(Kind.MESSAGES, number)))
+            yield f"source {number} done {len(part.messages) - left} of {len(part.messages)}"
+        elif isinstance(part, Sink):
+            kept = machine.value(Place(Kind.KEPT, number))
+            yield f"sink {number} messages {len(kept)}"
+            yield from (f"kept {text_of(it)}" for it in kept)
+        else:
+            yield f"node {number} ok"
+            cells = shown_cells(machine, number)
+            for start in range(0, len(cells), 16):
+                row = cells[start : start + 16]
+                if any(it != 0 for it in row):
+                    yield f"{LOWEST + start:08x}: {text_of(row, ' ')}"
+
+
+def by_place(dump):
+    """Returns the lines of a dump by place: rows of a memory by node and address, others by their order."""
+    lines, others = {}, 0
+    for line in dump:
+        is_row = line[8:9] == ":"
+        others += not is_row
+        lines[(others, line[:8]) if is_row else others] = line
+    return lines
+
+
+def zeros(line):
+    """Returns the row that is not shown since it is all zeros, like a row that is shown; of other lines nothing."""
+    return line[:9] + " 00" * (len(line) // 3 - 3) if line[8:9] == ":" else ""
+
+
+def is_like(known, shown):
+    """Tells whether a text has each byte that is known in another one."""
+    return re.fullmatch(known.replace("~~", ".."), shown) is not None

@@ -1,0 +1,181 @@
+"""The places of the process machine, what is there, and the changes that a step makes (docs/MACHINE.md, section 17)."""
+import enum
+from typing import NamedTuple, Optional
+
+from words import MODULUS, NOT_PROCESS
+
+UNKNOWN = (None,) * 4
+
+
+def cells_of(number):
+    """Returns the cells of a word that holds a number."""
+    return tuple((number % MODULUS).to_bytes(4, "little"))
+
+
+class Use(enum.Enum):
+    """What a word of memory is used for; the value is what a step that touches it is refused for."""
+
+    FREE = "Free"
+    SAVED = "SavedWord"
+    RECEIVING = "InTransit"
+    CHANNEL = "ChannelInUse"
+    LAST_HIGH, LAST_LOW = "HighSuccessorPending", "LowSuccessorPending"
+    SPOILT = "SpoiltWord"
+
+
+# The uses of a count of which the last process has ended, by its priority.
+LAST = (Use.LAST_HIGH, Use.LAST_LOW)
+
+
+class Word(NamedTuple):
+    """A word of memory: its four bytes, of which each may be unknown, and its use."""
+
+    cells: tuple = (0, 0, 0, 0)
+    use: Use = Use.FREE
+
+    def number(self):
+        """Returns the number that the word holds, or None if a byte is unknown."""
+        return None if None in self.cells else int.from_bytes(bytes(self.cells), "little")
+
+
+class Message(NamedTuple):
+    """A message that is offered or asked for: by which process, and its buffer."""
+
+    process: tuple
+    buffer: int
+    length: int
+
+
+class Loan(NamedTuple):
+    """The buffer of an output that was copied, until its sender goes on."""
+
+    link: int
+    buffer: int
+    length: int
+
+
+class Status(enum.Enum):
+    """How a process stands: a process that rests has given way, and goes on by a step of its own."""
+
+    ABSENT, RESTS, RUNS, WAITS, ENDED = "absent", "rests", "runs", "waits", "ended"
+
+
+class Context(NamedTuple):
+    """What a process has: its registers, of which A, B, C may be unknown, how many processes it began, and its loan."""
+
+    priority: int
+    wptr: int
+    iptr: int
+    stack: tuple = (0, 0, 0)
+    children: int = 0
+    loan: Optional[Loan] = None
+
+
+class Standing(NamedTuple):
+    """How a process stands, and with what."""
+
+    status: Status = Status.ABSENT
+    context: Optional[Context] = None
+
+
+class LinkHalf(enum.Enum):
+    """Half of a link that has no message: a copied output is not over until its sender goes on."""
+
+    EMPTY, COPIED = "empty", "copied"
+
+
+class Kind(str, enum.Enum):
+    """The kinds of places."""
+
+    WORD = "word"  # a word of memory, by its number
+    SENDING = "sending"  # how many outputs on links that are not over have a byte of a word, by its number
+    STANDING = "process"  # how a process stands, by its name
+    HALF = "channel"  # half of an internal channel, by address and whether it is the input: None or a message
+    LINK_HALF = "link"  # half of a link, by number and whether it is the input
+    ERROR, HALTING = "Error", "HaltOnError"
+    LIFE = "workspace"  # how many processes have a workspace, by its address
+    SUCCESSIONS = "successions"  # how many successors went on at a workspace, by its address
+    MESSAGES = "messages"  # the messages of a source that are not yet taken
+    KEPT = "kept"  # the messages that a sink took
+
+
+class Place(NamedTuple):
+    """A place of a node, a source or a sink."""
+
+    kind: Kind
+    node: int
+    key: object = None
+
+
+# What stands at each place before the first step, if nothing else is said.
+FIRST_VALUES = {
+    Kind.WORD: Word(), Kind.SENDING: 0, Kind.STANDING: Standing(), Kind.HALF: None, Kind.LINK_HALF: LinkHalf.EMPTY,
+    Kind.ERROR: False, Kind.HALTING: False, Kind.LIFE: 0, Kind.SUCCESSIONS: 0, Kind.KEPT: (),
+}
+
+
+class Act(str, enum.Enum):
+    """The kinds of changes; all but a Put are made without a look at what is there."""
+
+    PUT = "put"
+    ENGAGE = "engage"  # a channel word is in use
+    DECREMENT_HIGH, DECREMENT_LOW = "decrement high", "decrement low"  # a process that a count counts has ended
+    ADD = "add"
+    RAISE = "raise"
+
+
+# The changes of a count, by the priority of the process that ends.
+DECREMENTS = (Act.DECREMENT_HIGH, Act.DECREMENT_LOW)
+
+
+def commute(one, other):
+    """Tells whether two changes of a place come to the same in both orders, whatever is there."""
+    return one is other and one is not Act.PUT
+
+
+class Change(NamedTuple):
+    """A change of what stands at a place: a Put has the new value, an Add what is added."""
+
+    act: Act
+    operand: object = None
+
+    def of(self, value):
+        """Returns what it makes of a value."""
+        if self.act is Act.PUT:
+            return self.operand
+        if self.act is Act.ADD:
+            return value + self.operand
+        if self.act is Act.RAISE:
+            return True
+        return engaged(value) if self.act is Act.ENGAGE else decremented(value, DECREMENTS.index(self.act))
+
+
+def engaged(word):
+    """Returns a channel word that is used: it was so before, or there was nobody."""
+    is_good = word.use is Use.CHANNEL or word == Word(cells_of(NOT_PROCESS))
+    return Word(UNKNOWN, Use.CHANNEL if is_good else Use.SPOILT)
+
+
+def decremented(word, priority):
+    """Returns a count of one process less; with the last one its successor is pending."""
+    count = word.number()
+    if word.use is not Use.FREE or count is None:
+        return Word(UNKNOWN, Use.SPOILT)
+    return Word(cells_of(count - 1), LAST[priority] if count == 1 else Use.FREE)
+
+
+class AgentKind(str, enum.Enum):
+    """The kinds of agents."""
+
+    PROCESS = "process"  # by its name
+    CHANNEL = "channel"  # by its address
+    WIRE = "wire"  # by the link of the end that receives
+    SUCCESSOR = "successor"  # by its workspace
+
+
+class Agent(NamedTuple):
+    """Who makes steps."""
+
+    kind: AgentKind
+    node: int
+    key: object
