@@ -21,7 +21,7 @@ const BACK: u32 = 0x8000_0018;
 /// How many Runs a node does at most in one turn.
 const SLICE: u32 = 64;
 
-/// A row has so many nodes, and its source so many messages of so many bytes.
+/// A row: how many nodes it has, how many messages its source has, and how many bytes each of these has.
 const ROW: usize = 4;
 const MESSAGES: u32 = 256;
 const LENGTH: u32 = 64;

@@ -109,7 +109,7 @@ fn prepared(job: &Job) -> Result<Processor, Break> {
     Ok(p)
 }
 
-/// Does so many steps, and answers how many processes were dispatched.
+/// Does this number of steps, and answers how many processes were dispatched.
 #[inline(never)]
 fn run(p: &mut Processor, steps: u64) -> Result<u32, Break> {
     let mut dispatches = 0u32;

@@ -31,7 +31,7 @@ enum Load {
     Computing,
     /// One message goes round, so that nearly all of them wait.
     Waiting,
-    /// Each sends and receives so many messages, and stops.
+    /// Each sends and receives this number of messages, and stops.
     Exchanging(u32),
 }
 
@@ -91,7 +91,7 @@ fn resting(name: &str) -> Option<usize> {
     }
 }
 
-/// Does so many rounds, of which all but the first find nothing to do.
+/// Does this number of rounds, of which all but the first find nothing to do.
 fn rest(name: &str, nodes: usize, rounds: u32) {
     let waits = |_| (&PONG[..], vec![BACK, ONWARD, BUFFER, LENGTH]);
     let mut net = prepared(nodes, waits).expect("the processes fit");

@@ -5,7 +5,7 @@
     examples/make.py --check [PROGRAM]            tells which images differ from their listings, and where the
                                                   instructions that a listing names are not those that PROGRAM shows
     examples/make.py image LISTING IMAGE          makes one image
-    examples/make.py names LISTING                prints the names of a listing, each behind its address
+    examples/make.py names LISTING                prints the names of a listing, each after its address
     examples/make.py label NAMES [NODE]           puts such names into what `temu dis` prints, or `temu where` of all
                                                   nodes or of one (standard input)
     examples/make.py words NODE ADDRESS [COUNT]   prints words of a node from what `temu run` prints (standard input),
@@ -14,18 +14,18 @@
     examples/make.py pipeline IMAGE..             the same, where the last node is not joined to the first
     examples/make.py grid WIDTH IMAGE..           links 0 to 3 are up, right, down, left; row by row
 
-The wirings and `words` take --memory BYTES, 2048 where it is absent. A listing has one of these on a line:
+The wirings and `words` take --memory BYTES, by default 2048. A listing has one of these on a line:
 
     at 80000080               a segment begins at this address
-    24 f2    mint    remark   its next bytes; behind two blanks the instructions that they are, or `data`
+    24 f2    mint    remark   its next bytes; after two blanks the instructions that they are, or `data`
     j loop    remark          instructions without bytes, which are made: the shortest ones
     loop:                     a name of the address that is reached
     process 80000101 80000080 a process: its descriptor, and the address or the name of its first instruction
     # remark
 
-Instructions stand with `, ` between them. An operand is a number (`-4`, `#80000300`), a name, or a sum of such
-(`end-start`, `loop+4`): behind j, cj and call a name stands for the distance to it, behind ldc for its address. Bytes
-that are not the instructions beside them are refused; each fault has the file and the line before it.
+Instructions have `, ` between them. An operand is a number (`-4`, `#80000300`), a name, or a sum of such (`end-start`,
+`loop+4`): for j, cj and call a name means the distance to it, for ldc its address. Bytes that are not the instructions
+beside them are refused; each fault has the file and the line before it.
 """
 import argparse
 import collections
@@ -60,7 +60,7 @@ OPERATION_NAMES = {code: name for name, code in OPERATIONS.items()}
 LOWEST, FIRST, LARGEST = 0x80000000, 0x80000048, 1 << 24
 # What a listing tells: segments and processes as pairs, addresses by name, and instructions as (address, text).
 Listing = collections.namedtuple("Listing", "segments processes names instructions")
-# The parts of a segment, each with the number of its line: a name, bytes with the instructions that stand beside them,
+# The parts of a segment, each with the number of its line: a name, bytes with the instructions that are beside them,
 # and an instruction whose bytes are made.
 Name = collections.namedtuple("Name", "number name")
 Given = collections.namedtuple("Given", "number code texts")
@@ -109,7 +109,7 @@ def chain(function, operand):
 
 
 def decoded(code):
-    """Returns the instructions that bytes are, as (offset, function, operand, offset behind it)."""
+    """Returns the instructions that bytes are, as (offset, function, operand, offset after it)."""
     found, start, operand = [], 0, 0
     for at, byte in enumerate(code):
         function, operand = byte >> 4, operand + (byte & 15)
@@ -142,8 +142,8 @@ def parts_of(text):
     return FUNCTIONS.index(word), operand
 
 
-def operand_of(function, operand, behind, names):
-    """Returns the number that an operand stands for; `behind` is the address of the next instruction."""
+def operand_of(function, operand, after, names):
+    """Returns the number that an operand is; `after` is the address of the next instruction."""
     if isinstance(operand, int):
         return operand
     total, addresses = 0, 0
@@ -158,14 +158,14 @@ def operand_of(function, operand, behind, names):
         else:
             raise Wrong(f"no number and no name: {word}")
     if addresses and (addresses != 1 or FUNCTIONS[function] not in (*JUMPS, "ldc")):
-        raise Wrong(f"a name stands for an operand behind {', '.join(JUMPS)} and ldc; else write two, as end-start")
+        raise Wrong(f"only {', '.join(JUMPS)} and ldc take a name; else write two, as end-start")
     if not -(1 << 31) <= total < 1 << 32:
         raise Wrong(f"no operand of 32 bits: {operand}")
-    return signed(total - behind if addresses and FUNCTIONS[function] in JUMPS else total)
+    return signed(total - after if addresses and FUNCTIONS[function] in JUMPS else total)
 
 
 class Reader:
-    """Reads a listing: first its lines, and then, with the address of each name, the bytes that they stand for."""
+    """Reads a listing: first its lines, and then, with the address of each name, the bytes that they mean."""
 
     def __init__(self):
         # Segments are (address, parts), processes and faults have the number of their line before them.
@@ -187,7 +187,7 @@ class Reader:
         words = line.split()
         if words[0] in ("at", "process"):
             if len(words) != (2 if words[0] == "at" else 3):
-                raise Wrong(f"`{words[0]}` has {'one word' if words[0] == 'at' else 'two words'} behind it")
+                raise Wrong(f"`{words[0]}` takes {'one word' if words[0] == 'at' else 'two words'}")
             if words[0] == "at":
                 self.segments.append((address_of(words[1]), []))
             else:
@@ -196,7 +196,7 @@ class Reader:
             raise Wrong("no segment has begun: its address comes first, as `at 80000080`")
         elif re.fullmatch(r"[A-Za-z_]\w*:", words[0]):
             if len(words) > 1:
-                raise Wrong("a name stands alone on its line")
+                raise Wrong("a name has a line of its own")
             if words[0][:-1] in self.names:
                 raise Wrong(f"the name {words[0][:-1]} is given twice")
             self.names[words[0][:-1]] = 0
@@ -244,11 +244,11 @@ class Reader:
         if len(found) != len(part.texts):
             texts = ", ".join(text_of(function, operand) for _, function, operand, _ in found)
             raise Wrong(f"the bytes are {texts}, and not {', '.join(part.texts)}")
-        for text, (start, function, operand, behind) in zip(part.texts, found):
+        for text, (start, function, operand, after) in zip(part.texts, found):
             wanted = Made(part.number, *parts_of(text))
-            number = operand_of(wanted.function, wanted.operand, address + behind, self.names)
+            number = operand_of(wanted.function, wanted.operand, address + after, self.names)
             if (function, operand) != (wanted.function, number):
-                code, right = part.code[start:behind], self.shortest(wanted, address + start)
+                code, right = part.code[start:after], self.shortest(wanted, address + start)
                 raise Wrong(f"{code.hex(' ')} is {text_of(function, operand)}, and {text} is {right.hex(' ')}")
             told.append((address + start, text_of(function, operand)))
         return told
@@ -287,7 +287,7 @@ def parts_in(number, line):
         texts = others[0].split(", ") if others and others[0] != "data" else []
         return [Given(number, bytes.fromhex(first), texts)]
     if re.match(r"[0-9a-fA-F]{2}( |$)", first):
-        raise Wrong(f"no bytes with two blanks behind them: {first}")
+        raise Wrong(f"no bytes with two blanks after them: {first}")
     return [Made(number, *parts_of(text)) for text in first.split(", ")]
 
 
@@ -350,6 +350,11 @@ def memories(output):
     return nodes
 
 
+def byte_told(byte):
+    """Returns a byte as a dump shows it."""
+    return "--" if byte is None else f"{byte:02x}"
+
+
 def word_at(memory, address):
     """Returns the word at an address of a node's bytes, or None where a byte of it is hidden."""
     parts = [memory.get(address + at, 0) for at in range(4)]
@@ -362,9 +367,9 @@ def shown_words(output, node, address, count, memory):
     if not 0 <= node < len(nodes):
         raise Wrong(f"there is no node {node} in the input")
     # What is shown lies in the memory; of what is not shown only the size tells whether it is there.
-    behind = max([LOWEST + memory, *(it + 1 for it in nodes[node])])
-    if not LOWEST <= address <= behind - 4 * max(1, count):
-        size = f"of {behind - LOWEST} bytes; --memory tells that it has more"
+    end = max([LOWEST + memory, *(it + 1 for it in nodes[node])])
+    if not LOWEST <= address <= end - 4 * max(1, count):
+        size = f"of {end - LOWEST} bytes; --memory tells that it has more"
         raise Wrong(f"{count} words from {address:08x} on do not lie in a memory {size}")
     lines = []
     for at in range(address, address + 4 * count, 4):
@@ -397,7 +402,7 @@ def labelled(printed, names, node=None):
 
 
 def placed(lines, names, node):
-    """Returns the lines of `temu where` with names behind the addresses of one node, or of all nodes."""
+    """Returns the lines of `temu where` with names after the addresses of one node, or of all nodes."""
     told, mine = [], node is None
     for line in lines:
         head = re.match(r"(?:node|source|sink|stuck #[0-9a-f]{8} of|stuck source|stuck sink) (\d+)\b", line)
@@ -407,7 +412,7 @@ def placed(lines, names, node):
 
 
 def named(found, names):
-    """Returns an address with its name; one of an instruction may stand so many bytes behind the name."""
+    """Returns an address with its name; that of an instruction may be some bytes after the name."""
     address = int(found[2], 16)
     nearest = max((it for it in names if it <= address), default=None) if found[1] else address
     if nearest not in names:
@@ -417,7 +422,7 @@ def named(found, names):
 
 
 def listed(lines, names):
-    """Returns the lines of `temu dis` with names at their addresses, and behind jumps and calls to them."""
+    """Returns the lines of `temu dis` with names at their addresses, and after jumps and calls to them."""
     starts = [int(it[:8], 16) for it in lines]
     told = []
     for at, line in enumerate(lines):
@@ -477,6 +482,11 @@ def make(listing, to):
     to.write_bytes(image_of(read_listing(listing)))
 
 
+def hexadecimal(word):
+    """Returns the number that hexadecimal digits are."""
+    return int(word, 16)
+
+
 def arguments():
     """Returns what the command line asks for."""
     parser = argparse.ArgumentParser(description=__doc__, formatter_class=argparse.RawDescriptionHelpFormatter)
@@ -491,7 +501,7 @@ def arguments():
     label.add_argument("node", type=int, nargs="?")
     words = commands.add_parser("words")
     words.add_argument("node", type=int)
-    words.add_argument("address", type=lambda it: int(it, 16))
+    words.add_argument("address", type=hexadecimal)
     words.add_argument("count", type=int, nargs="?", default=1)
     words.add_argument("--memory", type=int, default=2048)
     for name in ("ring", "pipeline", "grid"):

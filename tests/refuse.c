@@ -4,6 +4,7 @@
    REFUSE_THREAD=N  the Nth thread does not start
    REFUSE_READ=N    the Nth read fails
    REFUSE_WRITE=N   the Nth write fails, but for those to standard error
+   REFUSE_BY=HOW    how it fails: 'interrupted', or 'nothing', by which a write takes no byte; else with an error
    REFUSE_OPEN=N    the Nth file is not opened, for want of memory
    REFUSE_LOOK=N    the Nth look at what the system knows of a file fails, for want of memory
    REFUSE_SYNC=1    to sync a file fails
@@ -18,6 +19,7 @@
 #include <stdatomic.h>
 #include <stddef.h>
 #include <stdlib.h>
+#include <string.h>
 #include <sys/mman.h>
 #include <sys/syscall.h>
 #include <unistd.h>
@@ -108,13 +110,24 @@ static size_t shortened(size_t count) {
     return most;
 }
 
+/* Whether a read or a write fails in this way. */
+static int fails_by(const char *how) {
+    const char *by = getenv("REFUSE_BY");
+    return by && !strcmp(by, how);
+}
+
+/* The error by which it fails. */
+static int failure(void) {
+    return fails_by("interrupted") ? EINTR : EIO;
+}
+
 ssize_t read(int file, void *to, size_t count) {
-    return is_refused(&reads, EIO) ? -1 : syscall(SYS_read, file, to, shortened(count));
+    return is_refused(&reads, failure()) ? -1 : syscall(SYS_read, file, to, shortened(count));
 }
 
 ssize_t write(int file, const void *from, size_t count) {
-    if (file != STDERR_FILENO && is_refused(&writes, EIO))
-        return -1;
+    if (file != STDERR_FILENO && is_refused(&writes, failure()))
+        return fails_by("nothing") ? 0 : -1;
     return syscall(SYS_write, file, from, shortened(count));
 }
 

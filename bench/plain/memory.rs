@@ -53,7 +53,7 @@ impl Span {
     }
 }
 
-/// The buffers that the inputs, or the outputs, of the links claim, behind bounds of them all.
+/// The buffers that the inputs, or the outputs, of the links claim, after bounds of them all.
 struct Buffers {
     claimed: [Option<Span>; 4],
     low: u64,
@@ -145,10 +145,10 @@ impl Saved {
 
     fn overlap(&self, span: Span) -> bool {
         let (start, end) = span.bounds();
-        let (first, behind) = (start / 4, end.div_ceil(4));
-        let few = behind - first <= 256;
+        let (first, past) = (start / 4, end.div_ceil(4));
+        let few = past - first <= 256;
         let empty = |word: u64| self.counts[word as usize % SLOTS] == 0;
-        !(few && (first..behind).all(empty)) && self.any_overlaps(span)
+        !(few && (first..past).all(empty)) && self.any_overlaps(span)
     }
 
     #[inline(never)]

@@ -109,7 +109,7 @@ pub const PONG: [u8; 10] = [
     0x60, 0x06, // j again
 ];
 
-/// Counts up in a buffer, sends it and receives it, so many times, and stops. The workspace has the channel for
+/// Counts up in a buffer, sends it and receives it, a number of times, and stops. The workspace has the channel for
 /// sending, that for receiving, the buffer, the length, and from word 4 on the index and the count.
 #[rustfmt::skip]
 pub const COUNTED_PING: [u8; 20] = [
@@ -133,8 +133,8 @@ pub const COUNTED_PING: [u8; 20] = [
     0x21, 0xf5, // stopp
 ];
 
-/// Receives a buffer and sends it back, so many times, and stops. The workspace has the channel for receiving, that for
-/// sending, the buffer, the length, and from word 4 on the index and the count.
+/// Receives a buffer and sends it back, a number of times, and stops. The workspace has the channel for receiving, that
+/// for sending, the buffer, the length, and from word 4 on the index and the count.
 #[rustfmt::skip]
 pub const COUNTED_PONG: [u8; 14] = [
     // again:

@@ -1,4 +1,4 @@
-//! Scripted ends, which stand at a link of a node: a source offers messages to it, one after another, and a sink keeps
+//! Scripted ends, which are at a link of a node: a source offers messages to it, one after another, and a sink keeps
 //! what it sends. Both have the link 0 alone.
 
 use super::net::{silently, Act, Answer, Arrival, Emitted, End, Mark, Packet, StepFault};
@@ -78,7 +78,7 @@ impl Source {
 
 pub struct Sink {
     capacity: usize,
-    /// All bytes that it holds, one message behind another.
+    /// All bytes that it holds, one message after another.
     bytes: Vec<u8>,
     /// Where each whole message ends.
     ends: Vec<usize>,

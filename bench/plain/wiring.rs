@@ -92,7 +92,7 @@ fn end(value: &str) -> Option<End> {
     Some(End { node: node.trim().parse().ok()?, link: link.trim().parse().ok()? })
 }
 
-/// Messages in a list that stands on one line.
+/// Messages in a list that is on one line.
 fn messages(value: &str) -> Option<Vec<Vec<u8>>> {
     let inner = value.strip_prefix('[')?.strip_suffix(']')?;
     inner.split_terminator(',').map(|value| message(&text(value.trim())?)).collect()
