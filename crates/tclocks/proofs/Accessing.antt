@@ -8,7 +8,7 @@ use Rattle.std.proofs.lemmas.Bool.{eqb-true, eq-eqb, leb-true}
 use Rattle.std.proofs.lemmas.List.{get_or-set_other}
 use Rattle.tagents.specs.Agents.{Agents}
 use Rattle.tagents.specs.Clocks.{Entry}
-use Rattle.tagents.specs.Tables.{Access as PlaceAccess, Accesses, HasAccess, Table}
+use Rattle.tagents.specs.Tables.{Access as PlaceAccess, Accesses, Table}
 use Rattle.tclocks.specs.declared.mode.Mode.{Mode}
 use Rattle.tclocks.specs.declared.step.Step.{Step}
 use Rattle.tclocks.specs.declared.step.Access.{Access}
@@ -16,9 +16,9 @@ use Rattle.tclocks.specs.Modes.{collide, covers}
 use Rattle.tclocks.specs.Places.{knows_of, races, first_race, NotesAccess}
 use Rattle.tclocks.specs.Checks.{Check, clock_of, accesses_at, IsAccessed}
 use Rattle.tclocks.specs.Numbers.{Numbers}
-use Rattle.tclocks.specs.Followed.{counted, IsClosed, Tells, IsCovered, AreAccessed}
+use Rattle.tclocks.specs.Followed.{counted, IsClosed, Tells, IsCovered, AreAccessed, HasCover}
 use Rattle.tclocks.proofs.Lists.{test, found-none}
-use Rattle.tclocks.proofs.ModeLemmas.{covers-self, covers-collide, covers-trans}
+use Rattle.tclocks.proofs.ModeLemmas.{both-ways, covers-collide, covers-trans}
 
 -- a test that one of two holds
 either : (a b : Bool) → (a || b) ≡ true → (a ≡ true) ⊎ (b ≡ true)
@@ -41,7 +41,7 @@ both-true true true h g = refl
 both-true true false h g = g
 both-true false b h g = h
 
-same-or-not : (i j : ℕ) → (i ≡ j) ⊎ (i ≢ j)
+pub same-or-not : (i j : ℕ) → (i ≡ j) ⊎ (i ≢ j)
 same-or-not i j = grind arith
 
 module _ {State Agent Label Place Kind : Type 0} (m : Agents State Agent Label) (accesses : Accesses Place Kind Label)
@@ -55,7 +55,8 @@ module _ {State Agent Label Place Kind : Type 0} (m : Agents State Agent Label) 
     pub own : slice_index clock x ≡ n
     pub begun : bound x ≡ n
     pub closed : IsClosed m numbers entries clock
-    pub collide : (j k : Kind) → accesses.collide j k ≡ true → collide (numbers.mode j) (numbers.mode k) ≡ true
+    pub collide : (p : Place) (j k : Kind) → accesses.collide j k ≡ true
+        → collide (numbers.mode p j) (numbers.mode p k) ≡ true
 
   abbrev pub step : Step
   step = record { agent = x; number = n }
@@ -69,7 +70,7 @@ module _ {State Agent Label Place Kind : Type 0} (m : Agents State Agent Label) 
 
   abbrev pub AreCovered : Check → Table m accesses → Type 0
   AreCovered c table = (p : Place) (k : Kind) (a : Agent)
-      → IsCovered m numbers (f ∷ entries) (accesses_at c (numbers.place p)) (numbers.mode k) a (table p k a)
+      → IsCovered m numbers (f ∷ entries) (accesses_at c (numbers.place p)) (numbers.mode p k) a (table p k a)
 
   abbrev pub AreBegun : Table m accesses → Type 0
   AreBegun table = (p : Place) (k : Kind) (a : Agent) → table p k a ≤ bound (numbers.agent a)
@@ -91,17 +92,20 @@ module _ {State Agent Label Place Kind : Type 0} (m : Agents State Agent Label) 
   -- an access collides with nothing that the step does not know of
   permits : IsNext → (c : Check) (access : PlaceAccess ℕ Mode) (table : Table m accesses) → AreKept c
       → AreCovered c table → first_race x clock access.mode (accesses_at c access.place) ≡ None
-      → (p : Place) (j k : Kind) (a : Agent) → access.place ≡ numbers.place p → access.mode ≡ numbers.mode k
+      → (p : Place) (j k : Kind) (a : Agent) → access.place ≡ numbers.place p
+      → covers access.mode (numbers.mode p k) ≡ true
       → accesses.collide j k ≡ true → table p j a ≤ counted numbers clock a
-  permits s c access table kept covered none p j k a here mode clash =
+  permits s c access table kept covered none p j k a here wide clash =
       elim (covered p j a) as (λ _. table p j a ≤ counted numbers clock a) [
         | inl zero_steps ↦ omega (arith, zero_steps)
         | inr (other, has, over, tells) ↦
             let there : Contains (accesses_at c access.place) other =
             subst (λ (place : ℕ). Contains (accesses_at c place) other) (sym here) has in
             let hits : collide other.mode access.mode ≡ true =
-            subst (λ (k : Mode). collide other.mode k ≡ true) (sym mode)
-            (covers-collide other.mode (numbers.mode j) (numbers.mode k) over (s.collide j k clash)) in
+            both-ways other.mode access.mode
+            ∙ covers-collide access.mode (numbers.mode p k) other.mode wide
+            (both-ways (numbers.mode p k) other.mode
+            ∙ covers-collide other.mode (numbers.mode p j) (numbers.mode p k) over (s.collide p j k clash)) in
             let calm : races x clock access.mode other ≡ false =
             found-none (races x clock access.mode) (accesses_at c access.place) other none there in
             tells clock (closed-all s)
@@ -112,7 +116,7 @@ module _ {State Agent Label Place Kind : Type 0} (m : Agents State Agent Label) 
   -- the table with an access of the step
   abbrev hits : PlaceAccess ℕ Mode → Place → Kind → Agent → Bool
   hits access p k a =
-      (access.place == numbers.place p) && (covers access.mode (numbers.mode k) && (numbers.agent a == x))
+      (access.place == numbers.place p) && (covers access.mode (numbers.mode p k) && (numbers.agent a == x))
 
   abbrev with_access : PlaceAccess ℕ Mode → Table m accesses → Table m accesses
   with_access access table p k a = cond (hits access p k a) n (table p k a)
@@ -125,17 +129,17 @@ module _ {State Agent Label Place Kind : Type 0} (m : Agents State Agent Label) 
   -- what a hit means
   record IsHit (access : PlaceAccess ℕ Mode) (p : Place) (k : Kind) (a : Agent) : Type 0 where
     here : access.place ≡ numbers.place p
-    over : covers access.mode (numbers.mode k) ≡ true
+    over : covers access.mode (numbers.mode p k) ≡ true
     own : numbers.agent a ≡ x
 
   is_hit : (access : PlaceAccess ℕ Mode) (p : Place) (k : Kind) (a : Agent) → hits access p k a ≡ true
       → IsHit access p k a
   is_hit access p k a h =
       let first : (access.place == numbers.place p ≡ true)
-      × ((covers access.mode (numbers.mode k) && (numbers.agent a == x)) ≡ true) =
-      both (access.place == numbers.place p) (covers access.mode (numbers.mode k) && (numbers.agent a == x)) h in
-      let rest : (covers access.mode (numbers.mode k) ≡ true) × ((numbers.agent a == x) ≡ true) =
-      both (covers access.mode (numbers.mode k)) (numbers.agent a == x) first.1 in
+      × ((covers access.mode (numbers.mode p k) && (numbers.agent a == x)) ≡ true) =
+      both (access.place == numbers.place p) (covers access.mode (numbers.mode p k) && (numbers.agent a == x)) h in
+      let rest : (covers access.mode (numbers.mode p k) ≡ true) × ((numbers.agent a == x) ≡ true) =
+      both (covers access.mode (numbers.mode p k)) (numbers.agent a == x) first.1 in
       record {
         here = eqb-true access.place (numbers.place p) first.0;
         over = rest.0;
@@ -186,11 +190,12 @@ module _ {State Agent Label Place Kind : Type 0} (m : Agents State Agent Label) 
       → AreCovered d (with_access access table)
   covered_more s c d access table kept covered noted others p k a =
       elim (test (hits access p k a)) as
-      (λ _. IsCovered m numbers (f ∷ entries) (accesses_at d (numbers.place p)) (numbers.mode k) a
+      (λ _. IsCovered m numbers (f ∷ entries) (accesses_at d (numbers.place p)) (numbers.mode p k) a
       (with_access access table p k a)) [
         | inl hit ↦
             let is : IsHit access p k a = is_hit access p k a hit in
-            subst (λ (b : Bool). IsCovered m numbers (f ∷ entries) (accesses_at d (numbers.place p)) (numbers.mode k) a
+            subst (λ (b : Bool).
+            IsCovered m numbers (f ∷ entries) (accesses_at d (numbers.place p)) (numbers.mode p k) a
             (cond b n (table p k a))) (sym hit)
             (inr (
               record { mode = access.mode; step = step },
@@ -200,14 +205,15 @@ module _ {State Agent Label Place Kind : Type 0} (m : Agents State Agent Label) 
               λ other closed counts. subst (λ (i : ℕ). n ≤ slice_index other i) (sym is.own) counts,
             ))
         | inr miss ↦
-            subst (λ (b : Bool). IsCovered m numbers (f ∷ entries) (accesses_at d (numbers.place p)) (numbers.mode k) a
+            subst (λ (b : Bool).
+            IsCovered m numbers (f ∷ entries) (accesses_at d (numbers.place p)) (numbers.mode p k) a
             (cond b n (table p k a))) (sym miss)
             (elim (same-or-not (numbers.place p) access.place) as
-            (λ _. IsCovered m numbers (f ∷ entries) (accesses_at d (numbers.place p)) (numbers.mode k) a
+            (λ _. IsCovered m numbers (f ∷ entries) (accesses_at d (numbers.place p)) (numbers.mode p k) a
             (table p k a)) [
               | inr away ↦
                   subst (λ (list : List Access).
-                  IsCovered m numbers (f ∷ entries) list (numbers.mode k) a (table p k a))
+                  IsCovered m numbers (f ∷ entries) list (numbers.mode p k) a (table p k a))
                   (sym (others (numbers.place p) away)) (covered p k a)
               | inl here ↦ at_place s c d access table kept noted p k a here (covered p k a)
             ])
@@ -217,21 +223,22 @@ module _ {State Agent Label Place Kind : Type 0} (m : Agents State Agent Label) 
           → NotesAccess clock (record { mode = access.mode; step = step }) (accesses_at c access.place)
           (accesses_at d access.place)
           → (p : Place) (k : Kind) (a : Agent) → numbers.place p ≡ access.place
-          → IsCovered m numbers (f ∷ entries) (accesses_at c (numbers.place p)) (numbers.mode k) a (table p k a)
-          → IsCovered m numbers (f ∷ entries) (accesses_at d (numbers.place p)) (numbers.mode k) a (table p k a)
+          → IsCovered m numbers (f ∷ entries) (accesses_at c (numbers.place p)) (numbers.mode p k) a (table p k a)
+          → IsCovered m numbers (f ∷ entries) (accesses_at d (numbers.place p)) (numbers.mode p k) a (table p k a)
       at_place s c d access table kept noted p k a here (inl none) = inl none
       at_place s c d access table kept noted p k a here (inr (old, has, over, tells)) =
           let there : Contains (accesses_at c access.place) old =
           subst (λ (place : ℕ). Contains (accesses_at c place) old) here has in
           elim (noted.kept old there) as
-          (λ _. IsCovered m numbers (f ∷ entries) (accesses_at d (numbers.place p)) (numbers.mode k) a (table p k a)) [
+          (λ _. IsCovered m numbers (f ∷ entries) (accesses_at d (numbers.place p)) (numbers.mode p k) a
+          (table p k a)) [
             | inl still ↦
                 inr (old, subst (λ (place : ℕ). Contains (accesses_at d place) old) (sym here) still, over, tells)
             | inr replaced ↦ inr (
               record { mode = access.mode; step = step },
               subst (λ (place : ℕ). Contains (accesses_at d place) (record { mode = access.mode; step = step }))
                   (sym here) noted.noted,
-              covers-trans access.mode old.mode (numbers.mode k) replaced.covered over,
+              covers-trans access.mode old.mode (numbers.mode p k) replaced.covered over,
               new_tells s (record { mode = access.mode; step = step }) refl a (table p k a)
                   (tells clock (closed-all s) (known s old (kept access.place old there) replaced.known)),
             )
@@ -259,9 +266,9 @@ module _ {State Agent Label Place Kind : Type 0} (m : Agents State Agent Label) 
     pub covered : AreCovered c (tabled done table)
     pub begun : AreBegun (tabled done table)
     pub grows : (p : Place) (k : Kind) (a : Agent) → table p k a ≤ tabled done table p k a
-    pub notes : (p : Place) (k : Kind) (a : Agent) → HasAccess done (numbers.place p) (numbers.mode k)
+    pub notes : (p : Place) (k : Kind) (a : Agent) → HasCover done (numbers.place p) (numbers.mode p k)
         → numbers.agent a ≡ x → n ≤ tabled done table p k a
-    pub permits : (p : Place) (j k : Kind) (a : Agent) → HasAccess done (numbers.place p) (numbers.mode k)
+    pub permits : (p : Place) (j k : Kind) (a : Agent) → HasCover done (numbers.place p) (numbers.mode p k)
         → accesses.collide j k ≡ true → table p j a ≤ counted numbers clock a
 
   others_same : (c d : Check) (access : PlaceAccess ℕ Mode) → IsAccessed step access c d
@@ -271,14 +278,14 @@ module _ {State Agent Label Place Kind : Type 0} (m : Agents State Agent Label) 
       ∙ get_or-set_other c.places access.place place (accesses_at d access.place) [] away
 
   hit : (access : PlaceAccess ℕ Mode) (table : Table m accesses) (p : Place) (k : Kind) (a : Agent)
-      → access.place ≡ numbers.place p → access.mode ≡ numbers.mode k → numbers.agent a ≡ x
+      → access.place ≡ numbers.place p → covers access.mode (numbers.mode p k) ≡ true → numbers.agent a ≡ x
       → with_access access table p k a ≡ n
-  hit access table p k a here mode own =
+  hit access table p k a here wide own =
       ap (λ (b : Bool). cond b n (table p k a))
-      (both-true (access.place == numbers.place p) (covers access.mode (numbers.mode k) && (numbers.agent a == x))
+      (both-true (access.place == numbers.place p) (covers access.mode (numbers.mode p k) && (numbers.agent a == x))
       (eq-eqb access.place (numbers.place p) here)
-      (both-true (covers access.mode (numbers.mode k)) (numbers.agent a == x)
-      (subst (λ (j : Mode). covers access.mode j ≡ true) mode (covers-self access.mode))
+      (both-true (covers access.mode (numbers.mode p k)) (numbers.agent a == x)
+      wide
       (eq-eqb (numbers.agent a) x own)))
 
   pub accessed : IsNext → (done : List (PlaceAccess ℕ Mode)) (c d : Check) (table : Table m accesses)

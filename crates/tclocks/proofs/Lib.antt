@@ -6,14 +6,22 @@ pub mod ModeLemmas
 pub mod Lists
 -- what is kept of a place
 pub mod Noting
+-- what is kept of a place without a list
+pub mod Briefly
+-- what is kept of all places
+pub mod Keeping
 -- joins
 pub mod Joining
 -- accesses
 pub mod Accessing
+-- lists of accesses
+pub mod Telling
 -- a step
 pub mod Stepping
 -- slots that are written, and what is added
 pub mod Standing
+-- covered accesses
+pub mod Covering
 -- what has passed
 pub mod Passing
 -- numbers

@@ -1,17 +1,17 @@
 -- What is kept of a place behind an access.
-use Rattle.std.proofs.Common.{◌≡◌, ◌≢◌, ℕ, ◌<◌, ◌⊎◌, inl, inr, Bool, true, false, not, cond, ◌&&◌, ◌||◌, List, [], ◌∷◌}
-use Rattle.std.proofs.Common.{◌++◌, ap, refl, sym, ◌∙◌, subst, arith}
-use Rattle.std.proofs.Common.{None, Contains, eqb, filter, true≢false}
-use Rattle.std.proofs.lemmas.Bool.{eqb-true}
-use Rattle.std.proofs.lemmas.List.Elements.{Contains-append_left, Contains-push, Contains-push_cases}
+use Rattle.std.proofs.Common.{◌≡◌, ℕ, ◌<◌, ◌⊎◌, inl, inr, Bool, true, false, not, cond, ◌&&◌, ◌||◌, ◌==◌, List, []}
+use Rattle.std.proofs.Common.{◌∷◌, ◌++◌, ap, refl, sym, ◌∙◌, subst, arith, nat_le, slice_index}
+use Rattle.std.proofs.Common.{None, Some, Contains, eqb, filter, find, true≢false}
+use Rattle.std.proofs.lemmas.Bool.{eqb-true, eq-eqb}
+use Rattle.std.proofs.lemmas.List.Elements.{Contains-append_left}
+use Rattle.std.proofs.lemmas.List.Elements.{Contains-push, Contains-push_cases}
 use Rattle.tclocks.specs.declared.mode.Mode.{Mode}
-use Rattle.tclocks.specs.declared.mode.Mode.TheVariants.{Looks, Puts, Commutes}
+use Rattle.tclocks.specs.declared.step.Step.{Step}
 use Rattle.tclocks.specs.declared.step.Access.{Access}
-use Rattle.tclocks.specs.Modes.{commute, collide, covers}
-use Rattle.tclocks.specs.Places.{knows_of, races, first_race, NotesAccess, IsReplaced}
-use Rattle.tclocks.specs.Kept.{access_of, stays}
-use Rattle.tclocks.proofs.Lists.{test, contains-cons, contains-first, contains-rest, found-none}
-use Rattle.tclocks.proofs.ModeLemmas.{commute-comm, collide-puts}
+use Rattle.tclocks.specs.Modes.{collide, covers}
+use Rattle.tclocks.specs.Places.{knows_of, races, is_replaced, NotesAccess, IsReplaced}
+use Rattle.tclocks.specs.Kept.{access_by}
+use Rattle.tclocks.proofs.Lists.{test, contains-cons, contains-first, contains-rest}
 
 -- what a filter keeps was there
 from-filter : (p : Access → Bool) (xs : List Access) (y : Access) → Contains (filter p xs) y → Contains xs y
@@ -44,71 +44,98 @@ into-filter p (x ∷ xs) y has ok =
       ]
     ]
 
--- what does not stay commutes with the new access, and is known
-not-stays : (a b : Bool) → (not a || not b) ≡ false → (a ≡ true) × (b ≡ true)
-not-stays true true h = (refl, refl)
-not-stays true false h = absurd (true≢false h)
-not-stays false b h = absurd (true≢false h)
+-- what is replaced is covered and known
+both-hold : (a b : Bool) → (a && b) ≡ true → (a ≡ true) × (b ≡ true)
+both-hold true true h = (refl, refl)
+both-hold true false h = absurd (true≢false (sym h))
+both-hold false b h = absurd (true≢false (sym h))
 
-covers-commute : (j k : Mode) → j ≢ Puts → commute k j ≡ true → covers j k ≡ true
-covers-commute Looks k other h = commute-comm Looks k ∙ h
-covers-commute Puts k other h = absurd (other refl)
-covers-commute (Commutes kind) k other h = commute-comm (Commutes kind) k ∙ h
+not-false : (a : Bool) → not a ≡ false → a ≡ true
+not-false true h = refl
+not-false false h = absurd (true≢false h)
 
--- an access beside those that stay
-pub stays-notes : (clock : List ℕ) (new : Access) (before : List Access) → new.mode ≢ Puts
-    → NotesAccess clock new before (filter (stays clock new) before ++ new ∷ [])
-stays-notes clock new before other = record {
-  noted = Contains-push (filter (stays clock new) before) new;
-  kept = λ old has. elim (test (stays clock new old)) as
-      (λ _. Contains (filter (stays clock new) before ++ new ∷ []) old ⊎ IsReplaced clock new old) [
-        | inl pass ↦ inl (Contains-append_left (filter (stays clock new) before) (new ∷ []) old
-            (into-filter (stays clock new) before old has pass))
-        | inr fail ↦
-            let two : (commute old.mode new.mode ≡ true) × (knows_of new.step.agent clock old.step ≡ true) =
-            not-stays (commute old.mode new.mode) (knows_of new.step.agent clock old.step) fail in
-            inr (record { covered = covers-commute new.mode old.mode other two.0; known = two.1 })
+pub replaced : (clock : List ℕ) (new old : Access) → is_replaced clock new old ≡ true → IsReplaced clock new old
+replaced clock new old h =
+    let two : (covers new.mode old.mode ≡ true) × (knows_of new.step.agent clock old.step ≡ true) =
+    both-hold (covers new.mode old.mode) (knows_of new.step.agent clock old.step) h in
+    record { covered = two.0; known = two.1 }
+
+-- an access beside those that it does not replace
+abbrev pub stays_beside : List ℕ → Access → Access → Bool
+stays_beside clock new old = not (is_replaced clock new old)
+
+pub stays-notes : (clock : List ℕ) (new : Access) (before : List Access)
+    → NotesAccess clock new before (filter (λ old. not (is_replaced clock new old)) before ++ new ∷ [])
+stays-notes clock new before = record {
+  noted = Contains-push (filter (stays_beside clock new) before) new;
+  kept = λ old has. elim (test (stays_beside clock new old)) as
+      (λ _. Contains (filter (stays_beside clock new) before ++ new ∷ []) old ⊎ IsReplaced clock new old) [
+        | inl pass ↦ inl (Contains-append_left (filter (stays_beside clock new) before) (new ∷ []) old
+            (into-filter (stays_beside clock new) before old has pass))
+        | inr fail ↦ inr (replaced clock new old (not-false (is_replaced clock new old) fail))
       ];
-  only = λ old has. elim (Contains-push_cases (filter (stays clock new) before) new old has) as
+  only = λ old has. elim (Contains-push_cases (filter (stays_beside clock new) before) new old has) as
       (λ _. (old ≡ new) ⊎ Contains before old) [
-        | inl kept ↦ inr (from-filter (stays clock new) before old kept)
+        | inl kept ↦ inr (from-filter (stays_beside clock new) before old kept)
         | inr e ↦ inl (sym e)
       ];
 }
 
--- what collides and does not race is known
-calm-known : (a b : Bool) → (a && not b) ≡ false → a ≡ true → b ≡ true
-calm-known true true h c = refl
-calm-known true false h c = absurd (true≢false h)
-calm-known false b h c = absurd (true≢false (sym c))
+-- where no access races, none is found
+pub none-found : (p : Access → Bool) (xs : List Access) → ((x : Access) → Contains xs x → p x ≡ false)
+    → find p xs ≡ None
+none-found p [] h = refl
+none-found p (x ∷ xs) h =
+    subst (λ (b : Bool). cond b (Some x) (find p xs) ≡ None) (sym (h x (contains-first x xs)))
+    (none-found p xs (λ y has. h y (contains-rest x xs y has)))
 
--- an access that puts a value replaces all others
-pub puts-notes : (clock : List ℕ) (new : Access) (before : List Access) → new.mode ≡ Puts → 0 < new.step.number
-    → first_race new.step.agent clock new.mode before ≡ None
-    → NotesAccess clock new before (access_of Puts new.step ++ [])
-puts-notes clock new before mode some none =
-    subst (λ (list : List Access). NotesAccess clock new before list) (sym alone) record {
-      noted = contains-first new [];
-      kept = λ old has. (let calm : races new.step.agent clock new.mode old ≡ false =
-          found-none (races new.step.agent clock new.mode) before old none has in
-          inr (record {
-            covered = subst (λ (k : Mode). covers k old.mode ≡ true) (sym mode) refl;
-            known = calm-known (collide old.mode new.mode) (knows_of new.step.agent clock old.step) calm
-                (subst (λ (k : Mode). collide old.mode k ≡ true) (sym mode) (collide-puts old.mode));
-          }));
-      only = λ old has. elim (contains-cons new [] old has) as (λ _. (old ≡ new) ⊎ Contains before old) [
-        | inl e ↦ inl (sym e)
-        | inr fail ↦ absurd (omega (arith, fail.1))
-      ];
-    }
-  where
-    not-none : (n : ℕ) → 0 < n → eqb n 0 ≡ false
-    not-none n h = elim (test (eqb n 0)) as (λ _. eqb n 0 ≡ false) [
-      | inl e ↦ absurd (omega (arith, eqb-true n 0 e, h))
-      | inr e ↦ e
-    ]
+-- what is known does not race
+known-calm : (a b : Bool) → b ≡ true → (a && not b) ≡ false
+known-calm true true h = refl
+known-calm true false h = absurd (true≢false (sym h))
+known-calm false b h = refl
 
-    alone : access_of Puts new.step ++ [] ≡ new ∷ []
-    alone = ap (λ (b : Bool). cond b [] (record { mode = Puts; step = new.step } ∷ []) ++ [])
-        (not-none new.step.number some)
-        ∙ ap (λ (k : Mode). let a : Access = record { mode = k; step = new.step } in a ∷ []) (sym mode)
+pub calm : (agent : ℕ) (clock : List ℕ) (mode : Mode) (access : Access) → knows_of agent clock access.step ≡ true
+    → races agent clock mode access ≡ false
+calm agent clock mode access h = known-calm (collide access.mode mode) (knows_of agent clock access.step) h
+
+left-true : (a b : Bool) → a ≡ true → (a || b) ≡ true
+left-true true b h = refl
+left-true false b h = absurd (true≢false (sym h))
+
+-- an agent knows of its own steps
+pub own-known : (agent : ℕ) (clock : List ℕ) (step : Step) → step.agent ≡ agent → knows_of agent clock step ≡ true
+own-known agent clock step e =
+    left-true (step.agent == agent) (nat_le step.number (slice_index clock step.agent)) (eq-eqb step.agent agent e)
+
+-- an access that is kept by its agent and number
+abbrev by_step : Mode → ℕ → ℕ → Access
+by_step mode agent n = record { mode = mode; step = record { agent = agent; number = n } }
+
+contains-nothing : (x : Access) → Contains [] x → ⊥
+contains-nothing x h = omega (arith, h.1)
+
+contains-only : (y x : Access) → Contains (y ∷ []) x → x ≡ y
+contains-only y x h = elim (contains-cons y [] x h) as (λ _. x ≡ y) [
+  | inl e ↦ sym e
+  | inr rest ↦ absurd (contains-nothing x rest)
+]
+
+pub in-by : (mode : Mode) (agent n : ℕ) (x : Access) → Contains (access_by mode agent n) x → x ≡ by_step mode agent n
+in-by mode agent n x has = elim (test (eqb n 0)) as (λ _. x ≡ by_step mode agent n) [
+  | inl none ↦ absurd (contains-nothing x
+      (subst (λ (b : Bool). Contains (cond b [] (by_step mode agent n ∷ [])) x) none has))
+  | inr some ↦ contains-only (by_step mode agent n) x
+      (subst (λ (b : Bool). Contains (cond b [] (by_step mode agent n ∷ [])) x) some has)
+]
+
+not-none : (n : ℕ) → 0 < n → eqb n 0 ≡ false
+not-none n h = elim (test (eqb n 0)) as (λ _. eqb n 0 ≡ false) [
+  | inl e ↦ absurd (omega (arith, eqb-true n 0 e, h))
+  | inr e ↦ e
+]
+
+pub by-in : (mode : Mode) (agent n : ℕ) → 0 < n → Contains (access_by mode agent n) (by_step mode agent n)
+by-in mode agent n some =
+    subst (λ (b : Bool). Contains (cond b [] (by_step mode agent n ∷ [])) (by_step mode agent n))
+    (sym (not-none n some)) (contains-first (by_step mode agent n) [])

@@ -181,16 +181,16 @@ module _ {State Agent Label Place Kind : Type 0} (m : Agents State Agent Label) 
       ]
 
   covered-more : (p : Place) (k : Kind) (a : Agent)
-      → IsCovered m more entries (accesses_at check (more.place p)) (more.mode k) a (table p k a)
+      → IsCovered m more entries (accesses_at check (more.place p)) (more.mode p k) a (table p k a)
   covered-more p k a = elim (seen.covered p k a) as
-      (λ _. IsCovered m more entries (accesses_at check (more.place p)) (more.mode k) a (table p k a)) [
+      (λ _. IsCovered m more entries (accesses_at check (more.place p)) (more.mode p k) a (table p k a)) [
         | inl none ↦ inl none
         | inr (access, has, over, tells) ↦ elim (below-or-not (numbers.place p) (length check.places)) as
-            (λ _. IsCovered m more entries (accesses_at check (more.place p)) (more.mode k) a (table p k a)) [
+            (λ _. IsCovered m more entries (accesses_at check (more.place p)) (more.mode p k) a (table p k a)) [
               | inl old ↦ inr (
                 access,
                 subst (λ (place : ℕ). Contains (accesses_at check place) access) (sym (extends.places p old)) has,
-                subst (λ (mode : Mode). covers access.mode mode ≡ true) (sym (extends.modes k)) over,
+                subst (λ (mode : Mode). covers access.mode mode ≡ true) (sym (extends.modes p k)) over,
                 tells-more access p k a tells,
               )
               | inr new ↦
@@ -210,9 +210,9 @@ module _ {State Agent Label Place Kind : Type 0} (m : Agents State Agent Label) 
   renumbered = record {
     numbered = record {
       same = seen.numbered.same;
-      collide = λ j k h. subst (λ (mode : Mode). collide mode (more.mode k) ≡ true) (sym (extends.modes j))
-          (subst (λ (mode : Mode). collide (numbers.mode j) mode ≡ true) (sym (extends.modes k))
-          (seen.numbered.collide j k h));
+      collide = λ p j k h. subst (λ (mode : Mode). collide mode (more.mode p k) ≡ true) (sym (extends.modes p j))
+          (subst (λ (mode : Mode). collide (numbers.mode p j) mode ≡ true) (sym (extends.modes p k))
+          (seen.numbered.collide p j k h));
       apart = λ a b h e. elim (below-or-not (numbers.agent a) count) as (λ _. a ≡ b) [
         | inr new ↦ let far : count ≤ more.agent a = extends.new_agents a new in absurd (omega (arith, h, far))
         | inl old ↦ elim (below-or-not (numbers.agent b) count) as (λ _. a ≡ b) [

@@ -116,7 +116,7 @@ module _ {State Agent Label Place Kind : Type 0} (m : Agents State Agent Label) 
       kept = λ place access has. seen.kept place access
           (subst (λ (list : List Access). Contains list access) (same place) has);
       covered = λ p k a. subst
-          (λ (list : List Access). IsCovered m numbers entries list (numbers.mode k) a (table p k a))
+          (λ (list : List Access). IsCovered m numbers entries list (numbers.mode p k) a (table p k a))
           (sym (same (numbers.place p))) (seen.covered p k a);
     }
 

@@ -13,7 +13,7 @@ use Rattle.tclocks.specs.Clocks.{raised}
 use Rattle.tclocks.specs.Checks.{Check, clock_of, clock_in, accesses_at, steps_of, next_step}
 use Rattle.tclocks.specs.Numbers.{Numbers}
 use Rattle.tclocks.specs.Followed.{EachOf, OneOf, AreAccessed, IsStep, counted, IsWithin, entry_of, IsClosed}
-use Rattle.tclocks.specs.Followed.{IsClockOf, IsClockBy, IsCovered, Follows, IsTold}
+use Rattle.tclocks.specs.Followed.{IsClockOf, IsClockBy, IsCovered, Follows, IsToldByCover}
 use Rattle.tclocks.proofs.Lists.{each-more}
 use Rattle.tclocks.proofs.Joining.{joined_all, with_clock, clock_of-same, clock_of-other, with_all_joined-clock}
 use Rattle.tclocks.proofs.Joining.{joined_all-one, joined_all-grows, joined_all-below, joined_all-long, raised-same}
@@ -41,7 +41,7 @@ module _ {State Agent Label Place Kind : Type 0} (m : Agents State Agent Label) 
     (numbers : Numbers Agent Place Kind) (entries : List (Entry Agent Label)) (table : Table m accesses)
     (writers : ℕ → List Label) (before after : Check) (agent : ℕ) (slots : List ℕ) (done : List (PlaceAccess ℕ Mode))
     (label : Label) (seen : Follows m accesses numbers entries table writers before)
-    (told : IsTold m accesses numbers before writers agent slots done label)
+    (told : IsToldByCover m accesses numbers before writers agent slots done label)
     (is : IsStep agent slots done before after) where
   -- the clock of the agent before, and behind the joins
   abbrev old : List ℕ
@@ -146,7 +146,7 @@ module _ {State Agent Label Place Kind : Type 0} (m : Agents State Agent Label) 
       (λ place access has. (let few : access.step.number ≤ steps_of before access.step.agent =
       seen.kept place access has in omega (arith, few, steps-grow access.step.agent)))
       (λ p k a. elim (seen.covered p k a) as
-      (λ _. IsCovered m numbers (f ∷ entries) (accesses_at middle (numbers.place p)) (numbers.mode k) a
+      (λ _. IsCovered m numbers (f ∷ entries) (accesses_at middle (numbers.place p)) (numbers.mode p k) a
       (table p k a)) [
         | inl none ↦ inl none
         | inr (access, has, over, tells) ↦ inr (access, has, over, λ clock closed. tells clock closed.1)

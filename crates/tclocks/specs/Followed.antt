@@ -33,6 +33,11 @@ AreAccessed step [] before after = after ≡ before
 AreAccessed step (access ∷ rest) before after =
     (between : Check) × IsAccessed step access before between × AreAccessed step rest between after
 
+-- one of these accesses is to the place, and what collides with one of this mode collides with it
+abbrev pub HasCover : List (PlaceAccess ℕ Mode) → ℕ → Mode → Type 0
+HasCover [] place mode = ⊥
+HasCover (x ∷ xs) place mode = ((x.place ≡ place) × (covers x.mode mode ≡ true)) ⊎ HasCover xs place mode
+
 -- a step of an agent: it begins, joins the clocks in these slots, and makes these accesses
 abbrev pub IsStep : ℕ → List ℕ → List (PlaceAccess ℕ Mode) → Check → Check → Type 0
 IsStep agent slots done before after =
@@ -112,7 +117,7 @@ module _ {State Agent Label Place Kind : Type 0} (m : Agents State Agent Label) 
     pub kept : (place : ℕ) (access : Access) → Contains (accesses_at check place) access
         → access.step.number ≤ steps_of check access.step.agent
     pub covered : (p : Place) (k : Kind) (a : Agent)
-        → IsCovered m numbers entries (accesses_at check (numbers.place p)) (numbers.mode k) a (table p k a)
+        → IsCovered m numbers entries (accesses_at check (numbers.place p)) (numbers.mode p k) a (table p k a)
 
   -- a step of the machine was told to the check: its agent, slots that were written by steps that lead to it, and all
   -- of its accesses
@@ -122,4 +127,13 @@ module _ {State Agent Label Place Kind : Type 0} (m : Agents State Agent Label) 
     pub added : agent < length check.clocks
     pub leads : EachOf (λ slot. EachOf (λ z. m.leads z label ≡ true) (writers slot)) slots
     pub all : (p : Place) (k : Kind) → HasAccess (accesses.of label) p k
-        → HasAccess done (numbers.place p) (numbers.mode k)
+        → HasAccess done (numbers.place p) (numbers.mode p k)
+
+  -- so it was, where each of its accesses is covered
+  pub record IsToldByCover (check : Check) (writers : ℕ → List Label) (agent : ℕ) (slots : List ℕ)
+      (done : List (PlaceAccess ℕ Mode)) (label : Label) : Type 0 where
+    pub by : numbers.agent (m.agent_of label) ≡ agent
+    pub added : agent < length check.clocks
+    pub leads : EachOf (λ slot. EachOf (λ z. m.leads z label ≡ true) (writers slot)) slots
+    pub all : (p : Place) (k : Kind) → HasAccess (accesses.of label) p k
+        → HasCover done (numbers.place p) (numbers.mode p k)

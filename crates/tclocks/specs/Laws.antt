@@ -9,7 +9,7 @@ use Rattle.tclocks.specs.declared.mode.Mode.{Mode}
 use Rattle.tclocks.specs.Checks.{Check, nothing_checked, with_agent, with_slot, with_places, with_handed, with_added}
 use Rattle.tclocks.specs.Checks.{with_cleared}
 use Rattle.tclocks.specs.Numbers.{Numbers, AreNumbers, Extends}
-use Rattle.tclocks.specs.Followed.{IsStep, entry_of, Follows, IsTold}
+use Rattle.tclocks.specs.Followed.{IsStep, entry_of, Follows, IsTold, IsToldByCover}
 
 -- slots in which one was written by these steps
 abbrev pub with_writers : {Label : Type 0} → ℕ → List Label → (ℕ → List Label) → ℕ → List Label
@@ -36,6 +36,17 @@ StepsAreChecked State Agent Label Place Kind =
     (slots : List ℕ) (done : List (PlaceAccess ℕ Mode)) (label : Label)
     → HasSeen m accesses numbers entries writers before
     → IsTold m accesses numbers before writers agent slots done label
+    → IsStep agent slots done before after
+    → HasSeen m accesses numbers (entry_of m numbers label after ∷ entries) writers after
+
+-- so is one whose accesses were told by others that cover them
+abbrev pub StepsAreCheckedByCover : (State Agent Label Place Kind : Type 0) → Type 0
+StepsAreCheckedByCover State Agent Label Place Kind =
+    (m : Agents State Agent Label) (accesses : Accesses Place Kind Label) (numbers : Numbers Agent Place Kind)
+    (entries : List (Entry Agent Label)) (writers : ℕ → List Label) (before after : Check) (agent : ℕ)
+    (slots : List ℕ) (done : List (PlaceAccess ℕ Mode)) (label : Label)
+    → HasSeen m accesses numbers entries writers before
+    → IsToldByCover m accesses numbers before writers agent slots done label
     → IsStep agent slots done before after
     → HasSeen m accesses numbers (entry_of m numbers label after ∷ entries) writers after
 

@@ -20,6 +20,9 @@ abbrev pub first_race : ℕ → List ℕ → Mode → List Access → Option Acc
 first_race agent clock mode accesses = find (races agent clock mode) accesses
 
 -- an access need not be kept any more: the new one collides with all that it collides with, and knows of it
+abbrev pub is_replaced : List ℕ → Access → Access → Bool
+is_replaced clock new access = covers new.mode access.mode && knows_of new.step.agent clock access.step
+
 pub record IsReplaced (clock : List ℕ) (new access : Access) : Type 0 where
   pub covered : covers new.mode access.mode ≡ true
   pub known : knows_of new.step.agent clock access.step ≡ true

@@ -1,7 +1,14 @@
 //! What the check of a run proves of it, each law as the contract of a function that does nothing.
 
 ghost use Rattle.tclocks.specs.Laws.{ChecksBegin, StepsAreChecked, ClocksAreHandedOn, SlotsMayBeCleared, ChecksMayGrow};
+ghost use Rattle.tclocks.specs.Laws.{StepsAreCheckedByCover};
+ghost use Rattle.tclocks.specs.Modes.{AreModes};
 ghost use Rattle.tclocks.specs.Laws.{NumbersMayBeGiven, SeenStepsHaveNoRace};
+
+/// To collide goes both ways. A mode covers another one exactly if all that collides with that one collides with it.
+pub fn modes_collide_and_cover()
+    ensures { AreModes }
+{}
 
 /// A check begins with no steps, of any machine.
 pub fn checks_begin<State, Agent, Label, Place, Kind>()
@@ -12,6 +19,11 @@ pub fn checks_begin<State, Agent, Label, Place, Kind>()
 /// were written by steps that lead to it are joined, and each of its accesses is permitted and noted.
 pub fn steps_are_checked<State, Agent, Label, Place, Kind>()
     ensures { StepsAreChecked State Agent Label Place Kind }
+{}
+
+/// So is a step of which fewer accesses were told, if each of its own is covered by one of these: a put is also a look.
+pub fn steps_are_checked_by_cover<State, Agent, Label, Place, Kind>()
+    ensures { StepsAreCheckedByCover State Agent Label Place Kind }
 {}
 
 /// After a step the clock of its agent may be handed on in a slot, or added to the clock there.

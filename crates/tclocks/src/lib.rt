@@ -2,20 +2,23 @@
 //!
 //! - `mode`, `step`: how a step accesses a place; a step by its agent and its number
 //! - `clock`: how many steps of each agent are known
-//! - `place`: the accesses of a place that later ones have to know of
+//! - `kept`, `access_list`: the accesses of a place that later ones have to know of, in 16 bytes or in a list
+//! - `places`: those of all places
 //! - `race_check`: the check of a run
 //! - `laws`: what passes the check has no race
 #![tactic(auto)]
 
+mod access_list;
 mod clock;
+mod kept;
 pub mod laws;
 pub mod mode;
-mod place;
+mod places;
 pub mod race_check;
 pub mod refusal;
 pub mod step;
 
 pub use mode::Mode;
 pub use race_check::RaceCheck;
-pub use refusal::Refusal;
-pub use step::{Access, Step};
+pub use refusal::{Refusal, RefusedAccess};
+pub use step::{Access, PlaceAccess, Step};

@@ -1,16 +1,18 @@
 //! The check of a run, in one pass.
 
-ghost use Rattle.std.specs.Prelude.{◌≡◌, ◌<◌, ◌++◌, [], replicate, IfErr, IfNone, IfSome, OnErr, OnOk, OnSome, length};
+ghost use Rattle.std.specs.Prelude.{◌≡◌, ◌<◌, ◌++◌, [], length, replicate, All, IfErr, IfNone, IfSome, OnErr, OnOk};
+ghost use Rattle.std.specs.Prelude.{OnSome};
 ghost use Rattle.tclocks.specs.Checks.{accesses_at, begun, clock_of, next_step, nothing_checked, steps_of, IsAccessed};
 ghost use Rattle.tclocks.specs.Checks.{with_added, with_agent, with_cleared, with_handed, with_joined, with_places};
 ghost use Rattle.tclocks.specs.Checks.{with_slot};
-ghost use Rattle.tclocks.specs.Refusals.{IsDue};
+ghost use Rattle.tclocks.specs.Followed.{AreAccessed};
+ghost use Rattle.tclocks.specs.Refusals.{told, IsDue, IsRefusedAt};
 
 use crate::clock::Clock;
 use crate::mode::Mode;
-use crate::place::PlaceAccesses;
-use crate::refusal::Refusal;
-use crate::step::Step;
+use crate::places::Places;
+use crate::refusal::{Refusal, RefusedAccess};
+use crate::step::{PlaceAccess, Step};
 use std::alloc::{AllocError, Global};
 use std::marker::Model;
 
@@ -24,7 +26,7 @@ pub struct RaceCheck {
     alloc: Global,
     clocks: Vec<Clock>,
     slots: Vec<Clock>,
-    places: Vec<PlaceAccesses>,
+    places: Places,
 }
 
 impl Model for RaceCheck {
@@ -32,7 +34,7 @@ impl Model for RaceCheck {
 
     ghost Value = { Check };
 
-    ghost view = { λ c. record { clocks = c.clocks.items; slots = c.slots.items; places = c.places.items } };
+    ghost view = { λ c. record { clocks = c.clocks.items; slots = c.slots.items; places = c.places } };
 
     ghost invariant = { λ c. CountThemselves c.clocks.items };
 }
@@ -46,7 +48,7 @@ impl RaceCheck {
             alloc,
             clocks: Vec::new(alloc),
             slots: Vec::new(alloc),
-            places: Vec::new(alloc),
+            places: Places::new(alloc),
         }
     }
 
@@ -95,7 +97,7 @@ impl RaceCheck {
         ensures ok { OnOk result (self.new ≡ with_places count self.old) }
         ensures err { OnErr result (self.new ≡ self.old) }
     {
-        add_places_to(&mut self.places, count)
+        self.places.add(count)
     }
 
     /// The next step of an agent begins; nothing, where the agent has done as many steps as a check can count.
@@ -136,7 +138,27 @@ impl RaceCheck {
         ensures err { OnErr result (self.new ≡ self.old) }
     {
         let clock = &self.clocks[step.agent as usize];
-        self.places[place].access(self.alloc, clock, step, mode)
+        self.places.access(self.alloc, clock, place, step, mode)
+    }
+
+    /// Accesses of a step are noted one after another, as `access` says.
+    ///
+    /// # Errors
+    /// The first that is refused, by its index; those before it are noted.
+    pub fn access_all(&mut self, step: Step, accesses: &[PlaceAccess]) -> Result<(), RefusedAccess>
+        requires counted { 0 < step.number }
+        requires agent { step.agent < length self.old.clocks }
+        requires places { All (λ access. access.place < length self.old.places) accesses.now }
+        ensures ok { OnOk result (AreAccessed step (told accesses.now) self.old self.new) }
+        ensures refused { IfErr result
+            (λ refused. IsRefusedAt step (told accesses.now) refused self.old self.new) }
+    {
+        for (index, access) in accesses.iter().enumerate() {
+            if let Err(refusal) = self.access(step, access.place as usize, access.mode) {
+                return Err(RefusedAccess { index, refusal });
+            }
+        }
+        Ok(())
     }
 
     /// An agent's clock is handed on in a slot, in the place of the clock there.
@@ -166,16 +188,4 @@ impl RaceCheck {
     {
         self.slots[slot].clear();
     }
-}
-
-/// So many places more.
-fn add_places_to(places: &mut Vec<PlaceAccesses>, count: usize) -> Result<(), AllocError>
-    ensures ok { OnOk result (places.new.items ≡ places.old.items ++ replicate count []) }
-    ensures err { OnErr result (places.new.items ≡ places.old.items) }
-{
-    places.reserve(count)?;
-    for _ in 0..count {
-        places.push_reserved(PlaceAccesses::new());
-    }
-    Ok(())
 }

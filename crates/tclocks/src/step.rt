@@ -15,3 +15,10 @@ pub struct Access {
     pub mode: Mode,
     pub step: Step,
 }
+
+/// A place, by its number, and how a step accesses it.
+#[derive(Clone, Copy, Debug)]
+pub struct PlaceAccess {
+    pub place: u32,
+    pub mode: Mode,
+}
