@@ -28,7 +28,7 @@ all_are_told p =
       not_same_place = same_place-false;
     }
 
-all_are_careful : (p : Plan) → AreCareful (process_machine p)
+pub all_are_careful : (p : Plan) → AreCareful (process_machine p)
 all_are_careful p a =
     careful_walk p a (step_of p a) [] (record { changes = []; message = None; stops = None })
     ((step_of_safe p a).safe [] [] tt tt)
