@@ -1,5 +1,5 @@
 -- Actions that are performed on words, one part after another.
-use Rattle.std.proofs.Common.{◌≡◌, ℕ, refl, subst, sym, ap, ◌∙◌, ◌%◌, arith, Bool, true, false}
+use Rattle.std.proofs.Common.{◌≡◌, ℕ, refl, subst, sym, ◌∙◌, ◌%◌, arith, Bool, true, false}
 use Rattle.std.proofs.Common.{List, [], ◌∷◌, Option, Result, Ok, Err, unwrap_or}
 use Rattle.std.specs.Prelude.{◌&&◌, is_some}
 use Rattle.std.specs.Int.{w32, from_le_bytes, to_le_bytes}
@@ -10,14 +10,15 @@ use Rattle.tword.specs.Touches.{Mode, Reads, byte_span}
 use Rattle.tword.specs.Actions.{Action, answer, breaks, requiring, touching_word, touching_byte, touching, writing_word}
 use Rattle.tword.specs.Actions.{writing_byte, copying, descheduling, reading_saved, setting_saved, run_from}
 use Rattle.tprocesses.specs.Changes.{are_known}
-use Rattle.tprocesses.specs.Parts.{Reason, Breaks, Part, gives}
+use Rattle.tprocesses.specs.Parts.{Reason, Breaks, Part, gives, ◌>>=◌}
 use Rattle.tprocesses.specs.Touching.{Site, part_of, touch, touch_word_at, write, write_word_at}
 use Rattle.tprocesses.specs.Performing.{Performed, perform, noted, bytes_if, is_next_known, after_next}
 use Rattle.tcertify.specs.declared.stored.Words.{Words}
 use Rattle.tcertify.specs.Running.{State, run_part}
-use Rattle.tcertify.specs.Words.{Runs, site_of, standing}
+use Rattle.tcertify.specs.Walked.{accesses}
+use Rattle.tcertify.specs.Words.{Runs, site_of}
 use Rattle.tcertify.specs.Instructions.{touch_byte, touches_nothing}
-use Rattle.tcertify.proofs.Running.{run_on, run_stops, runs_given, runs_on, runs_stop, through}
+use Rattle.tcertify.proofs.Running.{runs_as, runs_given, runs_on, runs_stop, through}
 
 pub and_true : (b : Bool) → (b && true) ≡ b
 and_true true = refl
@@ -29,44 +30,44 @@ module _ {A : Type 0} (s : Site) (known : List Bool) where
   read_on next cells = noted (are_known cells) (perform s known (next (from_le_bytes w32 (shown cells))))
 
   -- a word is read, and the action answers
-  pub reads_last : (w v : Words) (mode : Mode) (a : ℕ) (next : ℕ → Action A) (cells : Store) (p : Performed A)
-      → Runs (touch_word_at s mode a) w (Ok cells) w
-      → Runs (perform s known (next (from_le_bytes w32 (shown cells)))) w (Ok p) v
+  pub reads_last : (w t v : Words) (mode : Mode) (a : ℕ) (next : ℕ → Action A) (cells : Store) (p : Performed A)
+      → Runs (touch_word_at s mode a) w (Ok cells) t
+      → Runs (perform s known (next (from_le_bytes w32 (shown cells)))) t (Ok p) v
       → Runs (perform s known (touching_word mode a next)) w
       (Ok (record { value = p.value; known = are_known cells && p.known })) v
-  reads_last w v mode a next cells p read rest =
-      runs_on (touch_word_at s mode a) (read_on next) w w v cells
+  reads_last w t v mode a next cells p read rest =
+      runs_on (touch_word_at s mode a) (read_on next) w t v cells
       (Ok (record { value = p.value; known = are_known cells && p.known })) read
       (runs_on (perform s known (next (from_le_bytes w32 (shown cells))))
-      (λ (q : Performed A). gives (record { value = q.value; known = are_known cells && q.known })) w v v p
+      (λ (q : Performed A). gives (record { value = q.value; known = are_known cells && q.known })) t v v p
       (Ok (record { value = p.value; known = are_known cells && p.known })) rest (runs_given _ v))
 
   -- a word is read, and the rest stops
-  pub reads_stop_behind : (w v : Words) (mode : Mode) (a : ℕ) (next : ℕ → Action A) (cells : Store) (why : Reason)
-      → Runs (touch_word_at s mode a) w (Ok cells) w
-      → Runs (perform s known (next (from_le_bytes w32 (shown cells)))) w (Err why) v
+  pub reads_stop_behind : (w t v : Words) (mode : Mode) (a : ℕ) (next : ℕ → Action A) (cells : Store) (why : Reason)
+      → Runs (touch_word_at s mode a) w (Ok cells) t
+      → Runs (perform s known (next (from_le_bytes w32 (shown cells)))) t (Err why) v
       → Runs (perform s known (touching_word mode a next)) w (Err why) v
-  reads_stop_behind w v mode a next cells why read rest =
-      runs_on (touch_word_at s mode a) (read_on next) w w v cells (Err why) read
+  reads_stop_behind w t v mode a next cells why read rest =
+      runs_on (touch_word_at s mode a) (read_on next) w t v cells (Err why) read
       (runs_stop (perform s known (next (from_le_bytes w32 (shown cells))))
-      (λ (q : Performed A). gives (record { value = q.value; known = are_known cells && q.known })) w v why rest)
+      (λ (q : Performed A). gives (record { value = q.value; known = are_known cells && q.known })) t v why rest)
 
   -- a word may not be read
-  pub reads_not : (w : Words) (mode : Mode) (a : ℕ) (next : ℕ → Action A) (why : Reason)
-      → Runs (touch_word_at s mode a) w (Err why) w → Runs (perform s known (touching_word mode a next)) w (Err why) w
-  reads_not w mode a next why read = runs_stop (touch_word_at s mode a) (read_on next) w w why read
+  pub reads_not : (w v : Words) (mode : Mode) (a : ℕ) (next : ℕ → Action A) (why : Reason)
+      → Runs (touch_word_at s mode a) w (Err why) v → Runs (perform s known (touching_word mode a next)) w (Err why) v
+  reads_not w v mode a next why read = runs_stop (touch_word_at s mode a) (read_on next) w v why read
 
   -- a word is read, and the action answers at once
-  pub reads_alone : (w : Words) (mode : Mode) (a : ℕ) (next : ℕ → Action A) (cells : Store) (x : A)
-      → Runs (touch_word_at s mode a) w (Ok cells) w → next (from_le_bytes w32 (shown cells)) ≡ answer x
-      → Runs (perform s known (touching_word mode a next)) w (Ok (record { value = x; known = are_known cells })) w
-  reads_alone w mode a next cells x read is =
+  pub reads_alone : (w v : Words) (mode : Mode) (a : ℕ) (next : ℕ → Action A) (cells : Store) (x : A)
+      → Runs (touch_word_at s mode a) w (Ok cells) v → next (from_le_bytes w32 (shown cells)) ≡ answer x
+      → Runs (perform s known (touching_word mode a next)) w (Ok (record { value = x; known = are_known cells })) v
+  reads_alone w v mode a next cells x read is =
       subst (λ (k : Bool). Runs (perform s known (touching_word mode a next)) w
-      (Ok (record { value = x; known = k })) w)
+      (Ok (record { value = x; known = k })) v)
       (and_true (are_known cells))
-      (reads_last w w mode a next cells (record { value = x; known = true }) read
-      (subst (λ (e : Action A). Runs (perform s known e) w (Ok (record { value = x; known = true })) w) (sym is)
-      (runs_given (record { value = x; known = true }) w)))
+      (reads_last w v v mode a next cells (record { value = x; known = true }) read
+      (subst (λ (e : Action A). Runs (perform s known e) v (Ok (record { value = x; known = true })) v) (sym is)
+      (runs_given (record { value = x; known = true }) v)))
 
   -- a word is written, and the rest is done
   pub writes_on : (w v u : Words) (a n : ℕ) (next : Action A) (r : Result (Performed A) Reason)
@@ -105,34 +106,41 @@ pub number_of_byte : (cell : Option ℕ) → from_le_bytes w32 (shown (cell ∷ 
 number_of_byte cell = omega arith
 
 -- a byte is read
-module _ {A : Type 0} (s : Site) (known : List Bool) (w : Words) (a : ℕ) (next : ℕ → Action A) where
+module _ {A : Type 0} (s : Site) (known : List Bool) (w v : Words) (a : ℕ) (next : ℕ → Action A) where
   abbrev byte_on : Store → Part (Performed A)
   byte_on cells = noted (are_known cells) (perform s known (next (from_le_bytes w32 (shown cells))))
 
+  by_byte : (r : Result (Performed A) Reason) → Runs (touch_byte s Reads a >>= byte_on) w r v
+      → Runs (perform s known (touching_byte Reads a next)) w r v
+  by_byte r h =
+      runs_as (perform s known (touching_byte Reads a next)) (touch_byte s Reads a >>= byte_on) w v r
+      (through (touch s Reads (byte_span a)) (part_of (byte_span a)) byte_on) h
+
   -- it may not be read
-  pub byte_not_read : (why : Reason) → Runs (touch_byte s Reads a) w (Err why) w
-      → Runs (perform s known (touching_byte Reads a next)) w (Err why) w
-  byte_not_read why h =
-      record {
-        runs = λ rest. through (touch s Reads (byte_span a)) (part_of (byte_span a)) byte_on (standing w rest)
-            ∙ run_stops (touch_byte s Reads a) byte_on (standing w rest) (standing w rest) why (h.runs rest);
-      }
+  pub byte_not_read : (why : Reason) → Runs (touch_byte s Reads a) w (Err why) v
+      → Runs (perform s known (touching_byte Reads a next)) w (Err why) v
+  byte_not_read why h = by_byte (Err why) (runs_stop (touch_byte s Reads a) byte_on w v why h)
 
   -- the action answers at once
-  pub byte_read_alone : (cell : Option ℕ) (x : A) → Runs (touch_byte s Reads a) w (Ok (cell ∷ [])) w
+  pub byte_read_alone : (cell : Option ℕ) (x : A) → Runs (touch_byte s Reads a) w (Ok (cell ∷ [])) v
       → next (from_le_bytes w32 (shown (cell ∷ []))) ≡ answer x
-      → Runs (perform s known (touching_byte Reads a next)) w (Ok (record { value = x; known = is_some cell })) w
+      → Runs (perform s known (touching_byte Reads a next)) w (Ok (record { value = x; known = is_some cell })) v
   byte_read_alone cell x h is =
       subst (λ (k : Bool). Runs (perform s known (touching_byte Reads a next)) w
-      (Ok (record { value = x; known = k })) w)
+      (Ok (record { value = x; known = k })) v)
       (and_true (is_some cell && true) ∙ and_true (is_some cell))
-      (record {
-        runs = λ rest. through (touch s Reads (byte_span a)) (part_of (byte_span a)) byte_on (standing w rest)
-            ∙ run_on (touch_byte s Reads a) byte_on (standing w rest) (standing w rest) (cell ∷ []) (h.runs rest)
-            ∙ ap (λ (e : Action A). run_part (noted (is_some cell && true) (perform s known e)) (standing w rest)) is;
-      })
+      (by_byte (Ok (record { value = x; known = (is_some cell && true) && true }))
+      (runs_on (touch_byte s Reads a) byte_on w v v (cell ∷ [])
+      (Ok (record { value = x; known = (is_some cell && true) && true })) h
+      (subst (λ (e : Action A). Runs (noted (is_some cell && true) (perform s known e)) v
+      (Ok (record { value = x; known = (is_some cell && true) && true })) v) (sym is)
+      (runs_given (record { value = x; known = (is_some cell && true) && true }) v))))
 
--- a write at words of the same node
+-- a part at words of the same node
+pub at_site : {A : Type 0} (part : Site → Part A) (s t : Site) (w v : Words) (r : Result A Reason) → t ≡ s
+    → Runs (part t) w r v → Runs (part s) w r v
+at_site part s t w v r same h = subst (λ (z : Site). Runs (part z) w r v) same h
+
 pub write_at : (w v u : Words) (a : ℕ) (x : Store) (r : Result (Unit {0}) Reason) → site_of v ≡ site_of w
     → Runs (write_word_at (site_of v) a x) v r u → Runs (write_word_at (site_of w) a x) v r u
 write_at w v u a x r same h = subst (λ (s : Site). Runs (write_word_at s a x) v r u) same h
@@ -160,3 +168,20 @@ performs_alone (copying from to count next) s known old new claims h t = cc
 performs_alone (descheduling w next) s known old new claims h t = cc
 performs_alone (reading_saved w k next) s known old new claims h t = cc
 performs_alone (setting_saved w k v next) s known old new claims h t = cc
+
+-- and it accesses nothing
+pub accesses_nothing : {A : Type 0} (a : Action A) (s : Site) (known : List Bool) → touches_nothing a ≡ true
+    → (t : State) → accesses (perform s known a) t ≡ []
+accesses_nothing (answer x) s known h t = refl
+accesses_nothing (breaks b) s known h t = refl
+accesses_nothing (requiring true b next) s known h t = accesses_nothing next s known h t
+accesses_nothing (requiring false b next) s known h t = refl
+accesses_nothing (touching_word mode a next) s known h t = cc
+accesses_nothing (touching_byte mode a next) s known h t = cc
+accesses_nothing (touching mode span next) s known h t = cc
+accesses_nothing (writing_word a v next) s known h t = cc
+accesses_nothing (writing_byte a v next) s known h t = cc
+accesses_nothing (copying from to count next) s known h t = cc
+accesses_nothing (descheduling w next) s known h t = cc
+accesses_nothing (reading_saved w k next) s known h t = cc
+accesses_nothing (setting_saved w k v next) s known h t = cc

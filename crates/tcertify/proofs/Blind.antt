@@ -1,18 +1,24 @@
 -- Changes that are made without a look: each puts what it makes of the word that is there.
-use Rattle.std.proofs.Common.{◌≡◌, ℕ, refl, sym, ap, ◌∙◌, Bool, true, false, Some, Ok}
+use Rattle.std.proofs.Common.{◌≡◌, ℕ, refl, sym, subst, ap, ◌∙◌, Bool, true, false, Some, Ok}
 use Rattle.std.specs.Prelude.{◌==◌, ◌&&◌, slice_get, if◌then◌else◌}
 use Rattle.std.proofs.lemmas.Bool.{eqb-true}
 use Rattle.tprocesses.specs.Places.{Place, WordAt, Sending, Standing, Half, LinkHalf, Error, HaltOnError, Life}
 use Rattle.tprocesses.specs.Places.{Successions, Messages, Kept, Population, HasRun, FlagChanged}
-use Rattle.tprocesses.specs.Values.{Value, IsWord, Word}
+use Rattle.tprocesses.specs.Values.{Value, IsWord}
 use Rattle.tprocesses.specs.Changes.{Change, Put, apply}
 use Rattle.tprocesses.specs.Parts.{change}
 use Rattle.tprocesses.specs.Touching.{word_number, word_place}
+use Rattle.tcertify.specs.declared.cells.Cells.{Cells}
+use Rattle.tcertify.specs.declared.notes.Mode.{Mode}
 use Rattle.tcertify.specs.declared.stored.StoredWord.{StoredWord}
 use Rattle.tcertify.specs.declared.stored.Words.{Words}
-use Rattle.tcertify.specs.Running.{State, changed, run_part}
-use Rattle.tcertify.specs.Words.{Runs, site_of, standing, word_of}
-use Rattle.tcertify.proofs.Places.{word_stands}
+use Rattle.tcertify.specs.declared.word_use.WordUse.{WordUse}
+use Rattle.tcertify.specs.Cells.{cells_of}
+use Rattle.tcertify.specs.Running.{State, changed}
+use Rattle.tcertify.specs.Walked.{change_at}
+use Rattle.tcertify.specs.Words.{IsSet, IsTouched, Runs, site_of, standing, use_of, word_of}
+use Rattle.tcertify.proofs.Noting.{Has, runs_changed, runs_touched}
+use Rattle.tcertify.proofs.Places.{set_state, word_stands}
 
 module _ (s : State) (n k : ℕ) (c : Change) (v : Value) (makes : apply c (s (WordAt n k)) ≡ v) where
   -- at a word
@@ -44,14 +50,21 @@ module _ (s : State) (n k : ℕ) (c : Change) (v : Value) (makes : apply c (s (W
   as_put = λ i p. put_at p i
 
 -- so of the words of a node
-pub changes_word : (w v : Words) (a k : ℕ) (c : Change) (x : StoredWord) (y : Word) → k ≡ word_number a
-    → slice_get w.items.items k ≡ Some x → apply c (IsWord (word_of x)) ≡ IsWord y
-    → Runs (change (WordAt w.number k) (Put (IsWord y))) w (Ok tt) v
-    → Runs (change (word_place (site_of w) a) c) w (Ok tt) v
-changes_word w v a k c x y at there makes h =
-    record {
-      runs = λ rest. ap (λ (j : ℕ). run_part (change (WordAt w.number j) c) (standing w rest)) (sym at)
-          ∙ ap (λ (t : State). (Ok tt, t))
-          (as_put (standing w rest) w.number k c (IsWord y) (ap (apply c) (word_stands w k x there rest) ∙ makes))
-          ∙ h.runs rest;
-    }
+pub changes_word : (w v : Words) (a k : ℕ) (c : Change) (x : StoredWord) (cells : Cells) (used : WordUse)
+    → k ≡ word_number a → slice_get w.items.items k ≡ Some x → IsSet w k cells used v
+    → apply c (IsWord (word_of x)) ≡ IsWord (record { cells = cells_of cells; used = use_of used })
+    → Has w (change_at (WordAt w.number k) c) → Runs (change (word_place (site_of w) a) c) w (Ok tt) v
+changes_word w v a k c x cells used at there s makes has =
+    subst (λ (j : ℕ). Runs (change (WordAt w.number j) c) w (Ok tt) v) at
+    (runs_changed w v (WordAt w.number k) c
+    (λ rest. as_put (standing w rest) w.number k c (IsWord (record { cells = cells_of cells; used = use_of used }))
+    (ap (apply c) (word_stands w k x there rest) ∙ makes)
+    ∙ set_state w v k x cells used there s rest)
+    s.number s.first s.notes has)
+
+-- so of a word that is noted first
+pub touched_blind : (w v u : Words) (a k : ℕ) (note : Mode) (c : Change) → IsTouched w k note v → k ≡ word_number a
+    → Runs (change (word_place (site_of v) a) c) v (Ok tt) u → Runs (change (word_place (site_of w) a) c) w (Ok tt) u
+touched_blind w v u a k note c t at h =
+    runs_touched (change (word_place (site_of w) a) c) w v u k note (Ok tt) t
+    (subst (λ (n : ℕ). Runs (change (WordAt n (word_number a)) c) v (Ok tt) u) t.number h)

@@ -1,5 +1,6 @@
 -- A byte is written, in the word that it lies in; bytes of a word one by one.
-use Rattle.std.proofs.Common.{◌≡◌, ℕ, zero, suc, ◌+◌, ◌*◌, ◌%◌, ◌<◌, ◌≤◌, refl, sym, ap, ◌∙◌, arith, [], ◌∷◌, ◌++◌}
+use Rattle.std.proofs.Common.{◌≡◌, ℕ, zero, suc, ◌+◌, ◌*◌, ◌%◌, ◌<◌, ◌≤◌, refl, sym, subst, ap, ◌∙◌, arith, [], ◌∷◌}
+use Rattle.std.proofs.Common.{◌++◌}
 use Rattle.std.proofs.Common.{take, drop, Option, Some, None, Ok, Err, unwrap_or}
 use Rattle.std.specs.Prelude.{slice_set, is_some, ◌==◌, if◌then◌else◌}
 use Rattle.tword.specs.declared.breaks.Break.{Break}
@@ -11,12 +12,11 @@ use Rattle.tprocesses.specs.Places.{WordAt}
 use Rattle.tprocesses.specs.Values.{IsWord, Free}
 use Rattle.tprocesses.specs.Changes.{Put}
 use Rattle.tprocesses.specs.Parts.{Reason, Breaks, Doing, change}
-use Rattle.tprocesses.specs.Touching.{put, put_words, replaced, touch, touch_word, word_number, write}
+use Rattle.tprocesses.specs.Touching.{Site, put, put_words, replaced, touch, touch_word, word_number, write}
 use Rattle.tcertify.specs.declared.cells.Cells.{Cells}
 use Rattle.tcertify.specs.declared.stored.Words.{Words}
 use Rattle.tcertify.specs.Cells.{cell_at, cells_of}
-use Rattle.tcertify.specs.Running.{run_part}
-use Rattle.tcertify.specs.Words.{Runs, site_of, standing}
+use Rattle.tcertify.specs.Words.{Runs, site_of}
 use Rattle.tcertify.proofs.Running.{runs_on, runs_stop}
 use Rattle.tcertify.proofs.Bytes.{one_word, byte_nowhere, word_busy, word_touched}
 use Rattle.tcertify.proofs.Places.{passed}
@@ -79,32 +79,30 @@ module _ (w : Words) (a : ℕ) (cell : Option ℕ) where
   byte_outside b e =
       runs_stop (touch (site_of w) Writes (byte_span a)) sets_byte w w (Breaks b) (byte_nowhere w Writes a b e)
 
-  pub byte_not_set : (k : ℕ) (why : Reason)
-      → or_break (place_break (site_of w).size (byte_span a)) (word_number a) ≡ Ok k
-      → Runs (touch_word (site_of w) Writes k) w (Err why) w
-      → Runs (write (site_of w) (byte_span a) (cell ∷ [])) w (Err why) w
-  byte_not_set k why e h =
-      runs_stop (touch (site_of w) Writes (byte_span a)) sets_byte w w why (word_busy w Writes a k why e h)
+  module _ (t : Words) (k : ℕ)
+      (e : or_break (place_break (site_of w).size (byte_span a)) (word_number a) ≡ Ok k) where
+    pub byte_not_set : (why : Reason) → Runs (touch_word (site_of w) Writes k) w (Err why) t
+        → Runs (write (site_of w) (byte_span a) (cell ∷ [])) w (Err why) t
+    byte_not_set why h =
+        runs_stop (touch (site_of w) Writes (byte_span a)) sets_byte w t why (word_busy w Writes a t k e why h)
 
-  pub byte_set : (v : Words) (k : ℕ) (c : Cells) (left : Store)
-      → or_break (place_break (site_of w).size (byte_span a)) (word_number a) ≡ Ok k → most_neg ≤ a
-      → Runs (touch_word (site_of w) Writes k) w (Ok (cells_of c)) w → left ≡ slice_set (cells_of c) (a % 4) cell
-      → Runs (change (WordAt w.number k) (Put (IsWord (record { cells = left; used = Free })))) w (Ok tt) v
-      → Runs (write (site_of w) (byte_span a) (cell ∷ [])) w (Ok tt) v
-  byte_set v k c left e above h is changed =
-      let low : place a % 4 < 4 = omega arith in
-      let same : place a % 4 ≡ a % 4 = omega arith in
-      let new : Store = replaced (byte_span a) (cells_of c) (cell ∷ []) in
-      let there : take 4 new ≡ left =
-      byte_put c cell (place a % 4) low ∙ ap (λ (j : ℕ). slice_set (cells_of c) j cell) same ∙ sym is in
-      let o = passed (place_break (site_of w).size (byte_span a)) (word_number a) k e in
-      runs_on (touch (site_of w) Writes (byte_span a)) sets_byte w w v (cells_of c) (Ok tt)
-      (word_touched w Writes a k c e h)
-      (record {
-        runs = λ rest. ap (λ (n : ℕ). run_part (put_words (site_of w) Free (word_number a) n new) (standing w rest))
-            (one_word (place a))
-            ∙ ap (λ (n : ℕ). run_part (put_words (site_of w) Free n 1 new) (standing w rest)) o.1
-            ∙ ap (λ (x : Store). run_part
-            (change (WordAt w.number k) (Put (IsWord (record { cells = x; used = Free })))) (standing w rest)) there
-            ∙ changed.runs rest;
-      })
+    pub byte_set : (v : Words) (c : Cells) (left : Store) → most_neg ≤ a
+        → Runs (touch_word (site_of w) Writes k) w (Ok (cells_of c)) t → site_of t ≡ site_of w
+        → left ≡ slice_set (cells_of c) (a % 4) cell
+        → Runs (change (WordAt t.number k) (Put (IsWord (record { cells = left; used = Free })))) t (Ok tt) v
+        → Runs (write (site_of w) (byte_span a) (cell ∷ [])) w (Ok tt) v
+    byte_set v c left above h same_site is changed =
+        let low : place a % 4 < 4 = omega arith in
+        let same : place a % 4 ≡ a % 4 = omega arith in
+        let new : Store = replaced (byte_span a) (cells_of c) (cell ∷ []) in
+        let there : take 4 new ≡ left =
+        byte_put c cell (place a % 4) low ∙ ap (λ (j : ℕ). slice_set (cells_of c) j cell) same ∙ sym is in
+        let o = passed (place_break (site_of w).size (byte_span a)) (word_number a) k e in
+        runs_on (touch (site_of w) Writes (byte_span a)) sets_byte w t v (cells_of c) (Ok tt)
+        (word_touched w Writes a t k e c h)
+        (subst (λ (s : Site). Runs (put s Free (byte_span a) new) t (Ok tt) v) same_site
+        (subst (λ (n : ℕ). Runs (put_words (site_of t) Free (word_number a) n new) t (Ok tt) v)
+        (sym (one_word (place a)))
+        (subst (λ (n : ℕ). Runs (put_words (site_of t) Free n 1 new) t (Ok tt) v) (sym o.1)
+        (subst (λ (x : Store). Runs (change (WordAt t.number k) (Put (IsWord (record { cells = x; used = Free })))) t
+        (Ok tt) v) (sym there) changed))))

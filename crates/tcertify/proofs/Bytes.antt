@@ -14,9 +14,8 @@ use Rattle.tcertify.specs.declared.cells.Cells.{Cells}
 use Rattle.tcertify.specs.declared.stored.Words.{Words}
 use Rattle.tcertify.specs.Cells.{cell_at, cells_of}
 use Rattle.tcertify.specs.Instructions.{touch_byte}
-use Rattle.tcertify.specs.Running.{run_part}
-use Rattle.tcertify.specs.Words.{Runs, site_of, standing}
-use Rattle.tcertify.proofs.Running.{runs_on, runs_stop, runs_given}
+use Rattle.tcertify.specs.Words.{Runs, site_of}
+use Rattle.tcertify.proofs.Running.{runs_on, runs_stop, runs_stopping, runs_given}
 use Rattle.tcertify.proofs.Places.{broken, passed}
 
 -- one byte of a word
@@ -36,71 +35,59 @@ abbrev picks : ℕ → Store → Part Store
 picks a words = gives (part_of (byte_span a) words)
 
 module _ (w : Words) (mode : Mode) (a : ℕ) where
+  abbrev by_break : Option Break → ℕ → ℕ → Part Store
+  by_break o n count = unless o >> touch_words (site_of w) mode n count
+
   -- the byte may not lie there
   pub byte_nowhere : (b : Break) → or_break (place_break (site_of w).size (byte_span a)) (word_number a) ≡ Err b
       → Runs (touch (site_of w) mode (byte_span a)) w (Err (Breaks b)) w
   byte_nowhere b e =
-      record {
-        runs = λ rest. ap (λ (o : Option Break). run_part
-            (unless o >> touch_words (site_of w) mode (word_number a) ((place a % 4 + 1 + 3) / 4)) (standing w rest))
-            (broken (place_break (site_of w).size (byte_span a)) (word_number a) b e);
-      }
+      subst (λ (o : Option Break). Runs (by_break o (word_number a) ((place a % 4 + 1 + 3) / 4)) w (Err (Breaks b)) w)
+      (sym (broken (place_break (site_of w).size (byte_span a)) (word_number a) b e)) (runs_stopping (Breaks b) w)
 
   pub byte_misplaced : (b : Break) → or_break (place_break (site_of w).size (byte_span a)) (word_number a) ≡ Err b
       → Runs (touch_byte (site_of w) mode a) w (Err (Breaks b)) w
   byte_misplaced b e =
       runs_stop (touch (site_of w) mode (byte_span a)) (picks a) w w (Breaks b) (byte_nowhere b e)
 
-  -- the word is touched
-  touches_word : (k : ℕ) (r : Result Store Reason)
-      → or_break (place_break (site_of w).size (byte_span a)) (word_number a) ≡ Ok k
-      → Runs (touch_words (site_of w) mode k 1) w r w → Runs (touch (site_of w) mode (byte_span a)) w r w
-  touches_word k r e h =
-      let o = passed (place_break (site_of w).size (byte_span a)) (word_number a) k e in
-      record {
-        runs = λ rest. ap (λ (o : Option Break). run_part
-            (unless o >> touch_words (site_of w) mode (word_number a) ((place a % 4 + 1 + 3) / 4))
-            (standing w rest)) o.0
-            ∙ ap (λ (n : ℕ). run_part (touch_words (site_of w) mode n ((place a % 4 + 1 + 3) / 4))
-            (standing w rest)) o.1
-            ∙ ap (λ (n : ℕ). run_part (touch_words (site_of w) mode k n) (standing w rest)) (one_word (place a))
-            ∙ h.runs rest;
-      }
+  module _ (v : Words) (k : ℕ)
+      (e : or_break (place_break (site_of w).size (byte_span a)) (word_number a) ≡ Ok k) where
+    -- the word is touched
+    touches_word : (r : Result Store Reason)
+        → Runs (touch_words (site_of w) mode k 1) w r v → Runs (touch (site_of w) mode (byte_span a)) w r v
+    touches_word r h =
+        let o = passed (place_break (site_of w).size (byte_span a)) (word_number a) k e in
+        subst (λ (b : Option Break). Runs (by_break b (word_number a) ((place a % 4 + 1 + 3) / 4)) w r v) (sym o.0)
+        (subst (λ (n : ℕ). Runs (touch_words (site_of w) mode n ((place a % 4 + 1 + 3) / 4)) w r v) (sym o.1)
+        (subst (λ (n : ℕ). Runs (touch_words (site_of w) mode k n) w r v) (sym (one_word (place a))) h))
 
-  pub word_busy : (k : ℕ) (why : Reason)
-      → or_break (place_break (site_of w).size (byte_span a)) (word_number a) ≡ Ok k
-      → Runs (touch_word (site_of w) mode k) w (Err why) w
-      → Runs (touch (site_of w) mode (byte_span a)) w (Err why) w
-  word_busy k why e h =
-      touches_word k (Err why) e
-      (runs_stop (touch_word (site_of w) mode k) (λ (cells : Store). gives (cells ++ [])) w w why h)
+    pub word_busy : (why : Reason) → Runs (touch_word (site_of w) mode k) w (Err why) v
+        → Runs (touch (site_of w) mode (byte_span a)) w (Err why) v
+    word_busy why h =
+        touches_word (Err why)
+        (runs_stop (touch_word (site_of w) mode k) (λ (cells : Store). gives (cells ++ [])) w v why h)
 
-  pub word_touched : (k : ℕ) (c : Cells)
-      → or_break (place_break (site_of w).size (byte_span a)) (word_number a) ≡ Ok k
-      → Runs (touch_word (site_of w) mode k) w (Ok (cells_of c)) w
-      → Runs (touch (site_of w) mode (byte_span a)) w (Ok (cells_of c)) w
-  word_touched k c e h =
-      touches_word k (Ok (cells_of c)) e
-      (runs_on (touch_word (site_of w) mode k) (λ (cells : Store). gives (cells ++ [])) w w w (cells_of c)
-      (Ok (cells_of c)) h (runs_given (cells_of c) w))
+    pub word_touched : (c : Cells) → Runs (touch_word (site_of w) mode k) w (Ok (cells_of c)) v
+        → Runs (touch (site_of w) mode (byte_span a)) w (Ok (cells_of c)) v
+    word_touched c h =
+        touches_word (Ok (cells_of c))
+        (runs_on (touch_word (site_of w) mode k) (λ (cells : Store). gives (cells ++ [])) w v v (cells_of c)
+        (Ok (cells_of c)) h (runs_given (cells_of c) v))
 
-  pub byte_busy : (k : ℕ) (why : Reason)
-      → or_break (place_break (site_of w).size (byte_span a)) (word_number a) ≡ Ok k
-      → Runs (touch_word (site_of w) mode k) w (Err why) w → Runs (touch_byte (site_of w) mode a) w (Err why) w
-  byte_busy k why e h =
-      runs_stop (touch (site_of w) mode (byte_span a)) (picks a) w w why (word_busy k why e h)
+    pub byte_busy : (why : Reason) → Runs (touch_word (site_of w) mode k) w (Err why) v
+        → Runs (touch_byte (site_of w) mode a) w (Err why) v
+    byte_busy why h = runs_stop (touch (site_of w) mode (byte_span a)) (picks a) w v why (word_busy why h)
 
-  pub byte_seen : (k : ℕ) (c : Cells) (cell : Option ℕ)
-      → or_break (place_break (site_of w).size (byte_span a)) (word_number a) ≡ Ok k → most_neg ≤ a
-      → Runs (touch_word (site_of w) mode k) w (Ok (cells_of c)) w → cell ≡ cell_at c (a % 4)
-      → Runs (touch_byte (site_of w) mode a) w (Ok (cell ∷ [])) w
-  byte_seen k c cell e above h is =
-      let low : place a % 4 < 4 = omega arith in
-      let same : place a % 4 ≡ a % 4 = omega arith in
-      let picked : part_of (byte_span a) (cells_of c) ≡ cell ∷ [] =
-      byte_in c (place a % 4) low ∙ ap (λ (j : ℕ). cell_at c j ∷ []) same
-      ∙ ap (λ (x : Option ℕ). x ∷ []) (sym is) in
-      runs_on (touch (site_of w) mode (byte_span a)) (picks a) w w w (cells_of c) (Ok (cell ∷ []))
-      (word_touched k c e h)
-      (subst (λ (x : Store). Runs (picks a (cells_of c)) w (Ok x) w) picked
-      (runs_given (part_of (byte_span a) (cells_of c)) w))
+    pub byte_seen : (c : Cells) (cell : Option ℕ) → most_neg ≤ a
+        → Runs (touch_word (site_of w) mode k) w (Ok (cells_of c)) v → cell ≡ cell_at c (a % 4)
+        → Runs (touch_byte (site_of w) mode a) w (Ok (cell ∷ [])) v
+    byte_seen c cell above h is =
+        let low : place a % 4 < 4 = omega arith in
+        let same : place a % 4 ≡ a % 4 = omega arith in
+        let picked : part_of (byte_span a) (cells_of c) ≡ cell ∷ [] =
+        byte_in c (place a % 4) low ∙ ap (λ (j : ℕ). cell_at c j ∷ []) same
+        ∙ ap (λ (x : Option ℕ). x ∷ []) (sym is) in
+        runs_on (touch (site_of w) mode (byte_span a)) (picks a) w v v (cells_of c) (Ok (cell ∷ []))
+        (word_touched c h)
+        (subst (λ (x : Store). Runs (picks a (cells_of c)) v (Ok x) v) picked
+        (runs_given (part_of (byte_span a) (cells_of c)) v))

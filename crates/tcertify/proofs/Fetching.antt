@@ -1,5 +1,5 @@
 -- Bytes that are fetched one by one, and the same bytes as they are decoded in a row.
-use Rattle.std.proofs.Common.{◌≡◌, ℕ, zero, suc, ◌<◌, refl, sym, ap, ◌∙◌, arith, Bool, true, false}
+use Rattle.std.proofs.Common.{◌≡◌, ℕ, zero, suc, ◌<◌, refl, ap, ◌∙◌, arith, Bool, true, false}
 use Rattle.std.proofs.Common.{List, [], ◌∷◌, ◌++◌, length, ℤ, Option, Some, None, Result, Ok, Err}
 use Rattle.std.specs.Prelude.{if◌then◌else◌}
 use Rattle.std.specs.Int.{w32, from_le_bytes}
@@ -21,8 +21,9 @@ use Rattle.tprocesses.specs.Parts.{require, ◌>>=◌, ◌>>◌}
 use Rattle.tprocesses.specs.Touching.{Site, touch, part_of}
 use Rattle.tprocesses.specs.Performing.{Performed, perform, noted}
 use Rattle.tcertify.specs.Instructions.{chain_of, touch_byte}
-use Rattle.tcertify.specs.Running.{State, changed, run_part}
-use Rattle.tcertify.proofs.Running.{run_bind, run_next, run_on, run_stops, through}
+use Rattle.tcertify.specs.declared.stored.Words.{Words}
+use Rattle.tcertify.specs.Words.{Runs}
+use Rattle.tcertify.proofs.Running.{in_a_row, runs_as, runs_on, runs_stop, runs_stopping, through}
 
 module _ (kind : Kind) where
   -- the rest of a chain of which these bytes were fetched; address: that of the next byte
@@ -124,12 +125,12 @@ module _ (kind : Kind) where
       byte_zero (chained v b) bs left had a (λ u h. zero_ends bs left (suc had) a u h) e
 
 -- nothing is noted
-noted_true : {A : Type 0} (p : Part (Performed A)) (s : State) → run_part (noted true p) s ≡ run_part p s
-noted_true (gives x) s = refl
-noted_true (stopping why) s = refl
-noted_true (seeing p next) s = noted_true (next (s p)) s
-noted_true (changing p c next) s = noted_true next (changed p c s)
-noted_true (telling m next) s = noted_true next s
+noted_true : {A : Type 0} (p : Part (Performed A)) → noted true p ≡ p
+noted_true (gives x) = refl
+noted_true (stopping why) = refl
+noted_true (seeing p next) = λ i. seeing p (λ v. noted_true (next v) i)
+noted_true (changing p c next) = λ i. changing p c (noted_true next i)
+noted_true (telling m next) = λ i. telling m (noted_true next i)
 
 -- what is known of what was performed
 abbrev pub checked : Performed Instruction → Part Instruction
@@ -140,41 +141,48 @@ module _ (s : Site) where
   abbrev pub after : Action Instruction → Part Instruction
   after action = perform s [] action >>= checked
 
-  -- what follows a byte
-  abbrev byte_on : (ℕ → Action Instruction) → Store → Part (Performed Instruction)
-  byte_on next cells = noted (are_known cells) (perform s [] (next (from_le_bytes w32 (shown cells))))
-
   -- the number of one byte
   one_byte : (b : ℕ) → from_le_bytes w32 (shown (Some b ∷ [])) ≡ b
   one_byte b = omega arith
 
-  pub known_byte : (a b : ℕ) (next : ℕ → Action Instruction) (t : State)
-      → run_part (touch_byte s Reads a) t ≡ (Ok (Some b ∷ []), t)
-      → run_part (after (touching_byte Reads a next)) t ≡ run_part (after (next b)) t
-  known_byte a b next t e =
-      run_bind (perform s [] (touching_byte Reads a next)) checked t
-      ∙ ap (run_next checked)
-      (through (touch s Reads (byte_span a)) (part_of (byte_span a)) (byte_on next) t
-      ∙ run_on (touch_byte s Reads a) (byte_on next) t t (Some b ∷ []) e
-      ∙ noted_true (perform s [] (next (from_le_bytes w32 (shown (Some b ∷ []))))) t
-      ∙ ap (λ (n : ℕ). run_part (perform s [] (next n)) t) (one_byte b))
-      ∙ sym (run_bind (perform s [] (next b)) checked t)
+  module _ (w v : Words) (a : ℕ) (next : ℕ → Action Instruction) where
+    -- what follows a byte
+    abbrev byte_on : Store → Part (Performed Instruction)
+    byte_on cells = noted (are_known cells) (perform s [] (next (from_le_bytes w32 (shown cells))))
 
-  pub unknown_byte : (a : ℕ) (next : ℕ → Action Instruction) (i : Instruction) (t : State)
-      → run_part (touch_byte s Reads a) t ≡ (Ok (None ∷ []), t) → next 0 ≡ answer i
-      → run_part (after (touching_byte Reads a next)) t ≡ (Err SawTheScheduler, t)
-  unknown_byte a next i t e is =
-      run_bind (perform s [] (touching_byte Reads a next)) checked t
-      ∙ ap (run_next checked)
-      (through (touch s Reads (byte_span a)) (part_of (byte_span a)) (byte_on next) t
-      ∙ run_on (touch_byte s Reads a) (byte_on next) t t (None ∷ []) e
-      ∙ ap (λ (x : Action Instruction). run_part (noted false (perform s [] x)) t) is)
+    abbrev checked_on : Store → Part Instruction
+    checked_on cells = byte_on cells >>= checked
 
-  pub no_byte : (a : ℕ) (next : ℕ → Action Instruction) (why : Reason) (t : State)
-      → run_part (touch_byte s Reads a) t ≡ (Err why, t)
-      → run_part (after (touching_byte Reads a next)) t ≡ (Err why, t)
-  no_byte a next why t e =
-      run_bind (perform s [] (touching_byte Reads a next)) checked t
-      ∙ ap (run_next checked)
-      (through (touch s Reads (byte_span a)) (part_of (byte_span a)) (byte_on next) t
-      ∙ run_stops (touch_byte s Reads a) (byte_on next) t t why e)
+    -- the byte comes first
+    byte_first : after (touching_byte Reads a next) ≡ touch_byte s Reads a >>= checked_on
+    byte_first =
+        ap (λ (p : Part (Performed Instruction)). p >>= checked)
+        (through (touch s Reads (byte_span a)) (part_of (byte_span a)) byte_on)
+        ∙ in_a_row (touch_byte s Reads a) byte_on checked
+
+    pub known_byte : (u : Words) (b : ℕ) (r : Result Instruction Reason)
+        → Runs (touch_byte s Reads a) w (Ok (Some b ∷ [])) v → Runs (after (next b)) v r u
+        → Runs (after (touching_byte Reads a next)) w r u
+    known_byte u b r read rest =
+        runs_as (after (touching_byte Reads a next)) (touch_byte s Reads a >>= checked_on) w u r byte_first
+        (runs_on (touch_byte s Reads a) checked_on w v u (Some b ∷ []) r read
+        (runs_as (checked_on (Some b ∷ [])) (after (next b)) v u r
+        (ap (λ (p : Part (Performed Instruction)). p >>= checked)
+        (noted_true (perform s [] (next (from_le_bytes w32 (shown (Some b ∷ [])))))
+        ∙ ap (λ (n : ℕ). perform s [] (next n)) (one_byte b))) rest))
+
+    pub unknown_byte : (i : Instruction) → Runs (touch_byte s Reads a) w (Ok (None ∷ [])) v → next 0 ≡ answer i
+        → Runs (after (touching_byte Reads a next)) w (Err SawTheScheduler) v
+    unknown_byte i read is =
+        runs_as (after (touching_byte Reads a next)) (touch_byte s Reads a >>= checked_on) w v (Err SawTheScheduler)
+        byte_first
+        (runs_on (touch_byte s Reads a) checked_on w v v (None ∷ []) (Err SawTheScheduler) read
+        (runs_as (checked_on (None ∷ [])) (stopping SawTheScheduler) v v (Err SawTheScheduler)
+        (ap (λ (x : Action Instruction). noted false (perform s [] x) >>= checked) is)
+        (runs_stopping SawTheScheduler v)))
+
+    pub no_byte : (why : Reason) → Runs (touch_byte s Reads a) w (Err why) v
+        → Runs (after (touching_byte Reads a next)) w (Err why) v
+    no_byte why read =
+        runs_as (after (touching_byte Reads a next)) (touch_byte s Reads a >>= checked_on) w v (Err why) byte_first
+        (runs_stop (touch_byte s Reads a) checked_on w v why read)

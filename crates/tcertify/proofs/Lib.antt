@@ -1,5 +1,7 @@
 -- Parts of steps that are run.
 pub mod Running
+-- Accesses that are noted.
+pub mod Noting
 -- Words as places.
 pub mod Places
 -- Words that are set.
@@ -32,3 +34,78 @@ pub mod Needing
 pub mod Jumps
 -- Memories in which nothing was loaded.
 pub mod Fresh
+-- Calls on a node.
+pub mod NodeRunning
+-- Lists that grow, and nodes.
+pub mod Keeping
+pub mod Growing
+-- Whether two places are one.
+pub mod Telling
+-- States that change, and calls that look or change.
+pub mod BoardChanges
+pub mod NodeChanging
+-- Words of a node.
+pub mod NodeWords
+-- Calls on a node that follow others.
+pub mod Following
+-- Processes that go on.
+pub mod Going
+-- Operations of the scheduler.
+pub mod Scheduling
+pub mod Operations
+-- Flags of a node.
+pub mod NodeFlags
+-- Things that are found; processes of a node.
+pub mod Found
+pub mod NodeStands
+-- Processes that wake, come and end.
+pub mod NodeWaking
+-- Workspaces of a node.
+pub mod NodeLives
+-- Names of processes.
+pub mod Naming
+-- Lists of which some items are replaced.
+pub mod Splices
+-- Bytes of words in a row.
+pub mod WordBytes
+-- Bytes that are set.
+pub mod Written
+-- Words in a row.
+pub mod Rows
+-- Words in a row that are put.
+pub mod Putting
+-- Spans that are put.
+pub mod SpanPuts
+-- Words of spans that are marked.
+pub mod Marking
+-- Spans that are copied.
+pub mod Copying
+-- Outputs of spans that are counted.
+pub mod Counting
+-- Names of processes.
+pub mod NodeJoining
+pub mod NodeComing
+-- Channels and links of a node.
+pub mod NodeChannels
+-- Notes that tell of more.
+pub mod LastNotes
+-- Instructions up to what follows them.
+pub mod Instructing
+pub mod Completing
+pub mod NodeHalves
+-- Counts of a node that fall, and outputs that are over.
+pub mod NodeCounts
+pub mod NodeOutputs
+-- Nodes before the first step.
+pub mod OpenedWords
+pub mod NodeOpening
+-- Messages on internal channels.
+pub mod Messages
+-- Messages on links.
+pub mod LinkOffers
+pub mod LinkPassing
+-- Successors that go on.
+pub mod Successors
+-- Sources and sinks.
+pub mod OneSpot
+pub mod EndMessages

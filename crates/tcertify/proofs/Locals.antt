@@ -1,8 +1,9 @@
 -- A local instruction by its function, or by the operation that it selects.
-use Rattle.std.proofs.Common.{◌≡◌, refl, sym, subst, ap, true, false, Option, Some, None, Result}
+use Rattle.std.proofs.Common.{◌≡◌, refl, sym, subst, true, Bool, List, Option, Some, None, Result}
 use Rattle.std.specs.Prelude.{unwrap_or}
 use Rattle.tword.specs.declared.kind.Kind.{Kind}
 use Rattle.tword.specs.Words.{plus}
+use Rattle.tword.specs.Actions.{Action}
 use Rattle.tcode.specs.declared.instruction.Function.{Function}
 use Rattle.tcode.specs.declared.instruction.Function.TheVariants.{Ldnl, Ldl, Call, Stl, Stnl, Opr}
 use Rattle.tcode.specs.declared.instruction.Operation.{Operation}
@@ -18,12 +19,12 @@ use Rattle.tprocesses.specs.Parts.{Reason, Part}
 use Rattle.tprocesses.specs.Touching.{Site}
 use Rattle.tprocesses.specs.Performing.{Performed, perform}
 use Rattle.tprocesses.specs.Uses.{function_uses, known_writes, selected_uses, uses_of, operation_uses}
-use Rattle.tprocesses.specs.Instructions.{operation_by}
 use Rattle.tcertify.specs.declared.stored.Words.{Words}
 use Rattle.tcertify.specs.Instructions.{touches_nothing}
-use Rattle.tcertify.specs.Moves.{is_move, moves}
 use Rattle.tcertify.specs.Running.{State, run_part}
-use Rattle.tcertify.specs.Words.{Runs, standing}
+use Rattle.tcertify.specs.Words.{Runs}
+use Rattle.tcertify.proofs.Actions.{accesses_nothing}
+use Rattle.tcertify.proofs.Running.{runs_quiet}
 use Rattle.tcertify.proofs.Plain.{functions_alone, operations_alone}
 
 module _ (s : Site) (kind : Kind) (ctx : Context) (i : Instruction) (r : Registers) where
@@ -71,21 +72,16 @@ module _ (s : Site) (kind : Kind) (ctx : Context) (i : Instruction) (r : Registe
       (subst (λ (o : Option Operation). touches_nothing (selected_effect o r advanced) ≡ true) (sym is) refl)
 
   pub operation_alone : (o : Operation) → i.function ≡ Opr → operation_at kind i.operand ≡ Some o
-      → is_move kind i ≡ false → (o ≡ Lb → ⊥) → (o ≡ Ret → ⊥) → (o ≡ Lend → ⊥) → (o ≡ Sb → ⊥)
+      → (o ≡ Lb → ⊥) → (o ≡ Ret → ⊥) → (o ≡ Lend → ⊥) → (o ≡ Sb → ⊥) → (o ≡ Move → ⊥)
       → touches_nothing (effect kind i r) ≡ true
   unfolding effect
-  operation_alone o e is stays a b c d =
-      let still : moves (operation_at kind i.operand) ≡ false =
-      subst (λ (g : Function). moves (operation_by kind g i.operand) ≡ false) e stays in
-      let plain : moves (Some o) ≡ false = subst (λ (p : Option Operation). moves p ≡ false) is still in
+  operation_alone o e is a b c d m =
       subst (λ (g : Function). touches_nothing (effect_at kind g i.operand r advanced) ≡ true) (sym e)
       (subst (λ (p : Option Operation). touches_nothing (selected_effect p r advanced) ≡ true) (sym is)
-      (operations_alone o r advanced a b c d (λ m. unmoved o m plain)))
-    where
-      unmoved : (o : Operation) → o ≡ Move → moves (Some o) ≡ false → ⊥
-      unmoved o m h = cc (ap (λ (p : Operation). moves (Some p)) m, h)
+      (operations_alone o r advanced a b c d m))
 
 -- what is done alone is done on words
-pub runs_alone : (p : Part (Performed Outcome)) (w : Words) (x : Result (Performed Outcome) Reason)
-    → ((t : State) → run_part p t ≡ (x, t)) → Runs p w x w
-runs_alone p w x h = record { runs = λ rest. h (standing w rest) }
+pub runs_alone : (s : Site) (known : List Bool) (a : Action Outcome) (w : Words) (x : Result (Performed Outcome) Reason)
+    → touches_nothing a ≡ true → ((t : State) → run_part (perform s known a) t ≡ (x, t))
+    → Runs (perform s known a) w x w
+runs_alone s known a w x none h = runs_quiet (perform s known a) w x h (accesses_nothing a s known none)

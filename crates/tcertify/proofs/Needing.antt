@@ -1,5 +1,5 @@
 -- A local instruction, part by part: what it needs, what it does, and what has to be known of what it read.
-use Rattle.std.proofs.Common.{◌≡◌, refl, ap, ◌∙◌, Bool, true, false, Result, Ok, Err}
+use Rattle.std.proofs.Common.{◌≡◌, refl, sym, subst, Bool, true, false, Result, Ok, Err}
 use Rattle.std.specs.Prelude.{not, ◌||◌, if◌then◌else◌}
 use Rattle.tcode.specs.declared.instruction.Instruction.{Instruction}
 use Rattle.tcpu.specs.Effects.{effect}
@@ -11,9 +11,8 @@ use Rattle.tprocesses.specs.Uses.{Uses, has_needed, known_writes}
 use Rattle.tprocesses.specs.Instructions.{context_after}
 use Rattle.tcertify.specs.declared.stored.Words.{Words}
 use Rattle.tcertify.specs.Carried.{Followed, carried_by, finished, left_by, telling_registers}
-use Rattle.tcertify.specs.Running.{run_part}
-use Rattle.tcertify.specs.Words.{Runs, site_of, standing}
-use Rattle.tcertify.proofs.Running.{runs_on, runs_stop}
+use Rattle.tcertify.specs.Words.{Runs, site_of}
+use Rattle.tcertify.proofs.Running.{runs_given, runs_on, runs_stop, runs_stopping}
 
 module _ (w : Words) (c : Context) (i : Instruction) (u : Uses) where
   -- what the instruction does
@@ -25,13 +24,13 @@ module _ (w : Words) (c : Context) (i : Instruction) (u : Uses) where
 
   -- it needs more than is known
   pub needs_more : has_needed u.needs c ≡ false → Runs (carried_by (site_of w) c i u) w (Err SawTheScheduler) w
-  needs_more e = record { runs = λ rest. ap (λ (t : Bool). run_part (asked t) (standing w rest)) e }
+  needs_more e =
+      subst (λ (t : Bool). Runs (asked t) w (Err SawTheScheduler) w) (sym e) (runs_stopping SawTheScheduler w)
 
   module _ (enough : has_needed u.needs c ≡ true) where
     goes_on : (v : Words) (x : Result Followed Reason) → Runs (act >>= left_by c u) w x v
         → Runs (carried_by (site_of w) c i u) w x v
-    goes_on v x h =
-        record { runs = λ rest. ap (λ (t : Bool). run_part (asked t) (standing w rest)) enough ∙ h.runs rest }
+    goes_on v x h = subst (λ (t : Bool). Runs (asked t) w x v) (sym enough) h
 
     -- it stops
     pub acts_not : (v : Words) (why : Reason) → Runs act w (Err why) v
@@ -51,14 +50,14 @@ module _ (w : Words) (c : Context) (i : Instruction) (u : Uses) where
       reads_more e =
           goes_on v (Err SawTheScheduler)
           (runs_on act (left_by c u) w v v p (Err SawTheScheduler) acts
-          (record { runs = λ rest. ap (λ (t : Bool). run_part (tested t) (standing v rest)) e }))
+          (subst (λ (t : Bool). Runs (tested t) v (Err SawTheScheduler) v) (sym e) (runs_stopping SawTheScheduler v)))
 
       -- it is done
       pub carries : (p.known || not u.reads_known) ≡ true → Runs (carried_by (site_of w) c i u) w (Ok given) v
       carries e =
           goes_on v (Ok given)
           (runs_on act (left_by c u) w v v p (Ok given) acts
-          (record { runs = λ rest. ap (λ (t : Bool). run_part (tested t) (standing v rest)) e }))
+          (subst (λ (t : Bool). Runs (tested t) v (Ok given) v) (sym e) (runs_given given v)))
 
     -- so whatever it does
     finishes_by : (v : Words) (p : Performed Outcome) (t : Bool) → (p.known || not u.reads_known) ≡ t

@@ -1,5 +1,6 @@
 -- The words of a node as places: what is seen there, and what a change makes of them.
-use Rattle.std.proofs.Common.{◌≡◌, ℕ, zero, suc, refl, sym, ap, ◌∙◌, Bool, true, false, pos, List, [], ◌∷◌}
+use Rattle.std.proofs.Common.{◌≡◌, ◌<◌, ℕ, zero, suc, length, arith, refl, sym, subst, ap, ◌∙◌, Bool, true, false}
+use Rattle.std.proofs.Common.{pos, List, [], ◌∷◌}
 use Rattle.std.proofs.Common.{Option, Some, None, Result, Ok, Err, eq-eqb, ◌⊎◌, inl, inr}
 use Rattle.std.specs.Prelude.{◌==◌, ◌&&◌, slice_get, slice_set, if◌then◌else◌}
 use Rattle.std.proofs.lemmas.Bool.{cases_eq, eqb-true}
@@ -10,16 +11,25 @@ use Rattle.tword.specs.Actions.{or_break}
 use Rattle.tword.specs.Touches.{Mode, Reads, Writes, word_place_break}
 use Rattle.tprocesses.specs.Places.{Place, WordAt, Sending, Standing, Half, LinkHalf, Error, HaltOnError, Life}
 use Rattle.tprocesses.specs.Places.{Successions, Messages, Kept, Population, HasRun, FlagChanged}
-use Rattle.tprocesses.specs.Values.{Value, IsWord, IsAmount, word_in, amount_in}
-use Rattle.tprocesses.specs.Changes.{Put}
-use Rattle.tprocesses.specs.Parts.{Reason, Breaks, Part, gives, stopping, done, change, unless, ◌>>=◌, ◌>>◌}
-use Rattle.tprocesses.specs.Touching.{free_cells, is_zero, settled, touch_word, touch_word_at, word_number}
+use Rattle.tprocesses.specs.Values.{Use, Free, Saved, Receiving, Engaged, Last, Spoilt, Value, Word, IsWord, IsAmount}
+use Rattle.tprocesses.specs.Values.{word_in, amount_in}
+use Rattle.tprocesses.specs.Changes.{Change, Put}
+use Rattle.tprocesses.specs.Parts.{Reason, Breaks, Part, Doing, gives, stopping, done, see, change, unless, ◌>>=◌, ◌>>◌}
+use Rattle.tprocesses.specs.Touching.{Site, free_cells, is_zero, settled, touch_word, touch_word_at, unsent}
+use Rattle.tprocesses.specs.Touching.{word_number}
+use Rattle.tcertify.specs.declared.cells.Cells.{Cells}
+use Rattle.tcertify.specs.declared.notes.Mode as notes
+use Rattle.tcertify.specs.declared.notes.Mode.TheVariants as noted
 use Rattle.tcertify.specs.declared.stored.StoredWord.{StoredWord}
 use Rattle.tcertify.specs.declared.stored.Words.{Words}
+use Rattle.tcertify.specs.declared.word_use.WordUse.{WordUse}
 use Rattle.tcertify.specs.Cells.{cells_of}
 use Rattle.tcertify.specs.Running.{State, changed, run_part}
-use Rattle.tcertify.specs.Words.{Runs, sending_or, site_of, standing, use_of, with_words, word_of, word_or}
-use Rattle.tcertify.proofs.Running.{run_on, run_stops}
+use Rattle.tcertify.specs.Walked.{accesses, change_at, look_at}
+use Rattle.tcertify.specs.Words.{IsSet, IsTouched, Runs, sending_of, sending_or, site_of, standing, use_of, with_words}
+use Rattle.tcertify.specs.Words.{word_of, word_or}
+use Rattle.tcertify.proofs.Noting.{Has, has_change, runs_changed, runs_seen, runs_touched, site_touched}
+use Rattle.tcertify.proofs.Running.{runs_given, runs_on, runs_quiet, runs_stop, runs_stopping}
 
 -- a choice by a test that holds
 if_true : (b : Bool) (x y : Value) → b ≡ true → (if b then x else y) ≡ x
@@ -54,67 +64,96 @@ module _ (w : Words) (k : ℕ) (x : StoredWord) (there : slice_get w.items.items
       (rest (Sending w.number k)) (eq-eqb w.number w.number refl)
       ∙ ap (λ (o : Option StoredWord). sending_or o (rest (Sending w.number k))) there
 
+-- what is seen of a word that programs may use, without an access
+free_quiet : (u : Use) (cells : Store) (s : State) → accesses (free_cells u cells) s ≡ []
+free_quiet Free cells s = refl
+free_quiet Saved cells s = refl
+free_quiet Receiving cells s = refl
+free_quiet Engaged cells s = refl
+free_quiet (Last p) cells s = refl
+free_quiet Spoilt cells s = refl
+
+-- a look at the outputs of a word
+module _ (w : Words) (k : ℕ) (x : StoredWord) (there : slice_get w.items.items k ≡ Some x)
+    (sent : Has w (look_at (Sending w.number k))) where
+  abbrev tested : Bool → Doing
+  tested t = if t then done else stopping (Breaks InTransit)
+
+  abbrev sent_on : Value → Doing
+  sent_on v = tested (is_zero (amount_in v))
+
+  pub outputs_seen : (r : Result (Unit {0}) Reason) (t : Bool) → (x.sending == 0) ≡ t → Runs (tested t) w r w
+      → Runs (unsent (site_of w) k) w r w
+  outputs_seen r t e h =
+      runs_on (see (Sending w.number k)) sent_on w w w (IsAmount (pos x.sending)) r
+      (runs_seen w (Sending w.number k) (IsAmount (pos x.sending)) (sending_stands w k x there) sent)
+      (subst (λ (b : Bool). Runs (tested b) w r w) (sym e) h)
+
 -- a word that programs may use is touched
-module _ (w : Words) (k : ℕ) (x : StoredWord) (there : slice_get w.items.items k ≡ Some x) where
+module _ (w : Words) (k : ℕ) (x : StoredWord) (there : slice_get w.items.items k ≡ Some x)
+    (seen : Has w (look_at (WordAt w.number k))) where
   -- what follows the look at the word
   abbrev pub look_on : Mode → Store → Part Store
   look_on mode cells = settled (site_of w) mode k >> gives cells
 
-  pub look_goes : (mode : Mode) (rest : State) → run_part (touch_word (site_of w) mode k) (standing w rest)
-      ≡ run_part (free_cells (use_of x.used) (cells_of x.cells) >>= look_on mode) (standing w rest)
-  look_goes mode rest =
-      ap (λ (v : Value). run_part (free_cells (word_in v).used (word_in v).cells >>= look_on mode) (standing w rest))
-      (word_stands w k x there rest)
+  abbrev used_on : Mode → Value → Part Store
+  used_on mode v = free_cells (word_in v).used (word_in v).cells >>= look_on mode
+
+  pub look_goes : (mode : Mode) (r : Result Store Reason) (v : Words)
+      → Runs (free_cells (use_of x.used) (cells_of x.cells) >>= look_on mode) w r v
+      → Runs (touch_word (site_of w) mode k) w r v
+  look_goes mode r v h =
+      runs_on (see (WordAt w.number k)) (used_on mode) w w v (IsWord (word_of x)) r
+      (runs_seen w (WordAt w.number k) (IsWord (word_of x)) (word_stands w k x there) seen) h
 
   -- it may not be used
   pub touch_stops : (mode : Mode) (why : Reason)
       → ((cells : Store) (s : State) → run_part (free_cells (use_of x.used) cells) s ≡ (Err why, s))
       → Runs (touch_word (site_of w) mode k) w (Err why) w
   touch_stops mode why busy =
-      record {
-        runs = λ rest. look_goes mode rest
-            ∙ run_stops (free_cells (use_of x.used) (cells_of x.cells)) (look_on mode) (standing w rest)
-            (standing w rest) why (busy (cells_of x.cells) (standing w rest));
-      }
+      look_goes mode (Err why) w
+      (runs_stop (free_cells (use_of x.used) (cells_of x.cells)) (look_on mode) w w why
+      (runs_quiet (free_cells (use_of x.used) (cells_of x.cells)) w (Err why) (busy (cells_of x.cells))
+      (free_quiet (use_of x.used) (cells_of x.cells))))
 
   -- it is looked at, with what follows
-  touch_on : (mode : Mode) (r : Result Store Reason)
+  pub touch_on : (mode : Mode) (r : Result Store Reason)
       → ((cells : Store) (s : State) → run_part (free_cells (use_of x.used) cells) s ≡ (Ok cells, s))
-      → ((rest : State) → run_part (look_on mode (cells_of x.cells)) (standing w rest) ≡ (r, standing w rest))
-      → Runs (touch_word (site_of w) mode k) w r w
+      → Runs (look_on mode (cells_of x.cells)) w r w → Runs (touch_word (site_of w) mode k) w r w
   touch_on mode r free next =
-      record {
-        runs = λ rest. look_goes mode rest
-            ∙ run_on (free_cells (use_of x.used) (cells_of x.cells)) (look_on mode) (standing w rest) (standing w rest)
-            (cells_of x.cells) (free (cells_of x.cells) (standing w rest))
-            ∙ next rest;
-      }
+      look_goes mode r w
+      (runs_on (free_cells (use_of x.used) (cells_of x.cells)) (look_on mode) w w w (cells_of x.cells) r
+      (runs_quiet (free_cells (use_of x.used) (cells_of x.cells)) w (Ok (cells_of x.cells)) (free (cells_of x.cells))
+      (free_quiet (use_of x.used) (cells_of x.cells))) next)
 
   -- it is read
   pub reads : ((cells : Store) (s : State) → run_part (free_cells (use_of x.used) cells) s ≡ (Ok cells, s))
       → Runs (touch_word (site_of w) Reads k) w (Ok (cells_of x.cells)) w
-  reads free = touch_on Reads (Ok (cells_of x.cells)) free (λ rest. refl)
+  reads free = touch_on Reads (Ok (cells_of x.cells)) free (runs_given (cells_of x.cells) w)
 
-  -- what follows the look at the outputs
-  abbrev pub sent_on : Value → Part Store
-  sent_on v = (if is_zero (amount_in v) then done else stopping (Breaks InTransit)) >> gives (cells_of x.cells)
+  module _ (sent : Has w (look_at (Sending w.number k))) where
+    -- it is written
+    pub writes : ((cells : Store) (s : State) → run_part (free_cells (use_of x.used) cells) s ≡ (Ok cells, s))
+        → (x.sending == 0) ≡ true → Runs (touch_word (site_of w) Writes k) w (Ok (cells_of x.cells)) w
+    writes free none =
+        touch_on Writes (Ok (cells_of x.cells)) free
+        (runs_on (settled (site_of w) Writes k) (λ _. gives (cells_of x.cells)) w w w tt (Ok (cells_of x.cells))
+        (outputs_seen w k x there sent (Ok tt) true none (runs_given tt w)) (runs_given (cells_of x.cells) w))
 
-  -- it is written
-  pub writes : ((cells : Store) (s : State) → run_part (free_cells (use_of x.used) cells) s ≡ (Ok cells, s))
-      → (x.sending == 0) ≡ true → Runs (touch_word (site_of w) Writes k) w (Ok (cells_of x.cells)) w
-  writes free none =
-      touch_on Writes (Ok (cells_of x.cells)) free
-      (λ rest. ap (λ (v : Value). run_part (sent_on v) (standing w rest)) (sending_stands w k x there rest)
-      ∙ ap (λ (t : Bool). run_part ((if t then done else stopping (Breaks InTransit)) >> gives (cells_of x.cells))
-      (standing w rest)) none)
+    pub writes_in_transit :
+        ((cells : Store) (s : State) → run_part (free_cells (use_of x.used) cells) s ≡ (Ok cells, s))
+        → (x.sending == 0) ≡ false → Runs (touch_word (site_of w) Writes k) w (Err (Breaks InTransit)) w
+    writes_in_transit free some =
+        touch_on Writes (Err (Breaks InTransit)) free
+        (runs_stop (settled (site_of w) Writes k) (λ _. gives (cells_of x.cells)) w w (Breaks InTransit)
+        (outputs_seen w k x there sent (Err (Breaks InTransit)) false some (runs_stopping (Breaks InTransit) w)))
 
-  pub writes_in_transit : ((cells : Store) (s : State) → run_part (free_cells (use_of x.used) cells) s ≡ (Ok cells, s))
-      → (x.sending == 0) ≡ false → Runs (touch_word (site_of w) Writes k) w (Err (Breaks InTransit)) w
-  writes_in_transit free some =
-      touch_on Writes (Err (Breaks InTransit)) free
-      (λ rest. ap (λ (v : Value). run_part (sent_on v) (standing w rest)) (sending_stands w k x there rest)
-      ∙ ap (λ (t : Bool). run_part ((if t then done else stopping (Breaks InTransit)) >> gives (cells_of x.cells))
-      (standing w rest)) some)
+-- a word that was noted is touched
+pub touched_word : (w v : Words) (k : ℕ) (mode : Mode) (note : notes.Mode) (r : Result Store Reason)
+    → IsTouched w k note v → Runs (touch_word (site_of v) mode k) v r v → Runs (touch_word (site_of w) mode k) w r v
+touched_word w v k mode note r t h =
+    runs_touched (touch_word (site_of w) mode k) w v v k note r t
+    (subst (λ (s : Site). Runs (touch_word s mode k) v r v) (site_touched w v k note t) h)
 
 -- a word is set: the place changes, and no other one
 module _ (n : ℕ) (ws : List StoredWord) (k : ℕ) (x y : StoredWord) (there : slice_get ws k ≡ Some x) where
@@ -169,15 +208,46 @@ module _ (n : ℕ) (ws : List StoredWord) (k : ℕ) (x y : StoredWord) (there : 
   state_set same rest = λ i p. place_set same rest p i
 
 -- a word of these words is set
-pub puts : (w v : Words) (k : ℕ) (x y : StoredWord) → slice_get w.items.items k ≡ Some x
-    → v.items.items ≡ slice_set w.items.items k y → v.number ≡ w.number → y.sending ≡ x.sending
-    → Runs (change (WordAt w.number k) (Put (IsWord (word_of y)))) w (Ok tt) v
-puts w v k x y there set number same =
-    record {
-      runs = λ rest. ap (λ (s : State). (Ok tt, s)) (sym (state_set w.number w.items.items k x y there same rest)
-          ∙ ap (λ (ws : List StoredWord). with_words w.number ws rest) (sym set)
-          ∙ ap (λ (n : ℕ). with_words n v.items.items rest) (sym number));
-    }
+module _ (w v : Words) (k : ℕ) (x : StoredWord) (cells : Cells) (used : WordUse)
+    (there : slice_get w.items.items k ≡ Some x) (s : IsSet w k cells used v) where
+  -- what is put there
+  abbrev pub left : Word
+  left = record { cells = cells_of cells; used = use_of used }
+
+  pub set_state : (rest : State) → changed (WordAt w.number k) (Put (IsWord left)) (standing w rest) ≡ standing v rest
+  set_state rest =
+      sym (state_set w.number w.items.items k x
+      (record { cells = cells; used = used; sending = sending_of (slice_get w.items.items k) }) there
+      (ap sending_of there) rest)
+      ∙ sym (λ i. with_words (s.number i) (s.items i) rest)
+
+  pub puts : Has w (change_at (WordAt w.number k) (Put (IsWord left)))
+      → Runs (change (WordAt w.number k) (Put (IsWord left))) w (Ok tt) v
+  puts has = runs_changed w v (WordAt w.number k) (Put (IsWord left)) set_state s.number s.first s.notes has
+
+-- a place in a list has an item
+pub there_is : {X : Type 0} (xs : List X) (k : ℕ) → k < length xs → (x : X) × (slice_get xs k ≡ Some x)
+there_is [] k h = absurd (omega arith)
+there_is (x ∷ xs) zero h = (x, refl)
+there_is (x ∷ xs) (suc k) h = there_is xs k (omega arith)
+
+-- a word that was noted is changed, whatever the change
+module _ (w v u : Words) (k : ℕ) (note : notes.Mode) (c : Change) (t : IsTouched w k note v) where
+  pub touched_change : Runs (change (WordAt v.number k) c) v (Ok tt) u → Runs (change (WordAt w.number k) c) w (Ok tt) u
+  touched_change h =
+      runs_touched (change (WordAt w.number k) c) w v u k note (Ok tt) t
+      (subst (λ (n : ℕ). Runs (change (WordAt n k) c) v (Ok tt) u) t.number h)
+
+-- a word is noted as put, and put
+pub puts_noted : (w v u : Words) (k : ℕ) (cells : Cells) (used : WordUse) → k < length w.items.items
+    → IsTouched w k noted.Puts v → IsSet v k cells used u
+    → Runs (change (WordAt w.number k) (Put (IsWord (record { cells = cells_of cells; used = use_of used })))) w
+    (Ok tt) u
+puts_noted w v u k cells used inside t s =
+    let x = there_is v.items.items k (subst (λ (n : ℕ). k < n) (sym (ap length t.items)) inside) in
+    let c : Change = Put (IsWord (record { cells = cells_of cells; used = use_of used })) in
+    touched_change w v u k noted.Puts c t
+    (puts v u k x.0 cells used x.1 s (has_change v k noted.Puts t.tells c refl))
 
 -- an answer of a check of where a word lies
 pub broken : (o : Option Break) (n : ℕ) (b : Break) → or_break o n ≡ Err b → o ≡ Some b
@@ -190,23 +260,21 @@ passed (Some x) n k e = cc
 
 -- the word at an address is touched
 module _ (w : Words) (mode : Mode) (a : ℕ) where
+  abbrev by_break : Option Break → ℕ → Part Store
+  by_break o n = unless o >> touch_word (site_of w) mode n
+
   pub misplaced : (b : Break) → or_break (word_place_break (site_of w).size a) (word_number a) ≡ Err b
       → Runs (touch_word_at (site_of w) mode a) w (Err (Breaks b)) w
   misplaced b e =
-      record {
-        runs = λ rest. ap (λ (o : Option Break). run_part (unless o >> touch_word (site_of w) mode (word_number a))
-            (standing w rest)) (broken (word_place_break (site_of w).size a) (word_number a) b e);
-      }
+      subst (λ (o : Option Break). Runs (by_break o (word_number a)) w (Err (Breaks b)) w)
+      (sym (broken (word_place_break (site_of w).size a) (word_number a) b e)) (runs_stopping (Breaks b) w)
 
-  pub placed : (k : ℕ) (r : Result Store Reason)
+  pub placed : (v : Words) (k : ℕ) (r : Result Store Reason)
       → or_break (word_place_break (site_of w).size a) (word_number a) ≡ Ok k
-      → Runs (touch_word (site_of w) mode k) w r w → Runs (touch_word_at (site_of w) mode a) w r w
-  placed k r e h = let o = passed (word_place_break (site_of w).size a) (word_number a) k e in
-      record {
-        runs = λ rest. ap (λ (o : Option Break). run_part (unless o >> touch_word (site_of w) mode (word_number a))
-            (standing w rest)) o.0
-            ∙ ap (λ (n : ℕ). run_part (touch_word (site_of w) mode n) (standing w rest)) o.1 ∙ h.runs rest;
-      }
+      → Runs (touch_word (site_of w) mode k) w r v → Runs (touch_word_at (site_of w) mode a) w r v
+  placed v k r e h = let o = passed (word_place_break (site_of w).size a) (word_number a) k e in
+      subst (λ (b : Option Break). Runs (by_break b (word_number a)) w r v) (sym o.0)
+      (subst (λ (n : ℕ). Runs (touch_word (site_of w) mode n) w r v) (sym o.1) h)
 
 -- the number of a word that is there
 pub word_number_is : (w : Words) (a k : ℕ) → or_break (word_place_break (site_of w).size a) (word_number a) ≡ Ok k

@@ -29,24 +29,26 @@ change_at : (w v : Words) (a k : ℕ) (c : Change) → word_number a ≡ k → R
 change_at w v a k c e h = subst (λ (n : ℕ). Runs (change (WordAt w.number n) c) w (Ok tt) v) (sym e) h
 
 -- it may not be touched
-pub sets_not : (w : Words) (a : ℕ) (u : Use) (new : Store → Store) (why : Reason)
-    → Runs (touch_word_at (site_of w) Writes a) w (Err why) w
-    → Runs (touch_word_at (site_of w) Writes a >>= setting w a u new) w (Err why) w
-sets_not w a u new why h = runs_stop (touch_word_at (site_of w) Writes a) (setting w a u new) w w why h
+pub sets_not : (w v : Words) (a : ℕ) (u : Use) (new : Store → Store) (why : Reason)
+    → Runs (touch_word_at (site_of w) Writes a) w (Err why) v
+    → Runs (touch_word_at (site_of w) Writes a >>= setting w a u new) w (Err why) v
+sets_not w v a u new why h = runs_stop (touch_word_at (site_of w) Writes a) (setting w a u new) w v why h
 
 -- it is set
-pub sets : (w v : Words) (a k : ℕ) (u : Use) (new : Store → Store) (cells left : Store) → left ≡ new cells
+pub sets : (w t v : Words) (a k : ℕ) (u : Use) (new : Store → Store) (cells left : Store) → left ≡ new cells
     → or_break (word_place_break (site_of w).size a) (word_number a) ≡ Ok k
-    → Runs (touch_word (site_of w) Writes k) w (Ok cells) w
-    → Runs (change (WordAt w.number k) (Put (IsWord (record { cells = left; used = u })))) w (Ok tt) v
+    → Runs (touch_word (site_of w) Writes k) w (Ok cells) t → site_of t ≡ site_of w
+    → Runs (change (WordAt t.number k) (Put (IsWord (record { cells = left; used = u })))) t (Ok tt) v
     → Runs (touch_word_at (site_of w) Writes a >>= setting w a u new) w (Ok tt) v
-sets w v a k u new cells left is at touched changed =
-    runs_on (touch_word_at (site_of w) Writes a) (setting w a u new) w w v cells (Ok tt)
-    (placed w Writes a k (Ok cells) at touched)
-    (change_at w v a k (Put (IsWord (record { cells = new cells; used = u }))) (word_number_is w a k at)
-    (subst (λ (x : Store). Runs (change (WordAt w.number k) (Put (IsWord (record { cells = x; used = u })))) w
+sets w t v a k u new cells left is at touched same changed =
+    runs_on (touch_word_at (site_of w) Writes a) (setting w a u new) w t v cells (Ok tt)
+    (placed w Writes a t k (Ok cells) at touched)
+    (subst (λ (s : Site). Runs (change (word_place s a) (Put (IsWord (record { cells = new cells; used = u })))) t
+    (Ok tt) v) same
+    (change_at t v a k (Put (IsWord (record { cells = new cells; used = u }))) (word_number_is w a k at)
+    (subst (λ (x : Store). Runs (change (WordAt t.number k) (Put (IsWord (record { cells = x; used = u })))) t
     (Ok tt) v)
-    is changed))
+    is changed)))
 
 -- the three words below a workspace are saved, or one of them may not be written
 module _ (w v : Words) (a : ℕ) (lowest : Store → Store) where

@@ -1,16 +1,19 @@
 -- The walk of a step does what its run does.
 use Rattle.std.proofs.Common.{◌≡◌, refl, sym, ap, ◌∙◌, Bool, true, false, List, [], ◌∷◌, ◌++◌, append_assoc, append-nil}
 use Rattle.std.proofs.Common.{Some, None}
-use Rattle.std.specs.Prelude.{map, filter, if◌then◌else◌}
+use Rattle.std.specs.Prelude.{All, Contains, map, filter, if◌then◌else◌}
+use Rattle.std.proofs.lemmas.List.Elements.{All-cons, All-nil, All-weaker, Contains-append_left}
+use Rattle.std.proofs.lemmas.List.Elements.{Contains-append_right, Contains-push}
 use Rattle.tplan.specs.declared.plan.Plan.{Plan}
 use Rattle.tagents.specs.Walks.{deed_of, sights_of, value_after}
 use Rattle.tprocesses.specs.Places.{Place, same_place}
 use Rattle.tprocesses.specs.Values.{Value}
 use Rattle.tprocesses.specs.Changes.{Change, apply}
-use Rattle.tprocesses.specs.Parts.{gives, stopping, seeing, changing, telling, Doing, Changed, Deed, made, walk_from}
+use Rattle.tprocesses.specs.Parts.{Part, gives, stopping, seeing, changing, telling, Doing, Changed, Deed, made}
+use Rattle.tprocesses.specs.Parts.{walk_from}
 use Rattle.tprocesses.specs.Machine.{process_machine}
 use Rattle.tcertify.specs.Running.{State, changed, run_part}
-use Rattle.tcertify.specs.Walked.{stop_of, looks, changes, IsWalkedAsRun}
+use Rattle.tcertify.specs.Walked.{Accessed, accesses, change_at, look_at, stop_of, looks, changes, IsWalkedAsRun}
 
 -- one more change at a place
 made-more : (cs : List Changed) (p q : Place) (c : Change) (v : Value)
@@ -41,6 +44,51 @@ picked plan (x ∷ cs) p v = by (same_place x.place p) (λ u. picked plan cs p u
         ≡ made cs p (if t then apply x.change v else v)
     by true rest v = rest (apply x.change v)
     by false rest v = rest v
+
+-- an access is among more
+among_more : (a b : Accessed) (told : List Accessed) → Contains told b → Contains (a ∷ told) b
+among_more a b told h = Contains-append_right (a ∷ []) told b h
+
+among_first : (a : Accessed) (told : List Accessed) → Contains (a ∷ told) a
+among_first a told = Contains-append_left (a ∷ []) told a (Contains-push [] a)
+
+-- each look is among the accesses
+looks_are_told : {A : Type 0} (step : Part A) (s : State)
+    → All (λ p. Contains (accesses step s) (look_at p)) (looks step s)
+looks_are_told (gives x) s = All-nil (λ p. Contains [] (look_at p))
+looks_are_told (stopping why) s = All-nil (λ p. Contains [] (look_at p))
+looks_are_told (seeing p next) s =
+    let told = accesses (next (s p)) s in
+    All-cons (λ q. Contains (look_at p ∷ told) (look_at q)) p (looks (next (s p)) s) (among_first (look_at p) told)
+    (All-weaker (λ q. Contains told (look_at q)) (λ q. Contains (look_at p ∷ told) (look_at q))
+    (λ q h. among_more (look_at p) (look_at q) told h) (looks (next (s p)) s) (looks_are_told (next (s p)) s))
+looks_are_told (changing p c next) s =
+    let told = accesses next (changed p c s) in
+    All-weaker (λ q. Contains told (look_at q)) (λ q. Contains (change_at p c ∷ told) (look_at q))
+    (λ q h. among_more (change_at p c) (look_at q) told h) (looks next (changed p c s))
+    (looks_are_told next (changed p c s))
+looks_are_told (telling m next) s = looks_are_told next s
+
+-- and each change
+changes_are_told : {A : Type 0} (step : Part A) (s : State)
+    → All (λ x. Contains (accesses step s) (change_at x.place x.change)) (changes step s)
+changes_are_told (gives x) s = All-nil (λ (x : Changed). Contains [] (change_at x.place x.change))
+changes_are_told (stopping why) s = All-nil (λ (x : Changed). Contains [] (change_at x.place x.change))
+changes_are_told (seeing p next) s =
+    let told = accesses (next (s p)) s in
+    All-weaker (λ (x : Changed). Contains told (change_at x.place x.change))
+    (λ (x : Changed). Contains (look_at p ∷ told) (change_at x.place x.change))
+    (λ x h. among_more (look_at p) (change_at x.place x.change) told h) (changes (next (s p)) s)
+    (changes_are_told (next (s p)) s)
+changes_are_told (changing p c next) s =
+    let told = accesses next (changed p c s) in
+    All-cons (λ (x : Changed). Contains (change_at p c ∷ told) (change_at x.place x.change))
+    (record { place = p; change = c }) (changes next (changed p c s)) (among_first (change_at p c) told)
+    (All-weaker (λ (x : Changed). Contains told (change_at x.place x.change))
+    (λ (x : Changed). Contains (change_at p c ∷ told) (change_at x.place x.change))
+    (λ x h. among_more (change_at p c) (change_at x.place x.change) told h) (changes next (changed p c s))
+    (changes_are_told next (changed p c s)))
+changes_are_told (telling m next) s = changes_are_told next s
 
 module _ (plan : Plan) where
   looks-from : (d : Deed) (step : Doing) (s : State)
@@ -100,4 +148,6 @@ module _ (plan : Plan) where
         state = (λ i p. picked plan (deed_of (walk_from nothing step) s).changes p (s p) i)
             ∙ state-from nothing step s;
         stops = stops-from nothing step s refl;
+        looks_told = looks_are_told step s;
+        changes_told = changes_are_told step s;
       }

@@ -3,17 +3,49 @@
 pub mod Cells
 -- parts of steps on a state
 pub mod Running
+-- notes of what was touched
+pub mod Priorities
+pub mod Notes
 -- words of a node as places
 pub mod Words
+-- spans of words
+pub mod Spans
 -- what an instruction answered
 pub mod Instructions
 -- steps as runs
 pub mod Walked
 -- contexts, and what instructions use
 pub mod Contexts
--- which instructions move bytes
-pub mod Moves
 -- instructions, up to what follows them
 pub mod Carried
 -- where a process stands
 pub mod Standing
+-- things that are found by keys
+pub mod Finding
+-- halves of channels
+pub mod Sides
+-- processes, channels and workspaces of a node
+pub mod Processes
+pub mod Channels
+pub mod Lives
+-- outputs that are over
+pub mod Outputs
+-- processes that begin, and flags
+pub mod Starts
+pub mod Flags
+-- what a node has but for its words
+pub mod Boards
+-- what parts see
+pub mod Seeing
+-- a node as places
+pub mod Nodes
+-- parts of operations of the scheduler, and of steps
+pub mod Scheduling
+pub mod Steps
+-- parts of messages
+pub mod Messages
+-- nodes before the first step
+pub mod Opened
+pub mod NodeOpened
+-- sources and sinks
+pub mod Ends

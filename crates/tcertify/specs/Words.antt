@@ -1,7 +1,9 @@
 -- The words of a node as places, and what a call on them does.
 -- Source: own choice.
-use Rattle.std.specs.Prelude.{ℕ, ◌≡◌, ◌*◌, ◌==◌, pos, List, Option, Some, None, Result, Ok, Err, length, slice_get}
+use Rattle.std.specs.Prelude.{ℕ, ◌≡◌, ◌+◌, ◌*◌, ◌==◌, pos, List, Option, Some, None, Result, Ok, Err, length}
+use Rattle.std.specs.Prelude.{option_map, slice_get, slice_set, false, []}
 use Rattle.std.specs.Prelude.{if◌then◌else◌}
+use Rattle.tword.specs.Stores.{Store}
 use Rattle.tprocesses.specs.Places.{WordAt, Sending}
 use Rattle.tprocesses.specs.Values.{Value, IsWord, IsAmount, Use, Word}
 use Rattle.tprocesses.specs.Values as value
@@ -9,8 +11,8 @@ use Rattle.tprocesses.specs.Parts.{Reason, Part}
 use Rattle.tprocesses.specs.Parts as reason
 use Rattle.tprocesses.specs.Changes.{free_word}
 use Rattle.tprocesses.specs.Touching.{Site}
-use Rattle.tcertify.specs.declared.priority.Priority.{Priority}
-use Rattle.tcertify.specs.declared.priority.Priority.TheVariants.{High, Low}
+use Rattle.tcertify.specs.declared.notes.Mode.{Mode}
+use Rattle.tcertify.specs.declared.cells.Cells.{Cells}
 use Rattle.tcertify.specs.declared.stop.Stop.{Stop}
 use Rattle.tcertify.specs.declared.stop.Stop.TheVariants as stop
 use Rattle.tcertify.specs.declared.word_use.WordUse.{WordUse}
@@ -18,7 +20,10 @@ use Rattle.tcertify.specs.declared.word_use.WordUse.TheVariants as uses
 use Rattle.tcertify.specs.declared.stored.StoredWord.{StoredWord}
 use Rattle.tcertify.specs.declared.stored.Words.{Words}
 use Rattle.tcertify.specs.Cells.{cells_of}
+use Rattle.tcertify.specs.Notes.{AreNoted, Keeps, Numbering, NumbersWords, Tells}
 use Rattle.tcertify.specs.Running.{State, run_part}
+use Rattle.tcertify.specs.Walked.{accesses}
+pub use Rattle.tcertify.specs.Priorities.{number_of}
 
 -- why a part stops
 abbrev pub reason_of : Stop → Reason
@@ -28,11 +33,7 @@ reason_of stop.SawTheScheduler = reason.SawTheScheduler
 reason_of stop.HasAlternatives = reason.HasAlternatives
 reason_of stop.WordInUse = reason.WordInUse
 reason_of stop.FullSink = reason.FullSink
-
--- the number of a priority
-abbrev pub number_of : Priority → ℕ
-number_of High = 0
-number_of Low = 1
+reason_of stop.HasNoStep = reason.HasNoStep
 
 -- what a word is in use for
 abbrev pub use_of : WordUse → Use
@@ -72,6 +73,11 @@ with_words n words s (Sending m k) =
     if n == m then sending_or (slice_get words k) (s (Sending m k)) else s (Sending m k)
 with_words n words s p = s p
 
+-- how many pending outputs have a byte of a word
+abbrev pub sending_of : Option StoredWord → ℕ
+sending_of (Some w) = w.sending
+sending_of None = 0
+
 abbrev pub standing : Words → State → State
 standing w s = with_words w.number w.items.items s
 
@@ -80,6 +86,43 @@ abbrev pub told : {X A : Type 0} → (X → A) → Result X Stop → Result A Re
 told f (Ok x) = Ok (f x)
 told f (Err why) = Err (reason_of why)
 
--- a call answered what a part does and left the words as it does, whatever stands elsewhere
+-- the word of this number has these bytes
+abbrev pub HasCells : List StoredWord → ℕ → Store → Type 0
+HasCells words k cells = Some cells ≡ option_map (λ w. cells_of w.cells) (slice_get words k)
+
+-- the words are as they were, and the word of this number is noted as touched so
+pub record IsTouched (old : Words) (k : ℕ) (mode : Mode) (new : Words) : Type 0 where
+  pub items : new.items.items ≡ old.items.items
+  pub number : new.number ≡ old.number
+  pub kind : new.kind ≡ old.kind
+  pub first : new.first_place ≡ old.first_place
+  pub keeps : Keeps old.notes new.notes
+  pub tells : Tells new.notes (new.first_place + k) mode
+
+-- the words are as they were but for this one, whose pending outputs stay
+pub record IsSet (old : Words) (k : ℕ) (cells : Cells) (used : WordUse) (new : Words) : Type 0 where
+  pub items : new.items.items ≡ slice_set old.items.items k
+      (record { cells = cells; used = used; sending = sending_of (slice_get old.items.items k) })
+  pub number : new.number ≡ old.number
+  pub kind : new.kind ≡ old.kind
+  pub first : new.first_place ≡ old.first_place
+  pub notes : new.notes ≡ old.notes
+
+-- the words are as they were, and nothing is noted
+pub record IsCleared (old new : Words) : Type 0 where
+  pub items : new.items.items ≡ old.items.items
+  pub number : new.number ≡ old.number
+  pub kind : new.kind ≡ old.kind
+  pub first : new.first_place ≡ old.first_place
+  pub notes : new.notes.items.items ≡ []
+  pub none : new.notes.is_lost ≡ false
+
+-- a call answered what a part does and left the words as it does, whatever stands elsewhere; it noted what the part
+-- accesses, which is all in these words
 pub record Runs {A : Type 0} (part : Part A) (old : Words) (answer : Result A Reason) (new : Words) : Type 0 where
   pub runs : (rest : State) → run_part part (standing old rest) ≡ (answer, standing new rest)
+  pub node : new.number ≡ old.number
+  pub first : new.first_place ≡ old.first_place
+  pub keeps : Keeps old.notes new.notes
+  pub noted : (numbering : Numbering) → NumbersWords numbering old.number old.first_place → (rest : State)
+      → AreNoted numbering new.notes (accesses part (standing old rest))

@@ -1,12 +1,11 @@
 //! A local instruction of a process, up to what follows it.
 
-ghost use Rattle.std.specs.Prelude.{◌≡◌, false, List};
+ghost use Rattle.std.specs.Prelude.{◌≡◌, List};
 ghost use Rattle.tprocesses.specs.Uses.{Origin};
 ghost use Rattle.tprocesses.specs.Instructions as instructions;
 ghost use Rattle.tcertify.specs.Carried.{carried_out, finished, followed};
 ghost use Rattle.tcertify.specs.Contexts.{context_of, uses_with};
 ghost use Rattle.tcertify.specs.Instructions.{outcome};
-ghost use Rattle.tcertify.specs.Moves as moves;
 ghost use Rattle.tcertify.specs.Words.{Runs, site_of, told};
 
 use crate::alone::IdleMemory;
@@ -45,8 +44,8 @@ pub fn has_flags(kind: Kind, instruction: &Instruction) -> bool
     }
 }
 
-/// Does a local instruction of a process, as if Error were clear and HaltOnError set. `move` is not among them. idle: a
-/// memory of the node's kind that is not touched.
+/// Does a local instruction of a process, as if Error were clear and HaltOnError set. idle: a memory of the node's kind
+/// that is not touched.
 ///
 /// # Errors
 /// `SawTheScheduler` where a register that it needs is not known, or what it reads and has to know; else those of
@@ -57,8 +56,7 @@ pub fn carry_out(
     idle: &mut IdleMemory,
     instruction: Instruction,
 ) -> Result<Carried, Stop>
-    requires kind { idle.old.memory.kind ≡ words.old.kind }
-    requires local { moves.is_move words.old.kind instruction ≡ false }
+    requires { idle.old.memory.kind ≡ words.old.kind }
     ensures done { Runs (carried_out (site_of words.old) (context_of context.now) instruction) words.old
         (told followed result) words.new }
     ensures site { site_of words.new ≡ site_of words.old }

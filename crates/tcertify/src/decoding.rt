@@ -34,8 +34,9 @@ fn chain(bytes: &[u8], kind: Kind) -> Result<Option<Instruction>, Break>
 ///
 /// # Errors
 /// Those of a read of the bytes; `SawTheScheduler` where one is not known; `LongPrefix` and `NoSuchOperation`.
-pub fn decode(words: &Words, iptr: Word) -> Result<Instruction, Stop>
-    ensures { Runs (decoded (site_of words.now) iptr) words.now (told (λ i. i) result) words.now }
+pub fn decode(words: &mut Words, iptr: Word) -> Result<Instruction, Stop>
+    ensures done { Runs (decoded (site_of words.old) iptr) words.old (told (λ i. i) result) words.new }
+    ensures site { site_of words.new ≡ site_of words.old }
 {
     let mut bytes = [0; LONGEST];
     let mut address = iptr;

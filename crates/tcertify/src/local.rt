@@ -1,40 +1,26 @@
 //! Local instructions of a process.
 
-ghost use Rattle.std.specs.Prelude.{◌≡◌, unwrap_or, false, Some};
+ghost use Rattle.std.specs.Prelude.{◌≡◌, unwrap_or};
 ghost use Rattle.tcode.specs.Table.{operation_at};
 ghost use Rattle.tcpu.specs.Effects.{effect};
 ghost use Rattle.tprocesses.specs.Performing.{perform};
 ghost use Rattle.tprocesses.specs.Uses.{known_writes, uses_of};
 ghost use Rattle.tcertify.specs.Contexts.{context_of};
 ghost use Rattle.tcertify.specs.Instructions.{outcome};
-ghost use Rattle.tcertify.specs.Moves as spec;
 ghost use Rattle.tcertify.specs.Words.{Runs, site_of, told};
 ghost use Rattle.tword.specs.Words.{plus};
 
 use crate::alone::{IdleMemory, do_alone};
 use crate::context::Context;
 use crate::performing::{
-    Done, call, load_byte, load_local, load_non_local, loop_end, return_to_caller, store_byte,
-    store_local, store_non_local,
+    Done, call, load_byte, load_local, load_non_local, loop_end, move_bytes, return_to_caller,
+    store_byte, store_local, store_non_local,
 };
 use crate::stop::Stop;
 use crate::stored::Words;
 use tcode::{Function, Instruction, Operation, operation_of};
 use tcpu::Registers;
-use tword::{Kind, Word};
-
-/// Whether an instruction is `move`, for a node of a kind.
-pub fn is_move(kind: Kind, instruction: &Instruction) -> bool
-    ensures { result ≡ spec.is_move kind instruction.now }
-{
-    match instruction.function {
-        Function::Opr => match operation_of(instruction.operand, kind) {
-            Some(Operation::Move) => true,
-            _ => false,
-        },
-        _ => false,
-    }
-}
+use tword::Word;
 
 /// Iptr moves behind an instruction.
 #[inline(always)]
@@ -47,7 +33,7 @@ fn advance(registers: &mut Registers, instruction: &Instruction)
 }
 
 /// Does an instruction of a process with this context, if it is a local one, or leaves an operation to the scheduler
-/// with nothing changed. `move` is not among them. idle: a memory of the node's kind that is not touched.
+/// with nothing changed. idle: a memory of the node's kind that is not touched.
 ///
 /// # Errors
 /// Those of what it touches, `Unaligned` of a workspace, `NoSuchOperation`.
@@ -59,8 +45,7 @@ pub fn do_local(
     idle: &mut IdleMemory,
     instruction: Instruction,
 ) -> Result<Done, Stop>
-    requires kind { idle.old.memory.kind ≡ words.old.kind }
-    requires local { spec.is_move words.old.kind instruction ≡ false }
+    requires { idle.old.memory.kind ≡ words.old.kind }
     ensures done { Runs (perform (site_of words.old)
         (known_writes (context_of context.now) (uses_of words.old.kind instruction (unwrap_or context.now.a 0)))
         (effect words.old.kind instruction registers.old)) words.old (told (outcome registers.new) result) words.new }
@@ -114,7 +99,6 @@ fn do_operation(
 ) -> Result<Done, Stop>
     requires kind { idle.old.memory.kind ≡ words.old.kind }
     requires function { instruction.function ≡ Function.Opr }
-    requires local { spec.is_move words.old.kind instruction ≡ false }
     ensures done { Runs (perform (site_of words.old)
         (known_writes (context_of context.now) (uses_of words.old.kind instruction (unwrap_or context.now.a 0)))
         (effect words.old.kind instruction registers.old)) words.old (told (outcome registers.new) result) words.new }
@@ -140,6 +124,10 @@ fn do_operation(
         Operation::Lend => {
             advance(registers, &instruction);
             loop_end(registers, words)
+        }
+        Operation::Move => {
+            advance(registers, &instruction);
+            move_bytes(registers, words)
         }
         _ => do_alone(registers, idle, instruction),
     }

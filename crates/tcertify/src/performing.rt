@@ -1,6 +1,6 @@
 //! Instructions of a process on its registers and the words of its node.
 
-ghost use Rattle.std.specs.Prelude.{◌≡◌, ◌∷◌, [], ◌&&◌, true};
+ghost use Rattle.std.specs.Prelude.{◌≡◌, ◌∷◌, [], ◌&&◌, true, Bool, List};
 ghost use Rattle.tword.specs.Words.{word_from};
 ghost use Rattle.tcpu.specs.declared.registers.Registers as declared;
 ghost use Rattle.tcpu.specs.Effects.{local_or_left};
@@ -15,7 +15,7 @@ use crate::stop::Stop;
 use crate::stored::Words;
 use tcode::{Function, Operation};
 use tcpu::{Next, Registers};
-use tword::Word;
+use tword::{Span, Word};
 
 /// What an instruction did: what follows it, and whether all that it read is known.
 #[derive(Clone, Copy)]
@@ -72,11 +72,12 @@ fn pop(registers: &mut Registers)
 #[inline(always)]
 pub(crate) fn load_local(
     registers: &mut Registers,
-    words: &Words,
+    words: &mut Words,
     operand: Word,
 ) -> Result<Done, Stop>
-    ensures { Runs (perform (site_of words.now) [] (function_effect Function.Ldl operand registers.old)) words.now
-        (told (outcome registers.new) result) words.now }
+    ensures done { Runs (perform (site_of words.old) [] (function_effect Function.Ldl operand registers.old)) words.old
+        (told (outcome registers.new) result) words.new }
+    ensures site { site_of words.new ≡ site_of words.old }
 {
     let cells = words.read_word(word_address(registers.wptr, operand))?;
     push(registers, cells.word());
@@ -90,11 +91,12 @@ pub(crate) fn load_local(
 #[inline(always)]
 pub(crate) fn load_non_local(
     registers: &mut Registers,
-    words: &Words,
+    words: &mut Words,
     operand: Word,
 ) -> Result<Done, Stop>
-    ensures { Runs (perform (site_of words.now) [] (function_effect Function.Ldnl operand registers.old)) words.now
-        (told (outcome registers.new) result) words.now }
+    ensures done { Runs (perform (site_of words.old) [] (function_effect Function.Ldnl operand registers.old)) words.old
+        (told (outcome registers.new) result) words.new }
+    ensures site { site_of words.new ≡ site_of words.old }
 {
     let cells = words.read_word(word_address(registers.a, operand))?;
     registers.a = cells.word();
@@ -179,10 +181,11 @@ pub(crate) fn call(
 /// # Errors
 /// Those of a read of the word.
 #[inline(always)]
-pub(crate) fn return_to_caller(registers: &mut Registers, words: &Words) -> Result<Done, Stop>
-    ensures { (before : declared.Registers) → Runs (perform (site_of words.now) []
-        (local_or_left (operation_effect Operation.Ret registers.old) Operation.Ret before)) words.now
-        (told (outcome registers.new) result) words.now }
+pub(crate) fn return_to_caller(registers: &mut Registers, words: &mut Words) -> Result<Done, Stop>
+    ensures done { (before : declared.Registers) → Runs (perform (site_of words.old) []
+        (local_or_left (operation_effect Operation.Ret registers.old) Operation.Ret before)) words.old
+        (told (outcome registers.new) result) words.new }
+    ensures site { site_of words.new ≡ site_of words.old }
 {
     let cells = words.read_word(registers.wptr)?;
     let target = cells.word();
@@ -197,10 +200,11 @@ pub(crate) fn return_to_caller(registers: &mut Registers, words: &Words) -> Resu
 /// # Errors
 /// Those of a read of the byte.
 #[inline(always)]
-pub(crate) fn load_byte(registers: &mut Registers, words: &Words) -> Result<Done, Stop>
-    ensures { (before : declared.Registers) → Runs (perform (site_of words.now) []
-        (local_or_left (operation_effect Operation.Lb registers.old) Operation.Lb before)) words.now
-        (told (outcome registers.new) result) words.now }
+pub(crate) fn load_byte(registers: &mut Registers, words: &mut Words) -> Result<Done, Stop>
+    ensures done { (before : declared.Registers) → Runs (perform (site_of words.old) []
+        (local_or_left (operation_effect Operation.Lb registers.old) Operation.Lb before)) words.old
+        (told (outcome registers.new) result) words.new }
+    ensures site { site_of words.new ≡ site_of words.old }
 {
     let byte = words.read_byte(registers.a)?;
     let lowest = byte.unwrap_or(0);
@@ -269,6 +273,32 @@ pub(crate) fn loop_end(registers: &mut Registers, words: &mut Words) -> Result<D
         next: Next::Jumped,
         known,
     })
+}
+
+/// `move`: copies A bytes from the address C on to the address B on, and pops all three.
+///
+/// # Errors
+/// Those of a read of the bytes, else those of a write of the others.
+pub(crate) fn move_bytes(registers: &mut Registers, words: &mut Words) -> Result<Done, Stop>
+    ensures done { (before : declared.Registers) (known : List Bool) → Runs (perform (site_of words.old) known
+        (local_or_left (operation_effect Operation.Move registers.old) Operation.Move before)) words.old
+        (told (outcome registers.new) result) words.new }
+    ensures site { site_of words.new ≡ site_of words.old }
+{
+    let size = registers.a.get();
+    let from = Span {
+        start: registers.c,
+        size,
+    };
+    let to = Span {
+        start: registers.b,
+        size,
+    };
+    words.copy(&from, &to)?;
+    pop(registers);
+    pop(registers);
+    pop(registers);
+    Ok(Done::goes(true))
 }
 
 /// Whether a word is above 0, by its signed reading.

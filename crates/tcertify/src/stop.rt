@@ -20,6 +20,8 @@ pub enum Stop {
     WordInUse,
     /// A sink has no room for the message.
     FullSink,
+    /// The agent has no step here. It does not come of a step of an agent whose gates are open.
+    HasNoStep,
 }
 
 impl From<Break> for Stop {

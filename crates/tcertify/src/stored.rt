@@ -1,10 +1,11 @@
 //! The words of a node's memory.
 
-ghost use Rattle.std.specs.Prelude.{◌*◌, length};
+ghost use Rattle.std.specs.Prelude.{◌*◌, ◌+◌, ◌^◌, ◌≤◌, length};
 ghost use Rattle.tword.specs.Accesses.{IsMemorySize};
 ghost use Rattle.tword.specs.declared.kind.Kind.TheVariants.{Two};
 
 use crate::cells::Cells;
+use crate::notes::Notes;
 use crate::word_use::WordUse;
 use tword::Kind;
 
@@ -27,5 +28,10 @@ pub struct Words {
     pub number: u32,
     /// Its kind.
     pub kind: Kind,
+    /// The number of the place of its first word. Those of the others follow.
+    pub first_place: u32,
+    /// What the current step has touched.
+    pub notes: Notes,
     ghost sized: { IsMemorySize Two (4 * length items.items) },
+    ghost numbered: { first_place + length items.items ≤ 2 ^ 32 },
 }

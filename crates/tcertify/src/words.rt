@@ -1,6 +1,7 @@
 //! The words of a node, as programs and the scheduler touch them.
 
-ghost use Rattle.std.specs.Prelude.{All, ◌≡◌, ◌<◌, ◌≤◌, ◌*◌, ◌∷◌, [], IfOk, OnOk, Ok, length, if◌then◌else◌};
+ghost use Rattle.std.specs.Prelude.{All, false, ◌≡◌, ◌<◌, ◌≤◌, ◌+◌, ◌*◌, ◌/◌, ◌^◌, ◌∷◌, [], IfOk, OnOk, Ok, length};
+ghost use Rattle.std.specs.Prelude.{if◌then◌else◌};
 ghost use Rattle.std.specs.Int.{w32, to_le_bytes};
 ghost use Rattle.tword.specs.Stores.{Store};
 ghost use Rattle.tword.specs.Actions.{or_break};
@@ -19,9 +20,11 @@ ghost use Rattle.tcertify.specs.Cells.{cells_of};
 ghost use Rattle.tcertify.specs.Instructions.{touch_byte};
 ghost use Rattle.tcertify.specs.Running.{State, run_part};
 ghost use Rattle.tword.specs.Accesses.{IsMemorySize};
-ghost use Rattle.tcertify.specs.Words.{IsFresh, Runs, number_of, site_of, told, use_of};
+ghost use Rattle.tcertify.specs.Words.{HasCells, IsCleared, IsFresh, IsSet, IsTouched, Runs, number_of, site_of};
+ghost use Rattle.tcertify.specs.Words.{told, use_of};
 
 use crate::cells::Cells;
+use crate::notes::{Mode, Notes};
 use crate::priority::Priority;
 use crate::stop::Stop;
 use crate::stored::{StoredWord, Words};
@@ -52,14 +55,24 @@ impl StoredWord {
 
 impl Words {
     /// The words of a memory of this many bytes in which nothing was loaded, of the node of this number and kind.
+    /// first_place: the number of the place of the first word.
     ///
     /// # Errors
     /// Where the allocator refuses.
-    pub fn new(alloc: Global, size: u32, number: u32, kind: Kind) -> Result<Words, AllocError>
-        requires { IsMemorySize kind size }
+    pub fn new(
+        alloc: Global,
+        size: u32,
+        number: u32,
+        kind: Kind,
+        first_place: u32,
+    ) -> Result<Words, AllocError>
+        requires memory { IsMemorySize kind size }
+        requires places { first_place + size / 4 ≤ 2 ^ 32 }
         ensures words { IfOk result (λ words. All IsFresh words.items.items) }
         ensures site { IfOk result (λ words. site_of words
             ≡ record { number = number; size = size; kind = kind }) }
+        ensures first { IfOk result (λ words. words.first_place ≡ first_place) }
+        ensures notes { IfOk result (λ words. (words.notes.items.items ≡ []) × (words.notes.is_lost ≡ false)) }
     {
         let word = StoredWord::fresh();
         let count = size as usize / 4;
@@ -67,7 +80,36 @@ impl Words {
             items: vec![in alloc; word; count]?,
             number,
             kind,
+            first_place,
+            notes: Notes::new(alloc),
         })
+    }
+
+    /// Forgets what was touched, before a step.
+    pub fn clear_notes(&mut self)
+        ensures words { IsCleared self.old self.new }
+    {
+        self.notes.clear();
+    }
+
+    /// Notes that the word of this number is touched so.
+    #[inline(always)]
+    pub(crate) fn note(&mut self, number: usize, mode: Mode)
+        requires { number < length self.old.items.items }
+        ensures { IsTouched self.old number mode self.new }
+    {
+        self.notes.add(self.first_place + number as u32, mode);
+    }
+
+    /// Sets a word, for a use, and notes nothing.
+    #[inline(always)]
+    fn set(&mut self, number: usize, cells: Cells, used: WordUse)
+        requires { number < length self.old.items.items }
+        ensures { IsSet self.old number cells used self.new }
+    {
+        let stored = &mut self.items[number];
+        stored.cells = cells;
+        stored.used = used;
     }
 
     /// The number of the word at an address that programs may use.
@@ -119,10 +161,14 @@ impl Words {
     /// # Errors
     /// `SavedWord`, `InTransit` or `WordInUse`, by what the word is in use for.
     #[inline(always)]
-    pub fn see(&self, number: usize) -> Result<Cells, Stop>
-        requires { number < length self.now.items.items }
-        ensures { Runs (touch_word (site_of self.now) Reads number) self.now (told cells_of result) self.now }
+    pub fn see(&mut self, number: usize) -> Result<Cells, Stop>
+        requires { number < length self.old.items.items }
+        ensures change { Runs (touch_word (site_of self.old) Reads number) self.old (told cells_of result) self.new }
+        ensures site { site_of self.new ≡ site_of self.old }
+        ensures words { self.new.items.items ≡ self.old.items.items }
+        ensures cells { IfOk result (λ cells. HasCells self.old.items.items number (cells_of cells)) }
     {
+        self.note(number, Mode::Looks);
         let stored = &self.items[number];
         free_for_programs(stored.used)?;
         Ok(stored.cells)
@@ -133,10 +179,14 @@ impl Words {
     /// # Errors
     /// Those of `see`, else `InTransit` where a pending output has a byte of it.
     #[inline(always)]
-    pub fn take(&self, number: usize) -> Result<Cells, Stop>
-        requires { number < length self.now.items.items }
-        ensures { Runs (touch_word (site_of self.now) Writes number) self.now (told cells_of result) self.now }
+    pub fn take(&mut self, number: usize) -> Result<Cells, Stop>
+        requires { number < length self.old.items.items }
+        ensures change { Runs (touch_word (site_of self.old) Writes number) self.old (told cells_of result) self.new }
+        ensures site { site_of self.new ≡ site_of self.old }
+        ensures words { self.new.items.items ≡ self.old.items.items }
+        ensures cells { IfOk result (λ cells. HasCells self.old.items.items number (cells_of cells)) }
     {
+        self.note(number, Mode::Claims);
         let stored = &self.items[number];
         free_for_programs(stored.used)?;
         if stored.sending != 0 {
@@ -154,9 +204,8 @@ impl Words {
         ensures site { site_of self.new ≡ site_of self.old }
         ensures sized { length self.new.items.items ≡ length self.old.items.items }
     {
-        let stored = &mut self.items[number];
-        stored.cells = cells;
-        stored.used = used;
+        self.note(number, Mode::Puts);
+        self.set(number, cells, used);
     }
 
     /// The bytes of the word at an address that a program reads.
@@ -164,8 +213,10 @@ impl Words {
     /// # Errors
     /// Those of `number_at`, else those of `see`.
     #[inline(always)]
-    pub fn read_word(&self, address: Word) -> Result<Cells, Stop>
-        ensures { Runs (touch_word_at (site_of self.now) Reads address) self.now (told cells_of result) self.now }
+    pub fn read_word(&mut self, address: Word) -> Result<Cells, Stop>
+        ensures change { Runs (touch_word_at (site_of self.old) Reads address) self.old (told cells_of result)
+            self.new }
+        ensures site { site_of self.new ≡ site_of self.old }
     {
         let number = self.number_at(address)?;
         self.see(number)
@@ -176,9 +227,10 @@ impl Words {
     /// # Errors
     /// Those of `byte_number_at`, else those of `see`.
     #[inline(always)]
-    pub fn read_byte(&self, address: Word) -> Result<Option<u8>, Stop>
-        ensures { Runs (touch_byte (site_of self.now) Reads address) self.now (told (λ cell. cell ∷ []) result)
-            self.now }
+    pub fn read_byte(&mut self, address: Word) -> Result<Option<u8>, Stop>
+        ensures change { Runs (touch_byte (site_of self.old) Reads address) self.old (told (λ cell. cell ∷ []) result)
+            self.new }
+        ensures site { site_of self.new ≡ site_of self.old }
     {
         let number = self.byte_number_at(address)?;
         let cells = self.see(number)?;
@@ -190,8 +242,10 @@ impl Words {
     /// # Errors
     /// Those of `number_at`, else those of `take`.
     #[inline(always)]
-    pub fn take_word(&self, address: Word) -> Result<Cells, Stop>
-        ensures { Runs (touch_word_at (site_of self.now) Writes address) self.now (told cells_of result) self.now }
+    pub fn take_word(&mut self, address: Word) -> Result<Cells, Stop>
+        ensures change { Runs (touch_word_at (site_of self.old) Writes address) self.old (told cells_of result)
+            self.new }
+        ensures site { site_of self.new ≡ site_of self.old }
     {
         let number = self.number_at(address)?;
         self.take(number)
@@ -285,12 +339,13 @@ impl Words {
         ensures sized { length self.new.items.items ≡ length self.old.items.items }
     {
         let number = (address.get().saturating_sub(MOST_NEG) / 4) as usize;
+        self.note(number, Mode::Puts);
         let stored = &self.items[number];
         if !is_saved(stored.used) {
             return Err(Stop::WordInUse);
         }
         let cells = stored.cells;
-        self.put(number, cells, WordUse::Free);
+        self.set(number, cells, WordUse::Free);
         Ok(())
     }
 
@@ -319,9 +374,10 @@ impl Words {
         ensures sized { length self.new.items.items ≡ length self.old.items.items }
     {
         let number = (address.get().saturating_sub(MOST_NEG) / 4) as usize;
+        self.note(number, Mode::Engages);
         let stored = &self.items[number];
         let used = taken(stored.used, &stored.cells);
-        self.put(number, Cells::unknown(), used);
+        self.set(number, Cells::unknown(), used);
     }
 
     /// The count at an address falls as a process of this priority ends, without a look at it.
@@ -334,9 +390,10 @@ impl Words {
         ensures sized { length self.new.items.items ≡ length self.old.items.items }
     {
         let number = (address.get().saturating_sub(MOST_NEG) / 4) as usize;
+        self.note(number, Mode::CountsDown(priority));
         let stored = &self.items[number];
         let left = counted_down(stored.used, &stored.cells, priority);
-        self.put(number, left.0, left.1);
+        self.set(number, left.0, left.1);
     }
 }
 

@@ -7,18 +7,18 @@ use Rattle.tcertify.specs.Words.{reason_of, site_of}
 use Rattle.tcertify.proofs.Actions.{byte_read_alone, byte_not_read, number_of_byte}
 use Rattle.tcertify.proofs.performing.load_byte.Goals as goal
 
-pub returns-in_err-byte : goal.returns-in_err-byte
+pub returns-in_err-byte-clause-done : goal.returns-in_err-byte-clause-done
 unfolding operation_effect
-returns-in_err-byte c = λ before.
+returns-in_err-byte-clause-done c = λ before.
     let r = c.args.registers.now in let w = c.args.words.now in
     let p = err_from_is_err_and c.from_residual.result c.from_residual.ensures.1 in
     rw (p.1, p.2)
-    (byte_not_read (site_of w) [] w r.a (λ (v : ℕ). goes (one_to v r)) (reason_of c.in_err-byte.field-0.0)
-    c.in_err-byte.ensures)
+    (byte_not_read (site_of w) [] w _ r.a (λ (v : ℕ). goes (one_to v r)) (reason_of c.in_err-byte.field-0.0)
+    c.in_err-byte.ensures.change)
 
-pub returns : goal.returns
+pub returns-clause-done : goal.returns-clause-done
 unfolding operation_effect
-returns c = λ before.
+returns-clause-done c = λ before.
     let r = c.args.registers.now in let w = c.args.words.now in
     let byte = c.in_ok-byte.byte in
     rw (
@@ -29,5 +29,5 @@ returns c = λ before.
       c.goes.ensures.known,
       c.is_some.ensures,
     )
-    (byte_read_alone (site_of w) [] w r.a (λ (v : ℕ). goes (one_to v r)) byte (one_to (unwrap_or byte 0) r, Go)
-    c.in_ok-byte.ensures (ap (λ (v : ℕ). goes (one_to v r)) (number_of_byte byte)))
+    (byte_read_alone (site_of w) [] w _ r.a (λ (v : ℕ). goes (one_to v r)) byte (one_to (unwrap_or byte 0) r, Go)
+    c.in_ok-byte.ensures.change (ap (λ (v : ℕ). goes (one_to v r)) (number_of_byte byte)))

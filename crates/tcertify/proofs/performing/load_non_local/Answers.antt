@@ -10,21 +10,21 @@ use Rattle.tcertify.specs.Words.{reason_of, site_of}
 use Rattle.tcertify.proofs.Actions.{reads_alone, reads_not}
 use Rattle.tcertify.proofs.performing.load_non_local.Goals as goal
 
-pub returns-in_err-cells : goal.returns-in_err-cells
+pub returns-in_err-cells-clause-done : goal.returns-in_err-cells-clause-done
 unfolding function_effect
-returns-in_err-cells c =
+returns-in_err-cells-clause-done c =
     let r = c.args.registers.now in let w = c.args.words.now in
     let p = err_from_is_err_and c.from_residual.result c.from_residual.ensures.1 in
     rw (p.1, p.2)
-    (reads_not (site_of w) [] w Reads (word_from r.a c.args.operand) (λ (v : ℕ). goes (one_to v r))
-    (reason_of c.in_err-cells.field-0.0) (rw c.word_address.ensures at c.in_err-cells.ensures))
+    (reads_not (site_of w) [] w _ Reads (word_from r.a c.args.operand) (λ (v : ℕ). goes (one_to v r))
+    (reason_of c.in_err-cells.field-0.0) (rw c.word_address.ensures at c.in_err-cells.ensures.change))
 
-pub returns : goal.returns
+pub returns-clause-done : goal.returns-clause-done
 unfolding function_effect
-returns c =
+returns-clause-done c =
     let r = c.args.registers.now in let w = c.args.words.now in
     rw (c.goes.ensures.next, c.goes.ensures.known, c.are_known.ensures)
-    (reads_alone (site_of w) [] w Reads (word_from r.a c.args.operand) (λ (v : ℕ). goes (one_to v r))
+    (reads_alone (site_of w) [] w _ Reads (word_from r.a c.args.operand) (λ (v : ℕ). goes (one_to v r))
     (cells_of c.in_ok-cells.cells) (one_to c.word-registers.result r, Go)
-    (rw c.word_address.ensures at c.in_ok-cells.ensures)
+    (rw c.word_address.ensures at c.in_ok-cells.ensures.change)
     (ap (λ (v : ℕ). goes (one_to v r)) (sym c.word-registers.ensures)))

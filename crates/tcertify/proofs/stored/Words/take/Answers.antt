@@ -1,32 +1,45 @@
-use Rattle.std.proofs.Common.{◌≡◌, refl, length, false, arith, eq-eqb}
+use Rattle.std.proofs.Common.{◌≡◌, ◌<◌, ℕ, refl, length, sym, subst, ap, false, arith, eq-eqb}
 use Rattle.std.specs.Prelude.{◌==◌}
 use Rattle.std.proofs.lemmas.Bool.Decides.{nat_tests}
 use Rattle.std.proofs.lemmas.Option.{slice_get_read}
 use Rattle.std.proofs.lemmas.Result.{err_from_is_err_and}
 use Rattle.tword.specs.Touches.{Writes}
+use Rattle.tcertify.specs.declared.notes.Mode.TheVariants.{Claims}
 use Rattle.tcertify.specs.Words.{reason_of}
-use Rattle.tcertify.proofs.Places.{writes, writes_in_transit, touch_stops}
+use Rattle.tcertify.proofs.Noting.{has_look, has_outputs}
+use Rattle.tcertify.proofs.Places.{writes, writes_in_transit, touch_stops, touched_word}
 use Rattle.tcertify.proofs.stored.Words.take.Goals as goal
 
-pub returns-in_err-free_for_programs : goal.returns-in_err-free_for_programs
-returns-in_err-free_for_programs c =
-    let words = c.args.self.now.items.items in let stored = c.index-stored.result.now in
-    let there = slice_get_read words (length words) c.args.number stored refl c.requires c.index-stored.ensures in
+pub returns-in_err-free_for_programs-clause-change : goal.returns-in_err-free_for_programs-clause-change
+returns-in_err-free_for_programs-clause-change c =
+    let w = c.args.self.now in let v = c.note.new.self in
+    let words = v.items.items in let stored = c.index-stored.result.now in
+    let inside = subst (λ (n : ℕ). c.args.number < n) (sym (ap length c.note.ensures.items)) c.requires in
+    let there = slice_get_read words (length words) c.args.number stored refl inside c.index-stored.ensures in
     let p = err_from_is_err_and c.from_residual.result c.from_residual.ensures.1 in
     rw (p.1, p.2)
-    (touch_stops c.args.self.now c.args.number stored there Writes
-    (reason_of c.in_err-free_for_programs.field-0.0) c.in_err-free_for_programs.ensures)
+    (touched_word w v c.args.number Writes Claims _ c.note.ensures
+    (touch_stops v c.args.number stored there (has_look v c.args.number Claims c.note.ensures.tells refl) Writes
+    (reason_of c.in_err-free_for_programs.field-0.0) c.in_err-free_for_programs.ensures))
 
-pub returns-then-stored-ne0 : goal.returns-then-stored-ne0
-returns-then-stored-ne0 c =
-    let words = c.args.self.now.items.items in let stored = c.index-stored.result.now in
-    let there = slice_get_read words (length words) c.args.number stored refl c.requires c.index-stored.ensures in
+pub returns-then-stored-ne0-clause-change : goal.returns-then-stored-ne0-clause-change
+returns-then-stored-ne0-clause-change c =
+    let w = c.args.self.now in let v = c.note.new.self in
+    let words = v.items.items in let stored = c.index-stored.result.now in
+    let inside = subst (λ (n : ℕ). c.args.number < n) (sym (ap length c.note.ensures.items)) c.requires in
+    let there = slice_get_read words (length words) c.args.number stored refl inside c.index-stored.ensures in
     let some : (stored.sending == 0) ≡ false = grind (arith, nat_tests, c.if-stored-ne0.true) in
-    writes_in_transit c.args.self.now c.args.number stored there c.in_ok-free_for_programs.ensures some
+    touched_word w v c.args.number Writes Claims _ c.note.ensures
+    (writes_in_transit v c.args.number stored there (has_look v c.args.number Claims c.note.ensures.tells refl)
+    (has_outputs v c.args.number Claims c.note.ensures.tells refl) c.in_ok-free_for_programs.ensures some)
 
-pub returns : goal.returns
-returns c =
-    let words = c.args.self.now.items.items in let stored = c.index-stored.result.now in
-    let there = slice_get_read words (length words) c.args.number stored refl c.requires c.index-stored.ensures in
-    writes c.args.self.now c.args.number stored there c.in_ok-free_for_programs.ensures
-    (eq-eqb stored.sending 0 c.if-stored-ne0.false)
+pub returns-clause-change : goal.returns-clause-change
+returns-clause-change c =
+    let w = c.args.self.now in let v = c.note.new.self in
+    let words = v.items.items in let stored = c.index-stored.result.now in
+    let inside = subst (λ (n : ℕ). c.args.number < n) (sym (ap length c.note.ensures.items)) c.requires in
+    let there = slice_get_read words (length words) c.args.number stored refl inside c.index-stored.ensures in
+    touched_word w v c.args.number Writes Claims _ c.note.ensures
+    (writes v c.args.number stored there (has_look v c.args.number Claims c.note.ensures.tells refl)
+    (has_outputs v c.args.number Claims c.note.ensures.tells refl) c.in_ok-free_for_programs.ensures
+    (eq-eqb stored.sending 0 c.if-stored-ne0.false))

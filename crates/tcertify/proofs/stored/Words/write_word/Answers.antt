@@ -13,7 +13,7 @@ returns-in_err-number-clause-change c =
     let p = err_from_is_err_and c.from_residual.result c.from_residual.ensures.1 in
     let w = c.args.self.now in
     rw (p.1, p.2)
-    (sets_not w c.args.address Free (fixed (cells_of c.args.cells)) _
+    (sets_not w _ c.args.address Free (fixed (cells_of c.args.cells)) _
     (misplaced w Writes c.args.address c.in_err-number.field-0.0 (sym c.in_err-number.ensures.checks)))
 
 pub returns-in_err-take-clause-change : goal.returns-in_err-take-clause-change
@@ -21,12 +21,12 @@ returns-in_err-take-clause-change c =
     let p = err_from_is_err_and c.from_residual-in_err-take.result c.from_residual-in_err-take.ensures.1 in
     let w = c.args.self.now in
     rw (p.1, p.2)
-    (sets_not w c.args.address Free (fixed (cells_of c.args.cells)) _
-    (placed w Writes c.args.address c.in_ok-number.number (Err (reason_of c.in_err-take.field-0.0))
-    (sym c.in_ok-number.ensures.checks) c.in_err-take.ensures))
+    (sets_not w _ c.args.address Free (fixed (cells_of c.args.cells)) _
+    (placed w Writes c.args.address _ c.in_ok-number.number (Err (reason_of c.in_err-take.field-0.0))
+    (sym c.in_ok-number.ensures.checks) c.in_err-take.ensures.change))
 
 pub returns-clause-change : goal.returns-clause-change
 returns-clause-change c =
-    sets c.args.self.now _ c.args.address c.in_ok-number.number Free (fixed (cells_of c.args.cells))
+    sets c.args.self.now _ _ c.args.address c.in_ok-number.number Free (fixed (cells_of c.args.cells))
     (cells_of c.in_ok-take.field-0) (cells_of c.args.cells) refl (sym c.in_ok-number.ensures.checks)
-    c.in_ok-take.ensures c.put.ensures.change
+    c.in_ok-take.ensures.change c.in_ok-take.ensures.site c.put.ensures.change

@@ -1,0 +1,217 @@
+-- Halves of channels and links that are looked at and set.
+use Rattle.std.proofs.Common.{◌≡◌, ◌<◌, ℕ, zero, suc, refl, sym, ap, ◌∙◌, subst, false, List, [], ◌∷◌, ◌++◌, Option}
+use Rattle.std.proofs.Common.{Some, None}
+use Rattle.std.proofs.Common.{arith, get_or, length, ◌⊎◌, inl, inr}
+use Rattle.std.specs.Prelude.{Contains, is_some, option_map, slice_get, slice_set}
+use Rattle.std.proofs.lemmas.Bool.{cases_eq}
+use Rattle.std.proofs.lemmas.Option.{slice_get-get_or, slice_get-map, same_Some}
+use Rattle.tagents.specs.Walks.{Sight}
+use Rattle.tnet.specs.Wires.{end_at}
+use Rattle.tprocesses.specs.Machine.{is_offered}
+use Rattle.tprocesses.specs.Places as place
+use Rattle.tprocesses.specs.Places.{Name, Place}
+use Rattle.tprocesses.specs.Values.{IsHalf, IsLink, Value, half_in, link_in}
+use Rattle.tprocesses.specs.Values as value
+use Rattle.tcertify.specs.declared.channel.Channel.{Channel}
+use Rattle.tcertify.specs.declared.channel.LinkHalf.{LinkHalf}
+use Rattle.tcertify.specs.declared.channel.LinkHalf.TheVariants as half
+use Rattle.tcertify.specs.declared.channel.Links.{Links}
+use Rattle.tcertify.specs.declared.channel.Request.{Request}
+use Rattle.tcertify.specs.declared.lead.Lead.{Lead}
+use Rattle.tcertify.specs.declared.lead.Lead.TheVariants as lead
+use Rattle.tcertify.specs.declared.node.Node.{Node}
+use Rattle.tcertify.specs.declared.side.Side.{Side}
+use Rattle.tcertify.specs.declared.side.Side.TheVariants.{Input, Output}
+use Rattle.tcertify.specs.Channels.{AreKnown, IsKnownHalf, IsKnownRequest, IsLinkSet, address_of, free_channel, half_of}
+use Rattle.tcertify.specs.Channels.{halves_of, request_of, with_request}
+use Rattle.tcertify.specs.Nodes.{HasLead, IsLed, NumbersNode, address_at, addresses, link_place}
+use Rattle.tcertify.specs.Notes.{Numbering}
+use Rattle.tcertify.specs.Sides.{side_of}
+use Rattle.tcertify.proofs.NodeChannels.{address_is}
+use Rattle.tcertify.proofs.Places.{set_elsewhere, set_here}
+
+-- the number of the place of a half of a channel
+pub half_number_in : (a : Node) (k : ℕ) (c : Channel) (side : Side) → slice_get a.channels.items.items k ≡ Some c
+    → (numbering : Numbering) → NumbersNode numbering a
+    → numbering (place.Half a.words.number c.address (side_of side)) ≡ (half_of side c).place
+half_number_in a k c Input there numbering n = n.input k c there
+half_number_in a k c Output there numbering n = n.output k c there
+
+pub half_number : (a : Node) (k : ℕ) (c : Channel) (side : Side) → slice_get a.channels.items.items k ≡ Some c
+    → (numbering : Numbering) → NumbersNode numbering a
+    → numbering (place.Half a.words.number (address_at a k) (side_of side)) ≡ (half_of side c).place
+half_number a k c side there numbering n =
+    ap (λ (w : ℕ). numbering (place.Half a.words.number w (side_of side))) (address_is a k c there)
+    ∙ half_number_in a k c side there numbering n
+
+-- and of a half of a link
+pub link_number : (a : Node) (k : ℕ) (side : Side) → k < 4 → (numbering : Numbering) → NumbersNode numbering a
+    → numbering (place.LinkHalf (end_at a.words.number k) (side_of side)) ≡ link_place a k side
+link_number a k Input low numbering n = n.link_input k low
+link_number a k Output low numbering n = n.link_output k low
+
+-- nobody waits
+pub nobody : (ns : List Name) (o : Option Request) → is_some o ≡ false → request_of ns o ≡ None
+nobody ns None e = refl
+nobody ns (Some r) e = cc
+
+-- the number of a node at which a lead is told
+number_told : (m b : Node) (l : Lead) → HasLead m l b → m.words.number ≡ b.words.number
+number_told m b l told = ap (λ (n : Node). n.words.number) (sym told.same)
+
+-- a half that was seen free
+pub half_leads : (m b : Node) (k : ℕ) (c : Channel) (side : Side) (o : Option value.Request)
+    → HasLead m (lead.Channel k) b → slice_get m.channels.items.items k ≡ Some c → o ≡ None
+    → IsLed b (record { place = place.Half m.words.number (address_at m k) (side_of side); value = IsHalf o } ∷ []) []
+    (lead.Channel k)
+half_leads m b k c side o told there none = (
+  address_at m k,
+  ap (λ (n : Node). slice_get (addresses n) k) told.same
+      ∙ slice_get-map address_of m.channels.items.items k ∙ ap (option_map address_of) there
+      ∙ ap Some (sym (address_is m k c there)),
+  (
+    side_of side,
+    record {
+      value = IsHalf o;
+      there = subst (λ (n : ℕ). Contains {X = Sight Place Value} (record {
+        place = place.Half m.words.number (address_at m k) (side_of side);
+        value = IsHalf o;
+      } ∷ []) (record { place = place.Half n (address_at m k) (side_of side); value = IsHalf o }))
+          (number_told m b (lead.Channel k) told) (0, omega arith, refl);
+      shut = ap (λ (r : Option value.Request). is_some r) none;
+    },
+  ),
+)
+
+-- a half of a link at which nothing was seen to be offered
+pub link_leads : (m b : Node) (k : ℕ) (side : Side) (l : value.Link) → HasLead m (lead.Link k side) b
+    → is_offered l ≡ false
+    → IsLed b (record { place = place.LinkHalf (end_at m.words.number k) (side_of side); value = IsLink l } ∷ []) []
+    (lead.Link k side)
+link_leads m b k side l told shut =
+    record {
+      value = IsLink l;
+      there = subst (λ (n : ℕ). Contains {X = Sight Place Value} (record {
+        place = place.LinkHalf (end_at m.words.number k) (side_of side);
+        value = IsLink l;
+      } ∷ []) (record { place = place.LinkHalf (end_at n k) (side_of side); value = IsLink l }))
+          (number_told m b (lead.Link k side) told) (0, omega arith, refl);
+      shut = shut;
+    }
+
+-- whoever waits is known
+pub known_request : (n : ℕ) (o : Option Request) → ((r : Request) → o ≡ Some r → r.process < n) → IsKnownRequest n o
+known_request n None h = tt
+known_request n (Some r) h = h r refl
+
+pub known_half : (n : ℕ) (l : LinkHalf) → ((r : Request) → l ≡ half.Offered r → r.process < n) → IsKnownHalf n l
+known_half n half.Empty h = tt
+known_half n (half.Offered r) h = h r refl
+known_half n half.Copied h = tt
+
+known_so : (n : ℕ) (o : Option Request) (q : Request) → IsKnownRequest n o → o ≡ Some q → q.process < n
+known_so n o q h e = let P : Option Request → Type 0 = IsKnownRequest n in subst P e h
+
+half_so : (n : ℕ) (l : LinkHalf) (q : Request) → IsKnownHalf n l → l ≡ half.Offered q → q.process < n
+half_so n l q h e = let P : LinkHalf → Type 0 = IsKnownHalf n in subst P e h
+
+-- a half that is set keeps that
+asked : (side t : Side) (r : Option Request) (c : Channel) (q : Request) (n : ℕ) → IsKnownRequest n r
+    → ((u : Side) (p : Request) → (half_of u c).request ≡ Some p → p.process < n)
+    → (half_of t (with_request side r c)).request ≡ Some q → q.process < n
+asked Input Input r c q n new old e = known_so n r q new e
+asked Input Output r c q n new old e = old Output q e
+asked Output Input r c q n new old e = old Input q e
+asked Output Output r c q n new old e = known_so n r q new e
+
+pub known_set : (n : ℕ) (cs ds : List Channel) (l : Links) (k : ℕ) (c : Channel) (side : Side) (r : Option Request)
+    → AreKnown n cs l → slice_get cs k ≡ Some c → ds ≡ slice_set cs k (with_request side r c) → IsKnownRequest n r
+    → AreKnown n ds l
+known_set n cs ds l k c side r known there set new =
+    record {
+      at_channels = λ i d t q at e. by i d t q at e (cases_eq k i);
+      at_links = known.at_links;
+    }
+  where
+    by : (i : ℕ) (d : Channel) (t : Side) (q : Request) → slice_get ds i ≡ Some d → (half_of t d).request ≡ Some q
+        → (k ≡ i) ⊎ (k ≡ i → ⊥) → q.process < n
+    by i d t q at e (inl same) =
+        let is : with_request side r c ≡ d =
+        same_Some (with_request side r c) d (sym (set_here cs k (with_request side r c) c there)
+        ∙ ap (λ (es : List Channel). slice_get es k) (sym set) ∙ ap (slice_get ds) same ∙ at) in
+        asked side t r c q n new (λ u p h. known.at_channels k c u p there h)
+        (ap (λ (x : Channel). (half_of t x).request) is ∙ e)
+    by i d t q at e (inr ne) =
+        known.at_channels i d t q
+        (sym (set_elsewhere cs k i (with_request side r c) ne)
+        ∙ ap (λ (es : List Channel). slice_get es i) (sym set) ∙ at) e
+
+-- a channel that comes to be there keeps it
+free_or_before : (n : ℕ) (xs : List Channel) (c : Channel) → ((t : Side) → (half_of t c).request ≡ None)
+    → ((i : ℕ) (d : Channel) (t : Side) (q : Request) → slice_get xs i ≡ Some d → (half_of t d).request ≡ Some q
+    → q.process < n)
+    → (i : ℕ) (d : Channel) (t : Side) (q : Request) → slice_get (xs ++ c ∷ []) i ≡ Some d
+    → (half_of t d).request ≡ Some q → q.process < n
+free_or_before n [] c free h zero d t q at asks =
+    let is = same_Some c d at in let none = free t in
+    let some : (half_of t c).request ≡ Some q = ap (λ (x : Channel). (half_of t x).request) is ∙ asks in cc
+free_or_before n [] c free h (suc i) d t q at asks = cc
+free_or_before n (x ∷ xs) c free h zero d t q at asks = h 0 d t q at asks
+free_or_before n (x ∷ xs) c free h (suc i) d t q at asks =
+    free_or_before n xs c free (λ j e u r there. h (suc j) e u r there) i d t q at asks
+
+free_sides : (address input output : ℕ) (t : Side) → (half_of t (free_channel address input output)).request ≡ None
+free_sides address input output Input = refl
+free_sides address input output Output = refl
+
+pub known_pushed : (n : ℕ) (cs ds : List Channel) (l : Links) (address input output : ℕ) → AreKnown n cs l
+    → ds ≡ cs ++ free_channel address input output ∷ [] → AreKnown n ds l
+known_pushed n cs ds l address input output known e =
+    record {
+      at_channels = λ i d t q at asks.
+          free_or_before n cs (free_channel address input output) (free_sides address input output) known.at_channels
+          i d
+          t q (ap (λ (es : List Channel). slice_get es i) (sym e) ∙ at) asks;
+      at_links = known.at_links;
+    }
+
+pub known_same : (n : ℕ) (cs ds : List Channel) (l : Links) → ds ≡ cs → AreKnown n cs l → AreKnown n ds l
+known_same n cs ds l e known = subst (λ (es : List Channel). AreKnown n es l) (sym e) known
+
+-- a half of a link that is set keeps it
+pub known_link : (n : ℕ) (cs : List Channel) (l m : Links) (k : ℕ) (side : Side) (g h : LinkHalf) → AreKnown n cs l
+    → slice_get (halves_of side l) k ≡ Some g → IsLinkSet l k side h m → IsKnownHalf n h → AreKnown n cs m
+known_link n cs l m k side g h known there set new =
+    record {
+      at_channels = known.at_channels;
+      at_links = λ j t q at. asks side t j q there set at;
+    }
+  where
+    in_list : (t : Side) (xs ys : List LinkHalf) → halves_of t l ≡ xs → slice_get xs k ≡ Some g
+        → ys ≡ slice_set xs k h → (j : ℕ) (q : Request) → slice_get ys j ≡ Some (half.Offered q) → q.process < n
+    in_list t xs ys is here put j q at = by (cases_eq k j)
+      where
+        by : (k ≡ j) ⊎ (k ≡ j → ⊥) → q.process < n
+        by (inl e) =
+            half_so n h q new
+            (same_Some h (half.Offered q) (sym (set_here xs k h g here)
+            ∙ ap (λ (zs : List LinkHalf). slice_get zs k) (sym put) ∙ ap (slice_get ys) e ∙ at))
+        by (inr ne) =
+            known.at_links j t q
+            (ap (λ (zs : List LinkHalf). slice_get zs j) is ∙ sym (set_elsewhere xs k j h ne)
+            ∙ ap (λ (zs : List LinkHalf). slice_get zs j) (sym put) ∙ at)
+
+    asks : (s t : Side) (j : ℕ) (q : Request) → slice_get (halves_of s l) k ≡ Some g → IsLinkSet l k s h m
+        → slice_get (halves_of t m) j ≡ Some (half.Offered q) → q.process < n
+    asks Input Input j q here (put, same) at = in_list Input l.inputs m.inputs refl here put j q at
+    asks Input Output j q here (put, same) at =
+        known.at_links j Output q (ap (λ (zs : List LinkHalf). slice_get zs j) (sym same) ∙ at)
+    asks Output Input j q here (put, same) at =
+        known.at_links j Input q (ap (λ (zs : List LinkHalf). slice_get zs j) (sym same) ∙ at)
+    asks Output Output j q here (put, same) at = in_list Output l.outputs m.outputs refl here put j q at
+
+-- a half of a link that the node has
+pub half_is_there : (l : Links) (k : ℕ) (side : Side) → k < length l.inputs → k < length l.outputs
+    → (h : LinkHalf) × (slice_get (halves_of side l) k ≡ Some h)
+half_is_there l k Input inside other = (get_or l.inputs k half.Empty, slice_get-get_or l.inputs k half.Empty inside)
+half_is_there l k Output other inside = (get_or l.outputs k half.Empty, slice_get-get_or l.outputs k half.Empty inside)

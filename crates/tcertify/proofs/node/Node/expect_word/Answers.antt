@@ -1,0 +1,6 @@
+use Rattle.std.proofs.Common.{rules}
+use Rattle.tcertify.proofs.NodeWords.{on_words}
+use Rattle.tcertify.proofs.node.Node.expect_word.Goals as goal
+
+pub returns-clause-looks : goal.returns-clause-looks
+returns-clause-looks c = on_words _ _ _ _ (search rules) c.expect_word.ensures.site c.expect_word.ensures.change

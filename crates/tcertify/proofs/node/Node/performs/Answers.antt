@@ -1,0 +1,6 @@
+use Rattle.std.proofs.Common.{rules}
+use Rattle.tcertify.proofs.NodeWords.{on_words}
+use Rattle.tcertify.proofs.node.Node.performs.Goals as goal
+
+pub returns-clause-done : goal.returns-clause-done
+returns-clause-done c = on_words _ _ _ _ (search rules) c.do_local.ensures.site c.do_local.ensures.done

@@ -1,0 +1,14 @@
+use Rattle.std.proofs.Common.{refl, length}
+use Rattle.std.proofs.lemmas.Option.{slice_get_read}
+use Rattle.tcertify.proofs.process_table.Processes.set_stand.Goals as goal
+
+pub returns : goal.returns
+returns c =
+    let items = c.args.self.now.items.items in let process = c.index_mut-process.result.now in
+    record {
+      process = process;
+      there = slice_get_read items (length items) c.args.number process refl c.requires
+          c.index_mut-process.ensures.value;
+      set = refl;
+      place = refl;
+    }

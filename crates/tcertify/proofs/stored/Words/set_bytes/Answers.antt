@@ -1,0 +1,19 @@
+use Rattle.std.proofs.Common.{◌≡◌, ◌<◌, ℕ, ◌+◌, ◌*◌, sym, subst, length, length-take, take, arith}
+use Rattle.std.proofs.lemmas.List.{take_more}
+use Rattle.tword.specs.Stores.{Store}
+use Rattle.tcertify.specs.Spans.{IsWritten}
+use Rattle.tcertify.proofs.Written.{none_written, written_behind}
+use Rattle.tcertify.proofs.stored.Words.set_bytes.Goals as goal
+
+pub loop-k-init : goal.loop-k-init
+loop-k-init c = none_written c.args.self.now c.args.place
+
+pub loop-k-preserved : goal.loop-k-preserved
+loop-k-preserved c =
+    let w = c.args.self.now in let u = c.loop-k.self in let v = c.set_byte.new.self in
+    let p : ℕ = c.args.place in let k : ℕ = c.loop-k.k in let bytes : Store = c.args.bytes.now in
+    let low : k < length bytes = omega (arith, c.loop-k-test.true) in
+    let at : p + k ≡ p + length (take k bytes) = omega (arith, length-take k bytes) in
+    let inside : p + k < 4 * length w.items.items = c.requires k low in
+    subst (λ (xs : Store). IsWritten w p xs v) (sym (take_more bytes k _ low))
+    (written_behind w u v p (take k bytes) _ (p + k) at inside c.loop-k.invariant c.set_byte.ensures)

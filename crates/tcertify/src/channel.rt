@@ -1,0 +1,46 @@
+//! Channels and links, as the processes that use them stand there.
+
+use tword::{Span, Word};
+
+/// A process that waits at a channel.
+#[derive(Clone, Copy)]
+pub struct Request {
+    /// The number of the process among those of its node.
+    pub process: u32,
+    pub buffer: Span,
+}
+
+/// A half of a link.
+#[derive(Clone, Copy)]
+pub enum LinkHalf {
+    Empty,
+    /// A process offers a message, or asks for one.
+    Offered(Request),
+    /// The message of an output has gone over, and its process has not gone on.
+    Copied,
+}
+
+/// A half of an internal channel.
+#[derive(Clone, Copy)]
+pub struct Half {
+    /// Who has taken it.
+    pub request: Option<Request>,
+    /// The number of its place.
+    pub place: u32,
+}
+
+/// An internal channel.
+#[derive(Clone, Copy)]
+pub struct Channel {
+    /// The address of its word.
+    pub address: Word,
+    pub input: Half,
+    pub output: Half,
+}
+
+/// The links of a node, by their numbers.
+#[derive(Clone, Copy)]
+pub struct Links {
+    pub inputs: [LinkHalf; 4],
+    pub outputs: [LinkHalf; 4],
+}
