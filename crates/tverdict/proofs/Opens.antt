@@ -1,0 +1,108 @@
+-- Who has a step, by what the nodes have.
+use Rattle.std.proofs.Common.{◌≡◌, ◌<◌, ℕ, refl, sym, ap, ◌∙◌, Bool, true, false, List, [], Option, Some, None}
+use Rattle.std.proofs.lemmas.Option.{slice_get-map}
+use Rattle.std.specs.Prelude.{◌==◌, ◌&&◌, find, is_some, slice_get, unwrap_or, option_map, if◌then◌else◌}
+use Rattle.std.proofs.lemmas.Bool.{eq-eqb, eqb-true, false≢true}
+use Rattle.tagents.specs.Walks.{are_open}
+use Rattle.tplan.specs.declared.plan.Plan.{Plan}
+use Rattle.tproc.specs.declared.channels.Side as machines
+use Rattle.tproc.specs.declared.channels.Side.TheVariants as machineside
+use Rattle.tprocesses.specs.Machine.{Process, Channel, Successor, process_machine, is_ready, awaits_successor}
+use Rattle.tprocesses.specs.Places.{Name, Image, Standing, Half, WordAt}
+use Rattle.tprocesses.specs.Values.{Value, IsHalf, IsStand, IsWord, half_in, stand_in}
+use Rattle.tcertify.specs.declared.channel.Channel as stored
+use Rattle.tcertify.specs.declared.channel.Request.{Request}
+use Rattle.tcertify.specs.declared.node.Node.{Node}
+use Rattle.tcertify.specs.declared.process.Process as kept
+use Rattle.tcertify.specs.declared.side.Side.TheVariants as side
+use Rattle.tcertify.specs.declared.stored.StoredWord.{StoredWord}
+use Rattle.tcertify.specs.Channels.{half_of, request_of, taken_half}
+use Rattle.tcertify.specs.Nodes.{name_at, names, address_at, node_at}
+use Rattle.tcertify.specs.Running.{State}
+use Rattle.tcertify.specs.Standing.{stand_of}
+use Rattle.tcertify.specs.Words.{use_of, word_of, word_or}
+use Rattle.tcertify.proofs.Found.{find_apart}
+use Rattle.tcertify.proofs.NodeStands.{stand_seen}
+use Rattle.tfollow.proofs.Opened.{agents_are_open_by}
+use Rattle.tverdict.specs.declared.machine.Sink.{Sink}
+use Rattle.tverdict.specs.Agents.{name_there, address_there}
+use Rattle.tverdict.specs.Apart.{IsApart}
+use Rattle.tverdict.specs.Machines.{state_of}
+use Rattle.tverdict.proofs.Frames.{nodes_are_apart, chosen}
+
+module _ (plan : Plan) (nodes : List Node) (sent : List ℕ) (sinks : List Sink) (n : ℕ) (node : Node)
+    (there : slice_get nodes n ≡ Some node) (numbered : node.words.number ≡ n) where
+  abbrev now : State
+  now = state_of plan nodes sent sinks
+
+  apart : IsApart plan nodes sent sinks n node
+  apart = nodes_are_apart plan nodes sent sinks n node there numbered
+
+  name_known : (k : ℕ) → name_there nodes n k ≡ name_at node k
+  name_known k =
+      ap (λ (o : Option Node). unwrap_or (option_map (λ a. name_at a k) o)
+      (record { node = n; root = Image 0; path = [] })) there
+
+  pub process_open : (k : ℕ) (p : kept.Process) → slice_get node.processes.items.items k ≡ Some p
+      → are_open (process_machine plan) (Process (name_there nodes n k)) now ≡ is_ready (stand_of p.stand)
+  process_open k p at =
+      (agents_are_open_by plan now).process (name_there nodes n k)
+      ∙ ap (λ (x : Name). is_ready (stand_in (now (Standing x)))) (name_known k)
+      ∙ ap (λ (v : Value). is_ready (stand_in v))
+      (ap (λ (s : State). s (Standing (name_at node k))) (sym apart.before) ∙ stand_seen node k p at apart.rest)
+
+  pub successor_open : (k : ℕ) (w : StoredWord) → slice_get node.words.items.items k ≡ Some w
+      → are_open (process_machine plan) (Successor n k) now ≡ awaits_successor (use_of w.used)
+  successor_open k w at =
+      (agents_are_open_by plan now).successor n k (word_of w)
+      (ap (λ (s : State). s (WordAt n k)) (sym apart.before)
+      ∙ chosen (node.words.number == n) _ _ (eq-eqb node.words.number n numbered)
+      ∙ ap (λ (o : Option StoredWord). word_or o (apart.rest (WordAt n k))) at)
+
+  address_known : (k : ℕ) (c : stored.Channel) → slice_get node.channels.items.items k ≡ Some c
+      → address_there nodes n k ≡ c.address
+  address_known k c at =
+      ap (λ (o : Option Node). unwrap_or (option_map (λ a. address_at a k) o) 0) there
+      ∙ ap (λ (o : Option ℕ). unwrap_or o 0)
+      (slice_get-map (λ (x : stored.Channel). x.address) node.channels.items.items k
+      ∙ ap (option_map (λ (x : stored.Channel). x.address)) at)
+
+  found : (k : ℕ) (c : stored.Channel) → slice_get node.channels.items.items k ≡ Some c
+      → find (λ h. h.address == c.address) node.channels.items.items ≡ Some c
+  found k c at =
+      find_apart (λ h. h.address) (λ h. h.address == c.address) node.channels.items.items k c node.channels.apart at
+      (eq-eqb c.address c.address refl) (λ y e. eqb-true y.address c.address e)
+
+  someone : (ns : List Name) (o : Option Request) → is_some (request_of ns o) ≡ is_some o
+  someone ns (Some r) = refl
+  someone ns None = refl
+
+  input_now : (k : ℕ) (c : stored.Channel) → slice_get node.channels.items.items k ≡ Some c
+      → is_some (half_in (now (Half n c.address machineside.Input))) ≡ is_some c.input.request
+  input_now k c at =
+      ap (λ (s : State). is_some (half_in (s (Half n c.address machineside.Input)))) (sym apart.before)
+      ∙ ap (λ (v : Value). is_some (half_in v)) (chosen (node.words.number == n) _ _ (eq-eqb node.words.number n numbered))
+      ∙ ap (λ (o : Option stored.Channel). is_some (taken_half (names node) side.Input o)) (found k c at)
+      ∙ someone (names node) c.input.request
+
+  output_now : (k : ℕ) (c : stored.Channel) → slice_get node.channels.items.items k ≡ Some c
+      → is_some (half_in (now (Half n c.address machineside.Output))) ≡ is_some c.output.request
+  output_now k c at =
+      ap (λ (s : State). is_some (half_in (s (Half n c.address machineside.Output)))) (sym apart.before)
+      ∙ ap (λ (v : Value). is_some (half_in v)) (chosen (node.words.number == n) _ _ (eq-eqb node.words.number n numbered))
+      ∙ ap (λ (o : Option stored.Channel). is_some (taken_half (names node) side.Output o)) (found k c at)
+      ∙ someone (names node) c.output.request
+
+  pub channel_open : (k : ℕ) (c : stored.Channel) → slice_get node.channels.items.items k ≡ Some c
+      → are_open (process_machine plan) (Channel n (address_there nodes n k)) now
+      ≡ (is_some c.input.request && is_some c.output.request)
+  channel_open k c at =
+      ap (λ (a : ℕ). are_open (process_machine plan) (Channel n a) now) (address_known k c at)
+      ∙ (agents_are_open_by plan now).channel n c.address
+      ∙ ap (λ (b : Bool). b && is_some (half_in (now (Half n c.address machineside.Output)))) (input_now k c at)
+      ∙ ap (λ (b : Bool). is_some c.input.request && b) (output_now k c at)
+
+-- what is false is false with anything
+pub first_false : (b c : Bool) → b ≡ false → b ≡ (b && c)
+first_false true c e = absurd (false≢true (sym e))
+first_false false c e = refl

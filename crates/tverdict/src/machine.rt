@@ -1,0 +1,37 @@
+//! The whole machine.
+
+use crate::agent::Agent;
+use tcertify::Node;
+use tclocks::RaceCheck;
+use tnet::Wires;
+
+/// A sink.
+#[derive(Drop)]
+pub struct Sink {
+    /// How many bytes it still takes.
+    pub room: u32,
+    /// The messages that it has kept, the first one first. Some of their bytes may not be known.
+    pub messages: Vec<Vec<Option<u8>>>,
+}
+
+/// The process machine of a plan after some steps of a run, with the check of these for races.
+#[derive(Drop)]
+pub struct Machine {
+    /// The nodes of the plan, in its order.
+    pub nodes: Vec<Node>,
+    /// How many messages of each source have gone over.
+    pub sent: Vec<u32>,
+    pub sinks: Vec<Sink>,
+    pub wires: Wires,
+    /// The agents that were found, each under its number in the check.
+    pub agents: Vec<Agent>,
+    pub check: RaceCheck,
+    /// Numbers of agents that may have a step. Each may stand there more than once.
+    pub candidates: Vec<u32>,
+    /// The number of the place of a source or sink is this one and the number of its node.
+    pub first_script: u32,
+    /// The lowest number that no place has yet.
+    pub fresh_place: u32,
+    /// How many steps were done.
+    pub done: u64,
+}

@@ -1,0 +1,50 @@
+//! What is said of a plan.
+
+use crate::machine::Machine;
+use tcertify::Stop;
+use tclocks::{Access, Mode, Step};
+
+/// Two accesses to one place, of steps of two agents, of which no chain of steps is known that leads from the one to the
+/// other.
+#[derive(Clone, Copy, Debug)]
+pub struct Race {
+    /// The number of the place.
+    pub place: u32,
+    /// The earlier step, and how it accessed the place.
+    pub earlier: Access,
+    /// The last step.
+    pub step: Step,
+    /// How it accessed the place.
+    pub mode: Mode,
+}
+
+/// Why there is no certificate.
+#[derive(Clone, Copy, Debug)]
+pub enum Refusal {
+    /// The next step of the agent of this number stops.
+    Stops { agent: u32, why: Stop },
+    /// More processes than may be were at this node.
+    TooManyProcesses { node: usize },
+    /// A flag was changed at this node, where processes of both priorities ran.
+    FlagsChanged { node: usize },
+}
+
+/// What is said of a plan.
+#[derive(Clone, Copy, Debug)]
+pub enum Verdict {
+    /// No run of the plan's process machine comes to another end.
+    Certified,
+    /// The run has a race.
+    Race(Race),
+    /// The run is no certificate, for this reason.
+    Refused(Refusal),
+    /// The run was given up after as many steps as were permitted.
+    Cut,
+}
+
+/// What is said of a plan, and the machine as the run has left it.
+#[derive(Drop)]
+pub struct Outcome {
+    pub verdict: Verdict,
+    pub machine: Machine,
+}
