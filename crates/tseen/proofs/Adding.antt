@@ -44,7 +44,7 @@ pub record IsBuilt (start : Machine) (memory : ℕ) (ds : List Process) (m : Mac
   pub ready : IsReadyMachine memory 0 m
 
 -- who is in a queue is descheduled
-in_queue : (m : Control) (v w : ℕ) → is_among w (queue m v) ≡ true → Contains (descheduled m) w
+pub in_queue : (m : Control) (v w : ℕ) → is_among w (queue m v) ≡ true → Contains (descheduled m) w
 in_queue m zero w h =
     Contains-append_left (m.high ++ m.low) (map (λ x. workspace_of x.process) m.waiting) w
     (Contains-append_left m.high m.low w (occurs-contains w m.high (found-occurs w m.high h)))
@@ -53,11 +53,11 @@ in_queue m (suc v) w h =
     (Contains-append_right m.high m.low w (occurs-contains w m.low (found-occurs w m.low h)))
 
 -- the last of a queue is in it
-last_contained : (q : List ℕ) (w : ℕ) → last_of q ≡ Some w → Contains q w
+pub last_contained : (q : List ℕ) (w : ℕ) → last_of q ≡ Some w → Contains q w
 last_contained q w e =
     (length q - 1, slice_get_within q (length q - 1) w e, get_or_from_slice_get q (length q - 1) w w e)
 
-last_descheduled : (m : Control) (v w : ℕ) → last_of (queue m v) ≡ Some w → Contains (descheduled m) w
+pub last_descheduled : (m : Control) (v w : ℕ) → last_of (queue m v) ≡ Some w → Contains (descheduled m) w
 last_descheduled m zero w e =
     Contains-append_left (m.high ++ m.low) (map (λ x. workspace_of x.process) m.waiting) w
     (Contains-append_left m.high m.low w (last_contained m.high w e))

@@ -21,3 +21,55 @@ mod OpenedScripts
 mod Unclaimed
 -- a word whose bytes are known
 mod Reading
+-- parts of steps that go through
+mod After
+-- spans of several words
+mod Spans
+-- memories cell by cell
+mod Cells
+-- touches and writes
+mod Touched
+mod Written
+mod Writing
+-- stores beside states
+mod Stored
+-- actions
+mod Performed
+mod Decoded
+mod Needed
+mod Ordered
+mod Effected
+mod Executed
+mod Finished
+mod Completed
+mod Staying
+mod Frames
+mod Counted
+mod Own
+mod Nets
+mod Running
+mod Stepped
+mod Saving
+mod Softened
+mod Jumps
+mod Others
+mod Yields
+mod Yielding
+mod YieldWords
+mod YieldShown
+mod Dispatched
+mod TakenBack
+mod Resumed
+mod Dispatching
+mod DispatchShown
+mod Scheduled
+mod Stopping
+mod Stops
+mod Steady
+mod Begins
+mod SteadySteps
+mod SteadyOpening
+mod SteadyRuns
+mod Notices
+mod NoticeWires
+mod SourceWakes

@@ -19,7 +19,7 @@ use Rattle.tproc.specs.Opening.{no_processes}
 use Rattle.tplan.specs.declared.plan.Process.{Process}
 use Rattle.tplan.specs.declared.plan.NodePlan.{NodePlan}
 use Rattle.tplan.specs.declared.plan.Plan.{Plan}
-use Rattle.tprocesses.specs.Places.{Place, Name, Root, Image, After, Standing}
+use Rattle.tprocesses.specs.Places.{Place, Name, Root, Image, After, Standing, HasRun}
 use Rattle.tprocesses.specs.Values.{Value, Stand, Absent, Rests, Context, Lent, IsStand, IsFlag, IsAmount}
 use Rattle.tprocesses.specs.Standing.{fresh}
 use Rattle.tprocesses.specs.Opening.{opening_state, of_node, stand_of, opened_stand, has_priority, lives}
@@ -233,6 +233,8 @@ module _ (p : Plan) (n : ℕ) (plan : NodePlan) (at : slice_get p.nodes n ≡ So
           ap (λ k. IsAmount (pos k)) (of_node_is 0 (λ q. length q.image.processes)),
           omega (arith, many),
         );
+        interrupting = subst (λ (c : Control). IfSome c.interrupted (λ t. s (HasRun n 0) ≡ IsFlag true))
+            (sym control) tt;
         flags = λ _. record {
           error = ap (λ (c : Control). IsFlag c.registers.error) (sym control);
           halting = ap (λ (c : Control). IsFlag c.registers.halt_on_error) (sym control);

@@ -70,10 +70,11 @@ hiding_nothing f a [] h = refl
 hiding_nothing f a (cell ∷ s) h = rw (h a, hiding_nothing f (suc a) s h) refl
 
 -- what stands behind the links of a script
-abbrev seen : NodeState → Node
+abbrev pub seen : NodeState → Node
 seen n = opening_node n.role (hidden n.machine)
 
-source_store : (messages : List (List ℕ)) → (seen (fresh_source messages)).machine.store ≡ as_cells (concat messages)
+pub source_store : (messages : List (List ℕ))
+    → (seen (fresh_source messages)).machine.store ≡ as_cells (concat messages)
 source_store messages =
     hiding_nothing
     (λ x. is_input (claims_of (script_control (offering most_neg (map length messages)))) (byte_span x)) most_neg

@@ -14,7 +14,7 @@ use Rattle.tproc.specs.Machine.{Machine, workspace_of}
 use Rattle.tproc.proofs.WordsApart.{LiesWord}
 use Rattle.tplan.specs.declared.plan.Process.{Process}
 use Rattle.tplan.specs.declared.plan.NodePlan.{NodePlan}
-use Rattle.tprocesses.specs.Values.{Free, Saved}
+use Rattle.tprocesses.specs.Values.{Free, Saved, unknown}
 use Rattle.tprocesses.specs.Touching.{word_number}
 use Rattle.tprocesses.specs.Opening.{is_below, opened_cell, opened_word, loaded_byte}
 use Rattle.tseen.specs.Known.{KnowsCells}
@@ -147,3 +147,22 @@ module _ (plan : NodePlan) (start m : Machine) (room : plan.memory ≤ 2 ^ 31)
       same (suc zero) h = refl
       same (suc (suc zero)) h = refl
       same (suc (suc (suc n))) h = absurd (omega (arith, h))
+
+  -- those of them that are not known
+  pub unknown_there : (q : Process) (n : ℕ) → Contains plan.image.processes q → (n < 2)
+      → (opened_word plan (most_neg + 4 * word_number (word_below (workspace_of q.wdesc) (suc n)))).cells ≡ unknown
+  unknown_there q n c small =
+      let l : LiesWord plan.memory (word_below (workspace_of q.wdesc) (suc n)) =
+      lies_there q (suc n) c ((omega arith), (omega (arith, small))) in
+      let f : word_below (workspace_of q.wdesc) (suc n)
+      ≡ most_neg + 4 * word_number (word_below (workspace_of q.wdesc) (suc n)) = omega (arith, l.above, l.aligned) in
+      let e : is_below plan (1 ∷ 2 ∷ []) (most_neg + 4 * word_number (word_below (workspace_of q.wdesc) (suc n)))
+      ≡ true =
+      found (1 ∷ 2 ∷ []) q n (most_neg + 4 * word_number (word_below (workspace_of q.wdesc) (suc n))) c
+      (omega (arith, small)) (ap (word_below (workspace_of q.wdesc)) (same n small) ∙ f) in
+      rw e refl
+    where
+      same : (n : ℕ) → n < 2 → get_or (1 ∷ 2 ∷ []) n 0 ≡ suc n
+      same zero h = refl
+      same (suc zero) h = refl
+      same (suc (suc n)) h = absurd (omega (arith, h))

@@ -28,19 +28,19 @@ use Rattle.tnet.proofs.OpenedPlans.{IsFaultless, faultless, good_size, good_segm
 use Rattle.tnet.proofs.OpenedNets.{quiet_link}
 use Rattle.tprocesses.specs.Places.{Place, Name, WordAt, Standing}
 use Rattle.tprocesses.specs.Values.{Value, Word, Free, Saved, Engaged, Request, IsWord as a_word, IsLink, IsHalf}
-use Rattle.tprocesses.specs.Values.{word_in}
+use Rattle.tprocesses.specs.Values.{word_in, unknown}
 use Rattle.tprocesses.specs.Values.{Stand, Absent, IsStand}
 use Rattle.tprocesses.specs.Machine.{awaits_successor}
 use Rattle.tprocesses.specs.Touching.{word_number}
 use Rattle.tprocesses.specs.Opening.{opening_state, of_node, stand_of, opened_word, loaded_byte, is_below}
-use Rattle.tseen.specs.Words.{AreMarked, use_at}
+use Rattle.tseen.specs.Words.{AreMarked, AreSavedWords, use_at, cells_at}
 use Rattle.tseen.specs.Halves.{ShowsChannels, ShowsLink, half_asking}
 use Rattle.tseen.specs.Shown.{ShowsNode, OpeningIsShown}
 use Rattle.tseen.proofs.Loaded.{Holds, holds_all}
 use Rattle.tseen.proofs.Queued.{seats, seat_of, HasProcess}
 use Rattle.tseen.proofs.Built.{queued}
 use Rattle.tseen.proofs.Adding.{IsBuilt, built_all, among}
-use Rattle.tseen.proofs.OpenedWords.{word_known, saved_there}
+use Rattle.tseen.proofs.OpenedWords.{word_known, saved_there, unknown_there}
 use Rattle.tseen.proofs.OpenedScripts.{processor_there, source_shown, sink_shown}
 use Rattle.tseen.proofs.OpenedNodes.{opened_name, control, of_node_is, processes_shown}
 
@@ -69,7 +69,7 @@ module _ (p : Plan) (n : ℕ) (plan : NodePlan) (at : slice_get p.nodes n ≡ So
 
   -- the saved words below a workspace
   abbrev AreSaved : ℕ → Type 0
-  AreSaved w = All (λ k. use_at s n (word_below w k) ≡ Saved) (1 ∷ 2 ∷ 3 ∷ [])
+  AreSaved w = AreSavedWords s n w
 
   saved_one : (q : Process) → Contains ds q → (k : ℕ) → k < 3
       → use_at s n (word_below (workspace_of q.wdesc) (suc k)) ≡ Saved
@@ -77,12 +77,23 @@ module _ (p : Plan) (n : ℕ) (plan : NodePlan) (at : slice_get p.nodes n ≡ So
       used_is (word_number (word_below (workspace_of q.wdesc) (suc k)))
       ∙ saved_there plan start m room b h q k c small
 
+  unknown_one : (q : Process) → Contains ds q → (k : ℕ) → k < 2
+      → cells_at s n (word_below (workspace_of q.wdesc) (suc k)) ≡ unknown
+  unknown_one q c k small =
+      ap (λ (v : Value). (word_in v).cells) (word_is (word_number (word_below (workspace_of q.wdesc) (suc k))))
+      ∙ unknown_there plan start m room b h q k c small
+
   saved_of : (q : Process) → Contains ds q → AreSaved (workspace_of q.wdesc)
   saved_of q c =
       let P : ℕ → Type 0 = λ k. use_at s n (word_below (workspace_of q.wdesc) k) ≡ Saved in
-      All-cons P 1 (2 ∷ 3 ∷ []) (saved_one q c 0 (omega arith))
-      (All-cons P 2 (3 ∷ []) (saved_one q c 1 (omega arith))
-      (All-cons P 3 [] (saved_one q c 2 (omega arith)) (All-nil P)))
+      let R : ℕ → Type 0 = λ k. cells_at s n (word_below (workspace_of q.wdesc) k) ≡ unknown in
+      record {
+        used = All-cons P 1 (2 ∷ 3 ∷ []) (saved_one q c 0 (omega arith))
+            (All-cons P 2 (3 ∷ []) (saved_one q c 1 (omega arith))
+            (All-cons P 3 [] (saved_one q c 2 (omega arith)) (All-nil P)));
+        unknown = All-cons R 1 (2 ∷ []) (unknown_one q c 0 (omega arith))
+            (All-cons R 2 [] (unknown_one q c 1 (omega arith)) (All-nil R));
+      }
 
   saved_seats : (v : ℕ) → All AreSaved (seats v ds)
   saved_seats v k x inside =
@@ -232,46 +243,49 @@ abbrev processes_at : Plan → ℕ → List Process
 processes_at p n = of_node p n [] (λ plan. plan.image.processes)
 
 -- each node of a plan without a fault
-node_there : (p : Plan) → fault_of p ≡ None → ArePlanWords p → (n : ℕ) (plan : NodePlan)
-    → slice_get p.nodes n ≡ Some plan
-    → ShowsNode (opening_state p) n plan (opened_name n (processes_at p n)) (λ _. None)
-    (opening_node Processor (opened_machine p.timeslice plan))
-node_there p none words n plan at =
-    subst (λ (qs : List Process). ShowsNode (opening_state p) n plan (opened_name n qs) (λ _. None)
-    (opening_node Processor (opened_machine p.timeslice plan))) (sym same)
-    (node_shown p n plan at p.timeslice (loaded_machine p.timeslice plan) (opened_machine p.timeslice plan)
-    built (start_control p.timeslice plan size segments image)
-    (good_size plan size) (start_holds p.timeslice plan size segments image))
-  where
-    faults : IsFaultless p
-    faults = faultless p none
+module _ (p : Plan) (none : fault_of p ≡ None) (words : ArePlanWords p) (n : ℕ) (plan : NodePlan)
+    (at : slice_get p.nodes n ≡ Some plan) where
+  faults : IsFaultless p
+  faults = faultless p none
 
-    inside : n < length p.nodes
-    inside = slice_get_within p.nodes n plan at
+  inside : n < length p.nodes
+  inside = slice_get_within p.nodes n plan at
 
-    there : get_or p.nodes n plan ≡ plan
-    there = get_or_from_slice_get p.nodes n plan plan at
+  there : get_or p.nodes n plan ≡ plan
+  there = get_or_from_slice_get p.nodes n plan plan at
 
-    size : is_bad_size plan ≡ false
-    size = subst (λ (x : NodePlan). is_bad_size x ≡ false) there (faults.sizes n plan inside)
+  pub size_there : is_bad_size plan ≡ false
+  size_there = subst (λ (x : NodePlan). is_bad_size x ≡ false) there (faults.sizes n plan inside)
 
-    segments : bad_segment plan ≡ None
-    segments = subst (λ (x : NodePlan). bad_segment x ≡ None) there (faults.segments n plan inside)
+  segments : bad_segment plan ≡ None
+  segments = subst (λ (x : NodePlan). bad_segment x ≡ None) there (faults.segments n plan inside)
 
-    processes : bad_process p.timeslice plan ≡ None
-    processes = subst (λ (x : NodePlan). bad_process p.timeslice x ≡ None) there (faults.processes n plan inside)
+  processes : bad_process p.timeslice plan ≡ None
+  processes = subst (λ (x : NodePlan). bad_process p.timeslice x ≡ None) there (faults.processes n plan inside)
 
-    image : AreImageWords plan.image
-    image = subst (λ (x : NodePlan). AreImageWords x.image) there (words.images n plan inside)
+  image : AreImageWords plan.image
+  image = subst (λ (x : NodePlan). AreImageWords x.image) there (words.images n plan inside)
 
-    built : IsBuilt (loaded_machine p.timeslice plan) plan.memory plan.image.processes
-        (opened_machine p.timeslice plan)
-    built = all_built p.timeslice plan size segments image processes
+  pub built_there : IsBuilt (loaded_machine p.timeslice plan) plan.memory plan.image.processes
+      (opened_machine p.timeslice plan)
+  built_there = all_built p.timeslice plan size_there segments image processes
 
-    same : processes_at p n ≡ plan.image.processes
-    same =
-        of_node_is p n plan at p.timeslice (loaded_machine p.timeslice plan) (opened_machine p.timeslice plan) built
-        (start_control p.timeslice plan size segments image) [] (λ q. q.image.processes)
+  pub start_there : (loaded_machine p.timeslice plan).control ≡ no_processes p.timeslice plan.kind
+  start_there = start_control p.timeslice plan size_there segments image
+
+  same : processes_at p n ≡ plan.image.processes
+  same =
+      of_node_is p n plan at p.timeslice (loaded_machine p.timeslice plan) (opened_machine p.timeslice plan) built_there
+      start_there [] (λ q. q.image.processes)
+
+  node_there : ShowsNode (opening_state p) n plan (opened_name n (processes_at p n)) (λ _. None)
+      (opening_node Processor (opened_machine p.timeslice plan))
+  node_there =
+      subst (λ (qs : List Process). ShowsNode (opening_state p) n plan (opened_name n qs) (λ _. None)
+      (opening_node Processor (opened_machine p.timeslice plan))) (sym same)
+      (node_shown p n plan at p.timeslice (loaded_machine p.timeslice plan) (opened_machine p.timeslice plan)
+      built_there start_there
+      (good_size plan size_there) (start_holds p.timeslice plan size_there segments image))
 
 -- where the plan has no node there is no process
 nobody_there : (p : Plan) (x : Name) → slice_get p.nodes x.node ≡ None

@@ -21,7 +21,7 @@ same_cells (Some b ∷ ks) (c ∷ cs) h all =
     let rest : shown ks ≡ shown cs = same_cells ks cs h.1 all in
     ap (λ (x : Option ℕ). unwrap_or x 0 ∷ shown ks) (sym h.0) ∙ ap (λ (xs : List ℕ). unwrap_or c 0 ∷ xs) rest
 
-same_word : (store : Store) (k : ℕ) (v : Value) → ShowsWord store k v → are_known (word_in v).cells ≡ true
+pub same_word : (store : Store) (k : ℕ) (v : Value) → ShowsWord store k v → are_known (word_in v).cells ≡ true
     → from_le_bytes w32 (shown (word_in v).cells) ≡ word_at store (most_neg + 4 * k)
 same_word store k v w known =
     let e : (word_in v).cells ≡ w.word.cells = ap (λ (x : Value). (word_in x).cells) w.is in

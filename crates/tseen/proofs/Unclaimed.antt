@@ -24,7 +24,7 @@ use Rattle.tproc.proofs.WordsApart.{LiesWord}
 use Rattle.tprocesses.specs.Places.{Place, WordAt}
 use Rattle.tprocesses.specs.Values.{Value, Free, Saved, Receiving, word_in, amount_in}
 use Rattle.tprocesses.specs.Touching.{word_number, word_count}
-use Rattle.tseen.specs.Words.{AreMarked, use_at}
+use Rattle.tseen.specs.Words.{AreMarked, AreSavedWords, use_at}
 use Rattle.tseen.specs.Outputs.{Pending, sendings, is_sending, covers}
 use Rattle.tseen.specs.Halves.{request_of}
 use Rattle.tnet.specs.Rendezvous.{was_copied}
@@ -57,8 +57,7 @@ module _ (s : Place → Value) (n : ℕ) (sent : ℕ → Option Pending) (m : Ma
       All-contains (IsWorkspace (length m.store)) (descheduled m.control) w placed.claimed.saved c in
       let small : IsWord w = All-contains IsWord (descheduled m.control) w placed.workspaces c in
       let used : All (λ j. use_at s n (word_below w j) ≡ Saved) (1 ∷ 2 ∷ 3 ∷ []) =
-      All-contains (λ w. All (λ j. use_at s n (word_below w j) ≡ Saved) (1 ∷ 2 ∷ 3 ∷ [])) (descheduled m.control) w
-      marks.saved c in
+      (All-contains (AreSavedWords s n) (descheduled m.control) w marks.saved c).used in
       by (lies_below (length m.store) w 1 placed.claimed.size h small ((omega arith), (omega arith)))
       (lies_below (length m.store) w 2 placed.claimed.size h small ((omega arith), (omega arith)))
       (lies_below (length m.store) w 3 placed.claimed.size h small ((omega arith), (omega arith)))

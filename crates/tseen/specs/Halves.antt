@@ -1,8 +1,9 @@
 -- The halves of channels and links of a node: who waits there.
 -- Source: own choice.
-use Rattle.std.specs.Prelude.{ℕ, ◌≡◌, false, Option, Some, None}
+use Rattle.std.specs.Prelude.{ℕ, ◌≡◌, false, length, Option, Some, None}
 use Rattle.tword.specs.Stores.{word_at}
 use Rattle.tword.specs.declared.span.Span.{Span}
+use Rattle.tword.specs.Touches.{word_place_break}
 use Rattle.tproc.specs.declared.offer.Offer.{Offer}
 use Rattle.tproc.specs.declared.waiter.Reason.{Reason}
 use Rattle.tproc.specs.declared.waiter.Reason.TheVariants.{Receives, Sends}
@@ -42,6 +43,8 @@ module _ (s : Place → Value) (n : ℕ) (named : Seat → Name) where
     pub waits : reason_of m.control process ≡ Some (reason_at side channel q.buffer)
     pub channel_word : word_at m.store channel ≡ process
     pub engaged : use_at s n channel ≡ Engaged
+    -- the channel word lies in the memory, where programs may use it
+    pub placed : word_place_break (length m.store) channel ≡ None
 
   -- the internal channels
   pub record ShowsChannels (m : Machine) : Type 0 where

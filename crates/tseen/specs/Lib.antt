@@ -15,3 +15,5 @@ pub mod Processes
 pub mod Scripts
 -- the whole net
 pub mod Shown
+-- own steps of a node, and steps of its current process
+pub mod Steps

@@ -1,6 +1,6 @@
 -- The processes of a node: each live one has a name, and each name whose process is there has a live one.
 -- Source: own choice.
-use Rattle.std.specs.Prelude.{ℕ, ◌≡◌, ◌≤◌, ◌⊎◌, ◌&&◌, ◌==◌, pos, true, false, length, Option, Some, None, IfSome}
+use Rattle.std.specs.Prelude.{ℕ, ◌≡◌, ◌≤◌, ◌<◌, ◌⊎◌, ◌&&◌, ◌==◌, pos, true, false, length, Option, Some, None, IfSome}
 use Rattle.std.specs.List.{count_by}
 use Rattle.tcpu.specs.declared.registers.Registers.{Registers}
 use Rattle.tproc.specs.declared.waiter.Reason.TheVariants.{LinkOutput}
@@ -68,16 +68,19 @@ module _ (s : Place → Value) (n : ℕ) where
     -- the output that a process has not ended is that of its link
     pub lent : (x : Name) (k : Context) (t : Lent) → x.node ≡ n → s (Standing x) ≡ IsStand (Rests k)
         → k.lent ≡ Some t
-        → sent t.link ≡ Some (record { request = record { process = x; buffer = t.buffer }; copied = true })
+        → (t.link < 4)
+        × (sent t.link ≡ Some (record { request = record { process = x; buffer = t.buffer }; copied = true }))
     -- an output whose message has gone over is one that its process has not ended
     pub passed : (l : ℕ) (p : Pending) → sent l ≡ Some p → p.copied ≡ true
-        → (k : Context) × (s (Standing p.request.process) ≡ IsStand (Rests k))
+        → (p.request.process.node ≡ n) × (k : Context) × (s (Standing p.request.process) ≡ IsStand (Rests k))
         × (k.lent ≡ Some (record { link = l; buffer = p.request.buffer }))
     -- how many live processes have a workspace
     pub lives : (w : ℕ) → s (Life n w) ≡ IsAmount (pos (count_by (λ v. v == w) (live node.machine.control)))
     -- there were never fewer than now
     pub population : (count : ℕ) × (s (Population n) ≡ IsAmount (pos count))
         × (length (live node.machine.control) ≤ count)
+    -- one is interrupted only where high ones have run
+    pub interrupting : IfSome node.machine.control.interrupted (λ t. s (HasRun n 0) ≡ IsFlag true)
     -- the flags, where no schedule can change them
     pub flags : KeepsFlags → HasFlags node.machine.control.registers
     pub kept_flags : KeepsFlags → IfSome node.machine.control.interrupted (λ t. HasFlags t.registers)

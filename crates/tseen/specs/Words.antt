@@ -8,7 +8,7 @@ use Rattle.tproc.specs.declared.offer.Offer.{Offer}
 use Rattle.tproc.specs.Machine.{Control, descheduled, buffer_of}
 use Rattle.tproc.specs.LinkChannels.{link_end}
 use Rattle.tprocesses.specs.Places.{Place, WordAt, Sending}
-use Rattle.tprocesses.specs.Values.{Value, Word, Use, Saved, Receiving, IsWord, IsAmount, word_in}
+use Rattle.tprocesses.specs.Values.{Value, Word, Use, Saved, Receiving, IsWord, IsAmount, word_in, unknown}
 use Rattle.tprocesses.specs.Machine.{awaits_successor}
 use Rattle.tprocesses.specs.Touching.{word_number, word_count}
 use Rattle.tseen.specs.Known.{KnowsCells}
@@ -25,15 +25,24 @@ module _ (s : Place → Value) (n : ℕ) where
   abbrev pub use_at : ℕ → Use
   use_at address = (word_in (s (WordAt n (word_number address)))).used
 
+  -- the cells of the word at an address
+  abbrev pub cells_at : ℕ → Store
+  cells_at address = (word_in (s (WordAt n (word_number address)))).cells
+
   -- each word of which a span has a byte is in use for this
   abbrev pub IsUsed : Use → Span → Type 0
   IsUsed used span =
       (i : ℕ) → i < word_count span → (word_in (s (WordAt n (word_number span.start + i)))).used ≡ used
 
+  -- the three words below a workspace are saved words. The scheduler may change two of them: these are not known
+  pub record AreSavedWords (w : ℕ) : Type 0 where
+    pub used : All (λ k. use_at (word_below w k) ≡ Saved) (1 ∷ 2 ∷ 3 ∷ [])
+    pub unknown : All (λ k. cells_at (word_below w k) ≡ unknown) (1 ∷ 2 ∷ [])
+
   -- each claim of a processor is marked
   pub record AreMarked (sent : ℕ → Option Pending) (m : Control) : Type 0 where
     -- the saved words of the processes that are queued or wait
-    pub saved : All (λ w. All (λ k. use_at (word_below w k) ≡ Saved) (1 ∷ 2 ∷ 3 ∷ [])) (descheduled m)
+    pub saved : All AreSavedWords (descheduled m)
     -- the buffers of pending inputs
     pub inputs : (l : ℕ) (o : Offer) → (link_end m l).input ≡ Some o → IsUsed Receiving (buffer_of o)
     -- the buffers of the outputs that are not over

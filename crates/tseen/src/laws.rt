@@ -2,6 +2,10 @@
 //! nothing.
 
 ghost use Rattle.tseen.specs.Shown.{FreeWordsAreReadable, KnownWordsAreThere, OpeningIsShown, UnsentWordsAreWritable};
+ghost use Rattle.tseen.specs.Steps.{DispatchesAreSeen, HighJumpsAreSeen, InstructionsAreDone, LoadedPrioritiesAreSeen};
+ghost use Rattle.tseen.specs.Steps.{LocalInstructionsAreSeen, LowJumpsAreSeen, OpeningIsSteady, OwnStepsKeepSteady};
+ghost use Rattle.tseen.specs.Steps.{NoticesAreSeen, OpeningNodesAreSteady, RunsStaySteady, StepsKeepSteady};
+ghost use Rattle.tseen.specs.Steps.{SourceWakesAreSeen, StopsAreSeen, UnstoppedAreSeen, YieldsAreSeen};
 
 /// The opening of each plan without a fault is shown: the state of its process machine before the first step tells of
 /// the configuration of its rendezvous machine before the first step.
@@ -23,4 +27,87 @@ pub fn unsent_words_are_writable()
 /// A word of the memory whose bytes are all known in the process machine is the word that is there.
 pub fn known_words_are_there()
     ensures { KnownWordsAreThere }
+{}
+
+/// If the step of a node's current process does not stop, the instruction of the node breaks no rule, and does not halt
+/// the processor.
+pub fn instructions_are_done()
+    ensures { InstructionsAreDone }
+{}
+
+/// If it is a local instruction, the node's own step leads to a configuration that the state after the step shows.
+pub fn local_instructions_are_seen()
+    ensures { LocalInstructionsAreSeen }
+{}
+
+/// So it is if it is a jump of a high process.
+pub fn high_jumps_are_seen()
+    ensures { HighJumpsAreSeen }
+{}
+
+/// After a jump of a low process that does not yield, it is so once its process has gone on from its rest.
+pub fn low_jumps_are_seen()
+    ensures { LowJumpsAreSeen }
+{}
+
+/// After a jump at which a low process yields, the state after the jump alone shows what the node's own step leads to.
+pub fn yields_are_seen()
+    ensures { YieldsAreSeen }
+{}
+
+/// If a node dispatches a process, the state after that process has gone on from its rest shows what the dispatch leads
+/// to.
+pub fn dispatches_are_seen()
+    ensures { DispatchesAreSeen }
+{}
+
+/// What `ldpri` leads to is shown by the state after the step of its process.
+pub fn loaded_priorities_are_seen()
+    ensures { LoadedPrioritiesAreSeen }
+{}
+
+/// So is what `stoperr` leads to where Error is clear.
+pub fn unstopped_are_seen()
+    ensures { UnstoppedAreSeen }
+{}
+
+/// So is what `stopp` leads to, or `stoperr` where Error is set.
+pub fn stops_are_seen()
+    ensures { StopsAreSeen }
+{}
+
+/// The processors of a plan without a fault are steady before the first step.
+pub fn the_opening_is_steady()
+    ensures { OpeningIsSteady }
+{}
+
+/// A node's own step leaves its processor steady.
+pub fn own_steps_keep_steady()
+    ensures { OwnStepsKeepSteady }
+{}
+
+/// All nodes of a plan without a fault are steady before the first step: memories hold bytes, pending inputs are
+/// hidden, and processors are steady.
+pub fn all_nodes_open_steady()
+    ensures { OpeningNodesAreSteady }
+{}
+
+/// Each step of the rendezvous machine leaves all nodes steady: own steps, notices, copies, wakes and freezes.
+pub fn all_steps_keep_steady()
+    ensures { StepsKeepSteady }
+{}
+
+/// So all nodes are steady wherever a run of a plan without a fault leads.
+pub fn runs_stay_steady()
+    ensures { RunsStaySteady }
+{}
+
+/// Where an end notices an offer, the state of the process machine that showed the net before shows it after.
+pub fn notices_are_seen()
+    ensures { NoticesAreSeen }
+{}
+
+/// So it is where a message of a source is over, and the source offers its next one.
+pub fn source_wakes_are_seen()
+    ensures { SourceWakesAreSeen }
 {}
