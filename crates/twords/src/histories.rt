@@ -1,7 +1,7 @@
 //! The commands that tell the history of a node, or draw that of a net: the words that they take, and what these ask
 //! for.
 
-ghost use Rattle.std.specs.Prelude.{◌≡◌, ◌≤◌, IfOk, IfSome, Some, codes};
+ghost use Rattle.std.specs.Prelude.{◌≡◌, ◌≤◌, IfOk, IfSome, codes};
 ghost use Rattle.clap.specs.Words.{found_of, rows_of};
 ghost use Rattle.twords.specs.Arguments.{HasAll, HasNumber, number_at};
 ghost use Rattle.twords.specs.Table as spec;
@@ -16,7 +16,7 @@ use tplan::FileName;
 use tword::Word;
 
 /// The history of a node, as it is asked for.
-#[derive(Debug, Drop)]
+#[derive(Drop)]
 pub struct Stepping {
     pub wiring: FileName,
     pub log: FileName,
@@ -33,7 +33,7 @@ pub struct Stepping {
 }
 
 /// The history of some bytes of a node, as it is asked for.
-#[derive(Debug, Drop)]
+#[derive(Drop)]
 pub struct Watching {
     pub wiring: FileName,
     pub log: FileName,
@@ -48,12 +48,12 @@ pub struct Watching {
 }
 
 /// What the arguments of `steps` ask for.
-pub(crate) fn steps_asked(alloc: Global, given: &ArgMatches) -> Result<Command, AllocError>
+pub(crate) fn steps_asked(alloc: Global, given: &ArgMatches) -> Result<Option<Command>, AllocError>
     requires { HasAll (spec.rules_of Which.Steps) (rows_of (found_of given.now)) }
-    ensures command { IfOk result (λ c. spec.asked_in Which.Steps (rows_of (found_of given.now)) ≡ Some c) }
-    ensures range { IfOk result spec.IsInRange }
+    ensures command { IfOk result (λ c. spec.asked_in Which.Steps (rows_of (found_of given.now)) ≡ c) }
+    ensures range { IfOk result (λ c. IfSome c spec.IsInRange) }
 {
-    Ok(Command::Steps(Stepping {
+    Ok(Some(Command::Steps(Stepping {
         wiring: file(alloc, given, "wiring")?,
         log: file(alloc, given, "log")?,
         node: small_number(given, "node"),
@@ -61,7 +61,7 @@ pub(crate) fn steps_asked(alloc: Global, given: &ArgMatches) -> Result<Command, 
         to: number(given, "to"),
         last: number(given, "last"),
         names: names_files(alloc, given)?,
-    }))
+    })))
 }
 
 /// What the arguments of `watch` ask for; nothing where the word of `--address` is no address.
@@ -84,16 +84,16 @@ pub(crate) fn watch_asked(alloc: Global, given: &ArgMatches) -> Result<Option<Co
 }
 
 /// What the arguments of `chart` ask for.
-pub(crate) fn chart_asked(alloc: Global, given: &ArgMatches) -> Result<Command, AllocError>
+pub(crate) fn chart_asked(alloc: Global, given: &ArgMatches) -> Result<Option<Command>, AllocError>
     requires { HasAll (spec.rules_of Which.Chart) (rows_of (found_of given.now)) }
-    ensures command { IfOk result (λ c. spec.asked_in Which.Chart (rows_of (found_of given.now)) ≡ Some c) }
-    ensures range { IfOk result spec.IsInRange }
+    ensures command { IfOk result (λ c. spec.asked_in Which.Chart (rows_of (found_of given.now)) ≡ c) }
+    ensures range { IfOk result (λ c. IfSome c spec.IsInRange) }
 {
-    Ok(Command::Chart {
+    Ok(Some(Command::Chart {
         wiring: file(alloc, given, "wiring")?,
         log: file(alloc, given, "log")?,
         events: signed_number(given, "events"),
-    })
+    }))
 }
 
 /// How many bytes are watched.
@@ -142,11 +142,11 @@ pub const STEPS: CommandRow = CommandRow {
         NAMES,
     ],
     below: "\
-In: a wiring file (see `temu run --help`) and a log (see `temu replay --help`). The events with
-numbers below that of `--to` are done, or all where there are no more; so one behind them is not
-asked for, but a bad line is told.
+In: a wiring file (see `temu run --help`) and a log (see `temu replay --help`). Only the events with
+numbers below that of `--to` are done, so whether a later one can be done does not matter; but a bad
+line is a fault wherever it is.
 
-Out: of the node a line for each of its events that is asked for:
+Out: a line for each event of the node that is asked for:
 
          0 run  #80000101 A #00000000 B #00000000 C #00000000 Wptr #80000100 Iptr #80000080 after dispatch
          1 run  #80000101 A #00000004 B #00000000 C #00000000 Wptr #80000100 Iptr #80000081 after #80000080: ldc 4
@@ -156,17 +156,18 @@ Out: of the node a line for each of its events that is asked for:
         22 take link 0 from 2.3 byte --
         31 take link 0 from 2.3 byte 08 complete
 
-In front stands the number of the event in the log. Of a `run` there are the process, the registers
-that it left, and behind `after` the address and the instruction, or `dispatch`; then
-`descheduled`, where no process runs behind it. Of a byte there are the link, the far end and the
-byte, which is `--` while it lies in the buffer of a pending input; `complete` where the message is.
-Behind these `halt`, or `break` and a name, where the processor halted or the node froze.
+A line begins with the number of the event in the log. A `run` has the process, the registers that
+it left, and after the word `after` the address and the instruction that was done, or `dispatch`;
+then `descheduled` if no process runs any more. The others have the link, its far end, and the byte that
+was sent, came or was taken; it is `--` while it lies in the buffer of a pending input. `complete`
+tells that the message is complete. Last comes `halt` if the processor halted, or `break` and a name
+if the node froze.
 
-Last `end replay E` after E events. A source and a sink have a number too, behind the nodes.
+The last line is `end replay E` after E events. Sources and sinks have numbers too, after the nodes.
 
-With `--names` each address has its name behind it (see `temu where --help`).
+With `--names` each address has its name after it (see `temu where --help`).
 
-Exit status: as that of `temu replay`; 2 where the net has no node of this number.
+Exit status: as that of `temu replay`; 2 if the net has no node of this number.
 
 Examples:
   temu steps pair.toml pair.log --node 1 --last 20
@@ -199,21 +200,21 @@ pub const WATCH: CommandRow = CommandRow {
 In: a wiring file (see `temu run --help`) and a log (see `temu replay --help`), all of whose events
 are done.
 
-Out: what stood at these bytes of the node at the opening, and a line for each event of the node
+Out: what these bytes of the node were before the first event, and a line for each event of the node
 that changed one of them:
 
    opening is 00 00 00 00
          2 run  #80000101 was 00 00 00 00 is 04 00 00 00 after #80000081: stl 0
         31 take link 0 from 2.3 was -- -- -- -- is 07 08 00 00 complete
 
-Each line begins and ends as one of `temu steps`, with the bytes before the event and behind it. A
+Each line begins and ends as one of `temu steps`, with the bytes before the event and after it. A
 byte in the buffer of a pending input is `--`: it changes when its message is complete.
 
-Last `end replay E` after E events. With `--names` each address has its name behind it (see
-`temu where --help`).
+The last line is `end replay E` after E events. With `--names` each address has its name after it
+(see `temu where --help`).
 
-Exit status: as that of `temu replay`; 2 where the net has no node of this number, or one of the
-bytes lies outside the node's memory, which begins at 80000000. A source and a sink have none.
+Exit status: as that of `temu replay`; 2 if the net has no node of this number, or one of the bytes
+is not in the node's memory, which begins at 80000000. Sources and sinks have no memory.
 
 Examples:
   temu watch pair.toml pair.log --node 1 --address 80000100
@@ -228,15 +229,16 @@ pub const CHART: CommandRow = CommandRow {
     below: "\
 In: a wiring file (see `temu run --help`) and a log (see `temu replay --help`).
 
-Out: a picture, in the form SVG, which a browser shows: a column for each node, source and sink, and
-downwards what each did, so that what came of something stands below it. A bar stands for
-instructions in a row, with their number; an arrow for a message, from where its first byte was sent
-to where its last was taken, with its length and its first bytes; a mark for a halt or for the break
-that froze a node. Behind each a text tells more, such as the number of its event in the log. At most
-2000 rows are drawn; where there are more a line at the end says so.
+Out: a picture in the form SVG, which a browser shows. Each node, source and sink has a column, and
+time goes downwards. A box is a row of instructions, with their number. A narrow coloured bar is a
+node that waits at a link; a key above the columns tells for what. An arrow is a message, from where
+its first byte was sent, which has a dot, to where its last byte was taken; beside the dot are its
+length and its first bytes. A square is a halt, or a red one the break that froze a node. Point at
+any of them to read more, such as the numbers of its events in the log.
 
-With `--events 40` the first 40 events are drawn, or all where there are no more; with `--events -3`
-all but the last 3.
+At most 1300 rows are drawn; if there are more, a line above and below the columns says so. With
+`--events 40` the first 40 events are drawn, or all if there are fewer; with `--events -3` all but
+the last 3.
 
 Exit status: as that of `temu replay`.
 

@@ -16,7 +16,7 @@ use tplan::FileName;
 const DIGITS: usize = 3;
 
 /// A file of names, as it is asked for.
-#[derive(Debug, Drop)]
+#[derive(Drop)]
 pub struct NamesFile {
     /// The number of the node whose names these are; none where they are those of each node.
     pub node: Option<u8>,
@@ -25,7 +25,7 @@ pub struct NamesFile {
 }
 
 /// The files of names that are asked for, in the order of their words.
-#[derive(Debug, Drop)]
+#[derive(Drop)]
 pub struct NamesFiles {
     list: Vec<NamesFile>,
 }
@@ -125,5 +125,5 @@ pub(crate) const NAMES: Argument = Argument {
     name: "names",
     form: Form::Texts,
     value: "FILE",
-    help: "Puts names behind the addresses, from this file; N=FILE: of node N alone. May be given again",
+    help: "Puts names after the addresses, from this file; N=FILE: for node N alone. May be given again",
 };

@@ -19,7 +19,7 @@ use tword::Kind;
 use tword::limits::{LONGEST_SLICE, MOST_WORKERS};
 
 /// A command by itself.
-#[derive(Clone, Copy, Debug, PartialEq, Eq)]
+#[derive(Clone, Copy)]
 pub enum Which {
     /// `run`.
     Run,
@@ -45,7 +45,7 @@ pub enum Which {
 
 /// What is shown of a net that is left: of a run between its trace and its last line, of an exploration below the
 /// heading of each outcome.
-#[derive(Clone, Copy, Debug, PartialEq, Eq)]
+#[derive(Clone, Copy)]
 pub enum Show {
     /// Its dump: memories, sources and sinks.
     Dump,
@@ -56,7 +56,7 @@ pub enum Show {
 }
 
 /// What is printed of a run, and how.
-#[derive(Clone, Copy, Debug, PartialEq, Eq)]
+#[derive(Clone, Copy)]
 pub enum Printing {
     /// Lines, and this of the net that is left.
     Lines(Show),
@@ -65,7 +65,7 @@ pub enum Printing {
 }
 
 /// A run of a net, as it is asked for.
-#[derive(Debug, Drop)]
+#[derive(Drop)]
 pub struct Running {
     pub wiring: FileName,
     pub options: Options,
@@ -75,7 +75,7 @@ pub struct Running {
 }
 
 /// An exploration, as it is asked for.
-#[derive(Debug, Drop)]
+#[derive(Drop)]
 pub struct Exploring {
     pub wiring: FileName,
     /// How many states are kept at most.
@@ -89,7 +89,7 @@ pub struct Exploring {
 }
 
 /// What a command line asks for.
-#[derive(Debug, Drop)]
+#[derive(Drop)]
 pub enum Command {
     /// Runs the net of a wiring file by rounds, and writes what it did into a log file where one is named.
     Run(Running),
@@ -195,25 +195,14 @@ impl Which {
         match self {
             Which::Run => run_asked(alloc, given),
             Which::Free => free_asked(alloc, given),
-            Which::Explore => explored(alloc, given),
-            Which::Replay => replayed(alloc, given),
-            Which::Where => Ok(Some(Command::Where {
-                wiring: file(alloc, given, "wiring")?,
-                log: file(alloc, given, "log")?,
-                events: signed_number(given, "events"),
-                names: names_files(alloc, given)?,
-            })),
-            Which::Steps => Ok(Some(steps_asked(alloc, given)?)),
+            Which::Explore => explore_asked(alloc, given),
+            Which::Replay => replay_asked(alloc, given),
+            Which::Where => where_asked(alloc, given),
+            Which::Steps => steps_asked(alloc, given),
             Which::Watch => watch_asked(alloc, given),
-            Which::Chart => Ok(Some(chart_asked(alloc, given)?)),
-            Which::Check => Ok(Some(Command::Check {
-                wiring: file(alloc, given, "wiring")?,
-            })),
-            Which::Dis => Ok(Some(Command::Dis {
-                image: file(alloc, given, "image")?,
-                kind: kind(given),
-                names: optional_file(alloc, given, "names")?,
-            })),
+            Which::Chart => chart_asked(alloc, given),
+            Which::Check => check_asked(alloc, given),
+            Which::Dis => dis_asked(alloc, given),
         }
     }
 }
@@ -256,7 +245,7 @@ fn free_asked(alloc: Global, given: &ArgMatches) -> Result<Option<Command>, Allo
 
 /// What the arguments of `replay` ask for; nothing where the word of `--show` stands for nothing, or `--json` has no
 /// form for it.
-fn replayed(alloc: Global, given: &ArgMatches) -> Result<Option<Command>, AllocError>
+fn replay_asked(alloc: Global, given: &ArgMatches) -> Result<Option<Command>, AllocError>
     requires { HasAll (spec.rules_of Which.Replay) (rows_of (found_of given.now)) }
     ensures command { IfOk result (λ c. spec.asked_in Which.Replay (rows_of (found_of given.now)) ≡ c) }
     ensures range { IfOk result (λ c. IfSome c spec.IsInRange) }
@@ -276,7 +265,7 @@ fn replayed(alloc: Global, given: &ArgMatches) -> Result<Option<Command>, AllocE
 }
 
 /// What the arguments of `explore` ask for; nothing where the word of `--show` stands for nothing.
-fn explored(alloc: Global, given: &ArgMatches) -> Result<Option<Command>, AllocError>
+fn explore_asked(alloc: Global, given: &ArgMatches) -> Result<Option<Command>, AllocError>
     requires { HasAll (spec.rules_of Which.Explore) (rows_of (found_of given.now)) }
     ensures command { IfOk result (λ c. spec.asked_in Which.Explore (rows_of (found_of given.now)) ≡ c) }
     ensures range { IfOk result (λ c. IfSome c spec.IsInRange) }
@@ -292,6 +281,44 @@ fn explored(alloc: Global, given: &ArgMatches) -> Result<Option<Command>, AllocE
         log: prefix,
         show,
     })))
+}
+
+/// What the arguments of `where` ask for.
+fn where_asked(alloc: Global, given: &ArgMatches) -> Result<Option<Command>, AllocError>
+    requires { HasAll (spec.rules_of Which.Where) (rows_of (found_of given.now)) }
+    ensures command { IfOk result (λ c. spec.asked_in Which.Where (rows_of (found_of given.now)) ≡ c) }
+    ensures range { IfOk result (λ c. IfSome c spec.IsInRange) }
+{
+    Ok(Some(Command::Where {
+        wiring: file(alloc, given, "wiring")?,
+        log: file(alloc, given, "log")?,
+        events: signed_number(given, "events"),
+        names: names_files(alloc, given)?,
+    }))
+}
+
+/// What the arguments of `check` ask for.
+fn check_asked(alloc: Global, given: &ArgMatches) -> Result<Option<Command>, AllocError>
+    requires { HasAll (spec.rules_of Which.Check) (rows_of (found_of given.now)) }
+    ensures command { IfOk result (λ c. spec.asked_in Which.Check (rows_of (found_of given.now)) ≡ c) }
+    ensures range { IfOk result (λ c. IfSome c spec.IsInRange) }
+{
+    Ok(Some(Command::Check {
+        wiring: file(alloc, given, "wiring")?,
+    }))
+}
+
+/// What the arguments of `dis` ask for.
+fn dis_asked(alloc: Global, given: &ArgMatches) -> Result<Option<Command>, AllocError>
+    requires { HasAll (spec.rules_of Which.Dis) (rows_of (found_of given.now)) }
+    ensures command { IfOk result (λ c. spec.asked_in Which.Dis (rows_of (found_of given.now)) ≡ c) }
+    ensures range { IfOk result (λ c. IfSome c spec.IsInRange) }
+{
+    Ok(Some(Command::Dis {
+        image: file(alloc, given, "image")?,
+        kind: kind(given),
+        names: optional_file(alloc, given, "names")?,
+    }))
 }
 
 /// The options of a run, whose limit has this name.
@@ -478,7 +505,7 @@ const SHOW: Argument = Argument {
     name: "show",
     form: WHAT,
     value: "WHAT",
-    help: "What is shown of the net behind the trace: dump, where, or none",
+    help: "What is shown of the net after the trace: dump, where, or none",
 };
 
 /// `run`.
@@ -540,8 +567,8 @@ In a wiring of version 2 a node may be of kind 2: it has the operation `dup` too
   kind = 2             # may be left out: 1
   image = \"a.img\"
 
-A wiring of version 2 may have sources and sinks too. They are numbered behind the nodes, the
-sources first, and each has the one link 0:
+A wiring of version 2 may have sources and sinks too. Their numbers go on after those of the nodes,
+the sources first, and each has the one link 0:
 
   version = 2
   [[source]]           # sends messages to an end, one after another
@@ -551,14 +578,14 @@ sources first, and each has the one link 0:
   end = [1, 1]
   capacity = 64        # for how many bytes it has room: 1 to 65536
 
-Out: a line for each message that went over, as `msg 0.1 1.2 4 01020304` (from, to, length, bytes),
+Out: a line for each message that has passed, as `msg 0.1 1.2 4 01020304` (from, to, length, bytes),
 and for each node that halted or froze; the memory of each node, without lines of zeros; for each
-source how many of its messages are over, as `source 2 done 1 of 2`; for each sink how many it has
-kept, as `sink 3 messages 1`, and a line for each of them, as `kept 01020304`; last
-`end quiet R`, where nothing is left to do after R rounds, or `end rounds R`.
+source how many of its messages have passed, as `source 2 done 1 of 2`; for each sink how many it
+has kept, as `sink 3 messages 1`, and a line for each of them, as `kept 01020304`. The last line is
+`end quiet R` if nothing is left to do after R rounds, or else `end rounds R`.
 
-With `--show where` it tells in place of memories, sources and sinks where the processes and links
-stand, as `temu where` does; with `--show none` nothing.
+With `--show where` it tells what the processes and links are doing, as `temu where` does, in place
+of memories, sources and sinks; with `--show none` nothing of them.
 
 With `--json` each line is an object of JSON, for other programs:
 
@@ -570,8 +597,8 @@ With `--json` each line is an object of JSON, for other programs:
   {\"sink\": 3, \"kept\": [\"01020304\"]}
   {\"end\": \"quiet\", \"rounds\": 9}
 
-The state of a node is `ok`, `halted` or `frozen`, and behind `frozen` stands the break. A byte that
-a pending input is to write is `--`. `--json` and `--show where` do not go together.
+The state of a node is `ok`, `halted` or `frozen`; a frozen node has its `break` next. A byte that a
+pending input is to write is `--`. `--json` and `--show where` do not go together.
 
 Examples:
   temu run pair.toml --workers 4 --log pair.log
@@ -610,13 +637,13 @@ pub const FREE: CommandRow = CommandRow {
     below: "\
 In: a wiring file (see `temu run --help`), whose holds are ignored.
 
-Out: what `temu run` prints, with `--show` and `--json` too; last `end quiet`, where nothing is left
-to do, or `end turns`.
+Out: what `temu run` prints, with `--show` and `--json` too. The last line is `end quiet` if nothing
+is left to do, or else `end turns`.
 
-Each worker is one thread, which makes so many turns over its own nodes and waits for nobody.
-Packets cross between threads by rings of two places, so the threads' timing decides which order
-comes out; but what is printed is always one run of the machine. Where the order decides nothing, a
-quiet end has the messages and the memories of `temu run`.
+Each worker is a thread that has nodes of its own. It goes round them, one turn after another, and
+waits for nobody. So the timing of the threads decides which message comes first; but what is
+printed is always one run of the machine. If a program's result does not depend on that order, a run
+that ends quiet has the messages and the memories of `temu run`.
 
 `--log` writes the events in an order that `temu replay` does again.
 
@@ -656,8 +683,8 @@ pub const EXPLORE: CommandRow = CommandRow {
         },
     ],
     below: "\
-In: a wiring file (see `temu run --help`). Its holds do not matter, and a bad one is not told; nor do
-the workers and the slice of a run: all timings are tried at once. The timeslice does.
+In: a wiring file (see `temu run --help`). Its holds do not matter, and a bad one is not told; nor
+do the workers and the slice of a run: all timings are tried at once. The timeslice does.
 
 Out: for each outcome, which is a way in which a run may end, one of these lines, and below it the
 memories, sources and sinks as `temu run` prints them:
@@ -667,23 +694,24 @@ memories, sources and sinks as `temu run` prints them:
   outcome 3 stuck                        a message is offered that nobody takes
   outcome 4 freeze 0 InTransit #8000009b node 0 broke this rule, at this instruction if there is one
 
-Where an earlier outcome agrees with one in all but the bytes of some lines of memories, `as 1 but`
-tells its number in place of the whole, and below it stand just the lines that differ, those of a
-node behind the node's own line. With `--show where` it tells in place of the memories where the
-processes and links stand, as `temu where` does, of each outcome whole (or nothing, where no memory
-was left for that); with `--show none` nothing stands below the headings.
+If an outcome differs from an earlier one only in bytes of memories, it is not printed whole: a line
+such as `as 1 but` has the number of the earlier one, and only the lines that differ follow, after
+the line of their node. With `--show where` each outcome has, in place of the memories, what the
+processes and links are doing, as `temu where` tells it, always whole (or nothing, if no memory was
+left for that); with `--show none` it has just its `outcome` line.
 
-Behind them `endless`, where a run was found that goes on for ever (there may be one where it is not
-told). Last `end outcomes 2 states 13`: these 2 are all, and from 13 states several steps were tried,
-from 0 where there was one path alone; or `end cut outcomes 2 states 13`, where the limit of states
-or of steps was met, or no memory was left, so that there may be others.
+After the outcomes comes `endless` if a run was found that goes on for ever; there may be such a run
+even if none is told. The last line is `end outcomes 2 states 13`: there are no outcomes but these
+2, and from 13 states several steps were tried (0: there was only one way to go). Or it is
+`end cut outcomes 2 states 13`: the limit of states or steps was met, or there was no memory left,
+so there may be other outcomes.
 
-Each run by `temu run` or `temu free` that ends quiet, with no frozen node, ends in one of all
-outcomes. A run is followed up to its first freeze: where some run freezes a node at least one freeze
-is told, but not each of them.
+If the exploration was not cut, each run by `temu run` or `temu free` that ends quiet, with no
+frozen node, ends in one of these outcomes. A run is followed up to its first freeze: if some run
+freezes a node, at least one freeze is told, but maybe not all of them.
 
-Exit status: 5 the exploration was cut, whatever it found; else 0 there is one outcome, and no
-freeze; 1 there is a freeze, or not just one outcome.
+Exit status: 5 the exploration was cut, whatever it found; else 0 there is exactly one outcome, and
+no freeze; 1 there is a freeze, or another number of outcomes.
 
 Example:
   temu explore pair.toml --states 100000",
@@ -698,10 +726,11 @@ pub const REPLAY: CommandRow = CommandRow {
 In: a wiring file (see `temu run --help`) and a log, which has a line for each event: `run 0`,
 `send 0 1`, `data 1 2`, `take 1 2` or `ack 0 1`, with the number of the node and that of its link.
 
-Out: what `temu run` prints of these events, with `--show` and `--json` too; last `end replay E`
-after E events.
-With `--events 40` the first 40 events are done, or all where there are no more; with `--events -3`
-all but the last 3. A bad line behind them is told all the same.
+Out: what `temu run` prints of these events, with `--show` and `--json` too. The last line is
+`end replay E` after E events.
+
+With `--events 40` the first 40 events are done, or all if there are fewer; with `--events -3` all
+but the last 3. A bad line is a fault even if it comes after these events.
 
 Examples:
   temu replay pair.toml pair.log
@@ -711,12 +740,12 @@ Examples:
 /// `where`.
 pub const WHERE: CommandRow = CommandRow {
     name: "where",
-    about: "Does the events of a log on the net of a wiring file, and prints where each process stands then",
+    about: "Does the events of a log on the net of a wiring file, and prints what each process is doing then",
     arguments: &[WIRING, LOG_TO_READ, EVENTS, NAMES],
     below: "\
 In: a wiring file (see `temu run --help`) and a log (see `temu replay --help`).
 
-Out: for each node a line as `temu run` prints it before its memory, `node 0 ok`, and below it:
+Out: for each node a line as `temu run` prints it before its memory, `node 0 ok`, and after it:
 
   node 0 frozen ZeroLength                 the break of a usage rule
     runs          #80000101 low            the process that runs, or that broke the rule: its
@@ -741,26 +770,26 @@ Out: for each node a line as `temu run` prints it before its memory, `node 0 ok`
     link 2        packet acknowledge       an acknowledge that lies there
     link 3        enabled by #80000701     the process that is told when a byte comes
 
-Only what there is has a line. `over` tells how many bytes of the message went over. A source or a
-sink has its first line of `temu run`, and below it those of its link 0. Nothing is told of what the
-buffer of a pending link input holds. Behind all nodes, if nothing more can happen, a line for each
-link that a process, a source or a sink waits for, and what is lacking there:
+Only what there is has a line. `over` tells how many bytes of the message have passed. A source or a
+sink has its first line of `temu run`, and after it those of its link 0. Nothing is told of what the
+buffer of a pending link input holds. After all nodes, if nothing more can happen, comes a line for
+each link that a process, a source or a sink waits for, with what is lacking there:
 
   stuck #80000101 of 0: output on link 1 to 1.2, no input there
   stuck #80000601 of 1: input on link 2 from 0.1, node 0 is frozen
   circle 0 waits for 1 waits for 0         nodes that wait for one another: of all such circles
                                            with this lowest node the shortest
 
-Then for each node that has halted the event that halted it, and its instruction:
+Then for each node that has halted comes the event that halted it, with its instruction:
 
   halted node 0 by event 4: #80000084: div
 
-Last `end replay E` after E events.
+The last line is `end replay E` after E events.
 
 A file of `--names` has lines such as `800000f0 got`: an address, of eight hexadecimal digits, and
-its name. Then each address of a node's memory has the nearest name at it or below it behind it, as
-`#800000f8 got+8`, but for the `stuck` lines. Of a node the first file counts that is of this node or
-of each.
+its name. Then after each address of a node's memory comes the nearest name at or below it, as in
+`#800000f8 got+8`, but not in the `stuck` lines. If several files are given, each node has the names
+of the first file that is for this node or for all nodes.
 
 Examples:
   temu where pair.toml pair.log --events 40
@@ -851,8 +880,8 @@ shown as `80000080: db xx`.
 
 With `--kind 2` the bytes 25 fa are `dup`, which nodes of kind 1 do not have.
 
-With `--names` a line `got:` stands before an instruction at whose address the file, as that of
-`temu where`, has a name.
+With `--names` a line such as `got:` comes before each instruction whose address has a name in the
+file; `temu where --help` tells what such a file has.
 
 Examples:
   temu dis first.img
@@ -881,5 +910,5 @@ Examples:
 out.
 
 Exit status: 0 done; 1 done, and a node is frozen, since it broke a usage rule, or an exploration
-found a freeze or not just one outcome; 2 bad input, which standard error names; 3 the output
-failed, or no log of an outcome was found; 4 no memory; 5 an exploration was cut.";
+found a freeze, or another number of outcomes than one; 2 bad input, which standard error names; 3
+the output failed, or no log of an outcome was found; 4 no memory; 5 an exploration was cut.";

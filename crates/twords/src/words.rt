@@ -84,7 +84,7 @@ fn refused_word(alloc: Global, unread: &Unread) -> Result<CommandFault, AllocErr
 
 /// What is told of the word of this command that stands for nothing.
 fn refusal(which: Which, given: &ArgMatches) -> &'static str {
-    if which == Which::Watch {
+    if matches!(which, Which::Watch) {
         "invalid value for '--address <A>': not 1 to 8 hexadecimal digits, as 80000100"
     } else if is_given(given, "json") && is_where(given) {
         "the argument '--json' cannot be used with '--show where'"
