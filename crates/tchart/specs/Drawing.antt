@@ -116,10 +116,11 @@ abbrev pub pause_shape : ℕ → Pause → (to : ℕ) → List ℕ
 pause_shape n q to =
     rectangle_text (class_of q.awaited) (x_of n - 4) (y_of q.from - 12) 8 (24 * (to + 1 - q.from))
 
--- an arrow, and above its beginning the length and the first bytes, on the side that it goes to
+-- an arrow, and above its beginning the length and the first bytes, on the side that it goes to; higher if that is the
+-- left, since an arrow to the right may begin in the same row
 abbrev pub label_head : (from to row : ℕ) → List ℕ
 label_head from to row =
-    if nat_lt to from then text_head (codes "left") (x_of from - 40) (y_of row - 4)
+    if nat_lt to from then text_head (codes "left") (x_of from - 40) (y_of row - 16)
     else text_head (codes "right") (x_of from + 40) (y_of row - 4)
 
 abbrev pub message_shape : (from to begun row : ℕ) → List ℕ → List ℕ
@@ -168,8 +169,8 @@ kind_text kind.Sink = codes "sink "
 -- a column over this number of rows: its name, and a line
 abbrev pub column_text : (rows : ℕ) → Column → List ℕ
 column_text rows c =
-    text_text (codes "name") (x_of c.number) 24 (kind_text c.kind ++ decimal c.number)
-    ++ line (line_text (codes "column") (x_of c.number) 36 (x_of c.number) (y_of rows + 14))
+    text_text (codes "name") (x_of c.number) 120 (kind_text c.kind ++ decimal c.number)
+    ++ line (line_text (codes "column") (x_of c.number) 132 (x_of c.number) (y_of rows + 14))
 
 -- ---- the picture
 
@@ -182,7 +183,7 @@ abbrev pub width_of : Chart → ℕ
 width_of c = 240 * min (length c.columns) most_nodes + 100
 
 abbrev pub height_of : (rows : ℕ) → ℕ
-height_of rows = y_of rows + 126
+height_of rows = y_of rows + 50
 
 -- the first line
 abbrev pub head_text : (width height : ℕ) → List ℕ
@@ -193,31 +194,31 @@ head_text width height =
     ++ (codes " viewBox='0 0 " ++ (decimal width ++ (codes " " ++ (decimal height ++ line (codes "'>")))))))
 
 -- the colour of a pause, and what is waited for
-abbrev pub legend_line : Awaited → ℕ → List ℕ
-legend_line a y =
+abbrev pub key_line : Awaited → ℕ → List ℕ
+key_line a y =
     rectangle_text (class_of a) 12 (y - 10) 8 12
     ++ (text_head (codes "right") 28 y ++ (awaited_text a ++ line (codes "</text>")))
 
--- the colours of pauses, from a height on
-abbrev pub legend_text : ℕ → List ℕ
-legend_text y =
-    legend_line Output y
-    ++ (legend_line Input (y + 18) ++ (legend_line Alternative (y + 36) ++ legend_line Several (y + 54)))
+-- the key of the colours of pauses, from a height on
+abbrev pub key_text : ℕ → List ℕ
+key_text y =
+    key_line Output y ++ (key_line Input (y + 18) ++ (key_line Alternative (y + 36) ++ key_line Several (y + 54)))
 
--- there are more rows than are drawn
+-- there are more rows than are drawn, at a height
 abbrev pub rest_text : (rows y : ℕ) → List ℕ
 rest_text rows y =
     if nat_lt most_rows rows
-    then text_head (codes "right") 12 y ++ (codes "the first 2000 rows are drawn" ++ line (codes "</text>"))
+    then text_head (codes "right") 12 y ++ (codes "only the first 1300 rows are drawn" ++ line (codes "</text>"))
     else []
 
--- the whole text
+-- the whole text: above the columns the key, and above and below them whether there are more rows
 abbrev pub chart_text : Chart → List ℕ
 chart_text c =
     head_text (width_of c) (height_of (drawn_rows c))
     ++ (style_text
+    ++ (key_text 20
+    ++ (rest_text c.rows 92
     ++ (flat_map (column_text (drawn_rows c)) c.columns
     ++ (flat_map lower_text c.marks
     ++ (flat_map upper_text c.marks
-    ++ (legend_text (y_of (drawn_rows c) + 40)
-    ++ (rest_text c.rows (y_of (drawn_rows c) + 112) ++ line (codes "</svg>")))))))
+    ++ (rest_text c.rows (y_of (drawn_rows c) + 36) ++ line (codes "</svg>"))))))))

@@ -9,7 +9,7 @@ use Rattle.tchart.specs.declared.shown.Message.{Message}
 use Rattle.tchart.specs.declared.shown.Shown.TheVariants as shown
 use Rattle.tchart.specs.declared.layout.Kind.TheVariants as kind
 use Rattle.tchart.specs.declared.marks.Mark.TheVariants as mark
-use Rattle.tchart.specs.Drawing.{column_text, head_text, mark_text, rest_text}
+use Rattle.tchart.specs.Drawing.{column_text, head_text, label_head, mark_text, rest_text}
 use Rattle.tchart.specs.Plots.{PlotState, below, ended, laid, opening}
 use Rattle.tchart.specs.Shown.{awaited_of}
 
@@ -82,7 +82,7 @@ nothing_shown : (laid 0 7 shown.Nothing opening).marks ≡ []
 nothing_shown = refl
 
 -- the rows below the last one that is drawn are one
-last_rows : below 1999 ∷ below 2000 ∷ below 2001 ∷ [] ≡ 2000 ∷ 2001 ∷ 2001 ∷ []
+last_rows : below 1299 ∷ below 1300 ∷ below 1301 ∷ [] ≡ 1300 ∷ 1301 ∷ 1301 ∷ []
 last_rows = refl
 
 -- ---- what is waited for
@@ -97,40 +97,45 @@ nothing_awaited = refl
 
 a_bar : mark_text (mark.Bar 1 (record { row = 2; first = 3; last = 9; count = 7; process = Some 0x8000_0101 }))
     ≡ codes "<g><title>node 1: events 3 to 9, 7 runs, process #80000101</title>"
-    ++ codes "<rect class='run' x='308' y='86' width='64' height='20'/>"
-    ++ codes "<text class='count' x='340' y='100'>7</text></g>" ++ 10 ∷ []
+    ++ codes "<rect class='run' x='308' y='182' width='64' height='20'/>"
+    ++ codes "<text class='count' x='340' y='196'>7</text></g>" ++ 10 ∷ []
 unfolding digits encode_with
 a_bar = refl
 
 a_pause : mark_text (mark.Pause 0 (record { from = 2; awaited = awaits.Alternative }) 3)
     ≡ codes "<g><title>node 0: waits for an alternative</title>"
-    ++ codes "<rect class='alternative' x='96' y='84' width='8' height='48'/></g>" ++ 10 ∷ []
+    ++ codes "<rect class='alternative' x='96' y='180' width='8' height='48'/></g>" ++ 10 ∷ []
 unfolding digits
 a_pause = refl
 
 a_beginning : mark_text (mark.Begin 0 2 41 1 (Some 0x8000_0101))
     ≡ codes "<g><title>node 0: event 41, a message begins on link 1, process #80000101</title>"
-    ++ codes "<circle class='begin' cx='100' cy='96' r='4'/></g>" ++ 10 ∷ []
+    ++ codes "<circle class='begin' cx='100' cy='192' r='4'/></g>" ++ 10 ∷ []
 unfolding digits encode_with
 a_beginning = refl
 
 a_message : mark_text (mark.Message receiver (record { row = 2; number = 41 }) 3 66 ten_bytes)
     ≡ codes "<g><title>message 0.1 to 1.2: events 41 to 66, 10: 010203040506072a..</title>"
-    ++ codes "<line class='way' x1='100' y1='96' x2='340' y2='120'/>"
-    ++ codes "<text class='right' x='140' y='92'>10: 010203040506072a..</text></g>" ++ 10 ∷ []
+    ++ codes "<line class='way' x1='100' y1='192' x2='340' y2='216'/>"
+    ++ codes "<text class='right' x='140' y='188'>10: 010203040506072a..</text></g>" ++ 10 ∷ []
 unfolding digits encode_with
 a_message = refl
 
+-- one to the left has its text higher
+to_the_left : label_head 1 0 2 ≡ codes "<text class='left' x='300' y='176'>"
+unfolding digits
+to_the_left = refl
+
 frozen_node : mark_text (mark.Freeze 1 3 70 LengthMismatch)
     ≡ codes "<g><title>node 1: event 70, freeze LengthMismatch</title>"
-    ++ codes "<rect class='freeze' x='334' y='114' width='12' height='12'/>"
-    ++ codes "<text class='right' x='352' y='124'>freeze LengthMismatch</text></g>" ++ 10 ∷ []
+    ++ codes "<rect class='freeze' x='334' y='210' width='12' height='12'/>"
+    ++ codes "<text class='right' x='352' y='220'>freeze LengthMismatch</text></g>" ++ 10 ∷ []
 unfolding digits
 frozen_node = refl
 
 a_column : column_text 4 (record { kind = kind.Sink; number = 2 })
-    ≡ codes "<text class='name' x='580' y='24'>sink 2</text>"
-    ++ codes "<line class='column' x1='580' y1='36' x2='580' y2='158'/>" ++ 10 ∷ []
+    ≡ codes "<text class='name' x='580' y='120'>sink 2</text>"
+    ++ codes "<line class='column' x1='580' y1='132' x2='580' y2='254'/>" ++ 10 ∷ []
 unfolding digits
 a_column = refl
 
@@ -139,11 +144,11 @@ first_line : head_text 580 270
 unfolding digits
 first_line = refl
 
--- all rows are drawn, or the last line says that they are not
-no_rest : rest_text 2000 100 ≡ []
+-- all rows are drawn, or a line says that they are not
+no_rest : rest_text 1300 100 ≡ []
 no_rest = refl
 
-a_rest : rest_text 2001 100
-    ≡ codes "<text class='right' x='12' y='100'>the first 2000 rows are drawn</text>" ++ 10 ∷ []
+a_rest : rest_text 1301 100
+    ≡ codes "<text class='right' x='12' y='100'>only the first 1300 rows are drawn</text>" ++ 10 ∷ []
 unfolding digits
 a_rest = refl

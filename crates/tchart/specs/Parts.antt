@@ -7,7 +7,7 @@ abbrev pub x_of : ℕ → ℕ
 x_of column = 240 * column + 100
 
 abbrev pub y_of : ℕ → ℕ
-y_of row = 24 * row + 48
+y_of row = 24 * row + 144
 
 -- an element of this name begins, of a class
 abbrev pub class_text : List ℕ → List ℕ → List ℕ

@@ -27,11 +27,12 @@ pub fn put_chart<W: CountedWrite>(out: &mut Output<'_, W>, chart: &Chart)
     let rows = chart.rows.min(MOST_ROWS);
     put_head(out, width_of(chart), height_of(rows));
     put_style(out);
+    put_key(out, 20);
+    put_rest(out, chart.rows, 92);
     put_columns(out, rows, chart.columns.as_slice());
     put_lower_marks(out, chart.marks.as_slice());
     put_upper_marks(out, chart.marks.as_slice());
-    put_legend(out, y_of(rows) + 40);
-    put_rest(out, chart.rows, y_of(rows) + 112);
+    put_rest(out, chart.rows, y_of(rows) + 36);
     out.put(b"</svg>\n");
 }
 
@@ -46,7 +47,7 @@ fn width_of(chart: &Chart) -> u64
 fn height_of(rows: u32) -> u64
     ensures { result ≡ spec.height_of rows }
 {
-    y_of(rows) + 126
+    y_of(rows) + 50
 }
 
 /// The first line.
@@ -77,11 +78,11 @@ fn put_column<W: CountedWrite>(out: &mut Output<'_, W>, rows: u32, column: &Colu
     ensures { Tells W.contents W.failures out.old out.new (spec.column_text rows column.now) }
 {
     let x = x_of(u32::from(column.number));
-    put_text(out, b"name", x, 24);
+    put_text(out, b"name", x, 120);
     put_kind(out, column.kind);
     put_decimal(out, u64::from(column.number));
     out.put(b"</text>");
-    put_line(out, b"column", x, 36, x, y_of(rows) + 14);
+    put_line(out, b"column", x, 132, x, y_of(rows) + 14);
     out.put(b"\n");
 }
 
@@ -96,22 +97,22 @@ fn put_kind<W: CountedWrite>(out: &mut Output<'_, W>, kind: Kind)
     }
 }
 
-/// The colours of pauses, from a height on.
-fn put_legend<W: CountedWrite>(out: &mut Output<'_, W>, y: u64)
+/// The key of the colours of pauses, from a height on.
+fn put_key<W: CountedWrite>(out: &mut Output<'_, W>, y: u64)
     requires low { 10 ≤ y }
     requires high { y < 2 ^ 60 }
-    ensures { Tells W.contents W.failures out.old out.new (spec.legend_text y) }
+    ensures { Tells W.contents W.failures out.old out.new (spec.key_text y) }
 {
-    put_legend_line(out, Awaited::Output, y);
-    put_legend_line(out, Awaited::Input, y + 18);
-    put_legend_line(out, Awaited::Alternative, y + 36);
-    put_legend_line(out, Awaited::Several, y + 54);
+    put_key_line(out, Awaited::Output, y);
+    put_key_line(out, Awaited::Input, y + 18);
+    put_key_line(out, Awaited::Alternative, y + 36);
+    put_key_line(out, Awaited::Several, y + 54);
 }
 
 /// The colour of a pause, and what is waited for.
-fn put_legend_line<W: CountedWrite>(out: &mut Output<'_, W>, awaited: Awaited, y: u64)
+fn put_key_line<W: CountedWrite>(out: &mut Output<'_, W>, awaited: Awaited, y: u64)
     requires { 10 ≤ y }
-    ensures { Tells W.contents W.failures out.old out.new (spec.legend_line awaited y) }
+    ensures { Tells W.contents W.failures out.old out.new (spec.key_line awaited y) }
 {
     put_rectangle(out, class_of(awaited), 12, y - 10, 8, 12);
     put_text(out, b"right", 28, y);
@@ -119,13 +120,13 @@ fn put_legend_line<W: CountedWrite>(out: &mut Output<'_, W>, awaited: Awaited, y
     out.put(b"</text>\n");
 }
 
-/// That there are more rows than are drawn.
+/// That there are more rows than are drawn, at a height.
 fn put_rest<W: CountedWrite>(out: &mut Output<'_, W>, rows: u32, y: u64)
     ensures { Tells W.contents W.failures out.old out.new (spec.rest_text rows y) }
 {
     if MOST_ROWS < rows {
         put_text(out, b"right", 12, y);
-        out.put(b"the first 2000 rows are drawn");
+        out.put(b"only the first 1300 rows are drawn");
         out.put(b"</text>\n");
     }
 }
@@ -410,12 +411,13 @@ fn put_message<W: CountedWrite>(
     out.put(b"</text>");
 }
 
-/// A text begins above the beginning of an arrow, on the side that it goes to.
+/// A text begins above the beginning of an arrow, on the side that it goes to: higher if that is the left, since an
+/// arrow to the right may begin in the same row, with its text at the same place.
 fn put_label<W: CountedWrite>(out: &mut Output<'_, W>, from: u32, to: u32, row: u32)
     ensures { Tells W.contents W.failures out.old out.new (spec.label_head from to row) }
 {
     if to < from {
-        put_text(out, b"left", x_of(from) - 40, y_of(row) - 4);
+        put_text(out, b"left", x_of(from) - 40, y_of(row) - 16);
     } else {
         put_text(out, b"right", x_of(from) + 40, y_of(row) - 4);
     }

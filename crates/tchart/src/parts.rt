@@ -19,7 +19,7 @@ pub(crate) fn x_of(column: u32) -> u64
 pub(crate) fn y_of(row: u32) -> u64
     ensures { result ≡ spec.y_of row }
 {
-    24 * u64::from(row) + 48
+    24 * u64::from(row) + 144
 }
 
 /// An element of this name begins, of a class.

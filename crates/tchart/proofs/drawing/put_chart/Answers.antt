@@ -7,9 +7,9 @@ returns g c =
     let columns = rw (c.min-rows.ensures, c.as_slice.ensures) at c.put_columns.ensures in
     let lower = rw c.as_slice-2.ensures at c.put_lower_marks.ensures in
     let upper = rw c.as_slice-3.ensures at c.put_upper_marks.ensures in
-    let legend = rw (c.y_of.ensures, c.min-rows.ensures) at c.put_legend.ensures in
-    let rest = rw (c.y_of-2.ensures, c.min-rows.ensures) at c.put_rest.ensures in
+    let rest = rw (c.y_of.ensures, c.min-rows.ensures) at c.put_rest-2.ensures in
     tells_then head
     (tells_then c.put_style.ensures
-    (tells_then columns
-    (tells_then lower (tells_then upper (tells_then legend (tells_then rest c.put.ensures))))))
+    (tells_then c.put_key.ensures
+    (tells_then c.put_rest.ensures
+    (tells_then columns (tells_then lower (tells_then upper (tells_then rest c.put.ensures)))))))

@@ -1,5 +1,5 @@
 use Rattle.tfiles.proofs.Told.{tells_as, tells_then}
-use Rattle.tchart.proofs.drawing.put_legend_line.Goals as goal
+use Rattle.tchart.proofs.drawing.put_key_line.Goals as goal
 
 pub returns : goal.returns
 returns g c =
