@@ -1,4 +1,4 @@
--- The text of runs, explorations and replays of wirings and images, and the lines of faults.
+-- The text of runs and replays of wirings and images, and the lines of faults.
 pub mod Plans
 pub mod PrintedRuns
 pub mod Outcomes
@@ -10,8 +10,3 @@ pub mod Commands
 pub mod NetStanding
 pub mod Histories
 pub mod Free
-pub mod Tellings
-pub mod Differences
-pub mod Explores
-pub mod Logged
-pub mod Standings

@@ -42,9 +42,12 @@ fn build(alloc: Global, plan: Plan) -> Result<Net, Fault>
     Ok(Net::build(alloc, plan)?)
 }
 
-/// The plan of a wiring and the files of its images.
+/// The plan of a wiring and the files of its images, one file a node.
+///
+/// # Errors
+/// `Image` with the number of the first node whose file is no image. `Memory` where the allocator refused.
 #[tactic(auto, unfolding(crate::specs::Plans::plan_of))]
-pub(crate) fn plan(alloc: Global, wiring: &Wiring, files: Items<Items<u8>>) -> Result<Plan, Fault>
+pub fn plan(alloc: Global, wiring: &Wiring, files: Items<Items<u8>>) -> Result<Plan, Fault>
     requires { length files ≡ length wiring.now.nodes }
     ensures { MatchResult result (IsPlanOf wiring.now files) (IsFaultOf (images_of files)) }
 {

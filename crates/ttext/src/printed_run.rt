@@ -25,7 +25,7 @@ use tword::Items;
 use twords::{Printing, Show};
 
 /// How a run has ended, as its last line tells.
-#[derive(Clone, Copy, Debug, PartialEq, Eq)]
+#[derive(Clone, Copy)]
 pub enum RunEnd {
     /// After so many rounds, in a net that is quiet or is not.
     Rounds { is_quiet: bool, rounds: u32 },

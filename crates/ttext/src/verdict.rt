@@ -6,7 +6,7 @@ ghost use Rattle.ttext.specs.Commands as spec;
 use tnet::Net;
 
 /// What a command comes to that is done.
-#[derive(Clone, Copy, Debug, PartialEq, Eq)]
+#[derive(Clone, Copy)]
 pub enum Verdict {
     /// No node is frozen; of an exploration: there is one outcome, and no freeze.
     Clear,

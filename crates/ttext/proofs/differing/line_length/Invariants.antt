@@ -1,7 +1,0 @@
-use Rattle.std.proofs.Common.{◌≡◌, ◌+◌, drop}
-use Rattle.ttext.specs.Differences.{line_length}
-use Rattle.ttext.proofs.differing.line_length.Given as goal
-
--- so many bytes of the line were passed, and these are left
-abbrev pub invariant-loop-place : goal.invariant-loop-place
-invariant-loop-place l = l.place + line_length (drop l.place l.text) ≡ line_length l.text
