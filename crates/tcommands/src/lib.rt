@@ -1,13 +1,20 @@
-//! The commands of the program `temu` over a runtime: the words of its command line as texts, the files that a command
-//! opens, the file that its log goes to, and what a command comes to.
+//! The commands of the program `temu` over the system: the files that a command opens, the file that its log goes to,
+//! what a command comes to, and the status that the program ends with.
 //!
-//! The program itself has what no library can: the streams of its process, and the status that it ends with.
+//! - `program`: what is asked for is done, and its fault told
+//! - `commands`: which files each command opens, and what is done with their bytes
+//! - `exploring`, `checking`: `explore` with its logs, and `check`
+//! - `files`: the files that are read
+//! - `log_file`: the file that a log is written into
+//! - `output`: what ends an output
 #![tactic(auto)]
 
+mod checking;
 mod commands;
+mod exploring;
+mod files;
 mod log_file;
-mod words;
+mod output;
+mod program;
 
-pub use commands::do_command;
-pub use log_file::output_fault;
-pub use words::{WordFault, given_words};
+pub use program::do_asked;

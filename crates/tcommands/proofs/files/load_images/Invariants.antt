@@ -1,6 +1,6 @@
 use Rattle.std.proofs.Common.{◌≡◌, length}
-use Rattle.tcommands.proofs.commands.sought_images.Given as goal
+use Rattle.tcommands.proofs.files.load_images.Given as goal
 
 -- each node so far has its file
 abbrev pub invariant-loop-node : goal.invariant-loop-node
-invariant-loop-node g l = length l.files.items ≡ l.node-index
+invariant-loop-node l = length l.files.items ≡ l.node-index

@@ -1,8 +1,8 @@
 //! The words of the command line, as the system gives them.
 
 ghost use Rattle.std.specs.Prelude.{◌≡◌, IfErr, IfOk, string_bytes};
-ghost use Rattle.tcommands.specs.Words as spec;
-ghost use Rattle.tcommands.specs.declared.words.WordFault.TheVariants.{OutOfMemory};
+ghost use Rattle.tconsole.specs.Words as spec;
+ghost use Rattle.tconsole.specs.declared.words.WordFault.TheVariants.{OutOfMemory};
 
 use std::alloc::{AllocError, AllocFailed, Global};
 use std::env::FillError;
@@ -13,8 +13,8 @@ use std::str;
 const LENGTH: usize = 256;
 
 /// Why the words of the command line cannot be had.
-#[derive(Clone, Copy, Debug, Drop)]
-pub enum WordFault {
+#[derive(Clone, Copy)]
+pub(crate) enum WordFault {
     /// The word at this place is not UTF-8. The program's name, which is not judged, stands at place 0.
     NotText(usize),
     /// The allocator refused.
@@ -42,7 +42,7 @@ impl<T: Drop> From<AllocFailed<T>> for WordFault {
 /// # Errors
 /// `NotText` with the first word behind the program's name that is not UTF-8. `OutOfMemory` where the allocator
 /// refused.
-pub fn given_words<R: AllocGlobal + Env>(rt: &R) -> Result<Vec<String>, WordFault> {
+pub(crate) fn given_words(rt: &HostRuntime) -> Result<Vec<String>, WordFault> {
     let mut words = Vec::new(rt.alloc());
     for place in 0..usize::MAX {
         let Some(bytes) = given_word(rt, place)? else {
@@ -54,7 +54,7 @@ pub fn given_words<R: AllocGlobal + Env>(rt: &R) -> Result<Vec<String>, WordFaul
 }
 
 /// The bytes of the word at a place, if there is one.
-fn given_word<R: AllocGlobal + Env>(rt: &R, place: usize) -> Result<Option<Vec<u8>>, AllocError> {
+fn given_word(rt: &HostRuntime, place: usize) -> Result<Option<Vec<u8>>, AllocError> {
     let mut length = LENGTH;
     for _ in 0..usize::BITS {
         let mut bytes = vec![in rt.alloc(); 0; length]?;

@@ -2,8 +2,8 @@
 -- Source: own choice.
 use Rattle.std.specs.Prelude.{ℕ, ◌≡◌, ◌⊎◌, ◌<◌, List, codes}
 use Rattle.std.specs.Str.{IsUtf8}
-use Rattle.tcommands.specs.declared.words.WordFault.{WordFault}
-use Rattle.tcommands.specs.declared.words.WordFault.TheVariants as fault
+use Rattle.tconsole.specs.declared.words.WordFault.{WordFault}
+use Rattle.tconsole.specs.declared.words.WordFault.TheVariants as fault
 
 -- a word is its own text; the program's name, at place 0, is `temu` where it is no text
 abbrev pub IsWordText : ℕ → List ℕ → List ℕ → Type 0
