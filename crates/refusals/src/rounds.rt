@@ -17,7 +17,7 @@ const ROUNDS: u32 = 100_000;
 /// How many Runs a node makes in a round at most.
 const SLICE: u32 = 64;
 
-/// A hold, where the rounds are counted anew behind so many that were done.
+/// A hold, where the rounds are counted anew after so many that were done.
 fn later(hold: Hold, done: u32) -> Hold
     ensures { result ≡ hold_after done hold }
 {
@@ -28,14 +28,14 @@ fn later(hold: Hold, done: u32) -> Hold
     }
 }
 
-/// The holds that are left behind so many rounds.
+/// The holds that are left after so many rounds.
 fn holds_left(alloc: Global, holds: &[Hold], done: u32) -> Result<Vec<Hold>, AllocError>
     ensures { IfOk result (λ left. left.items ≡ holds_after done holds.now) }
 {
     holds.iter().map(|hold| later(*hold, done)).collect(alloc)
 }
 
-/// Rounds of a net that go on behind so many that were done.
+/// Rounds of a net that go on after so many that were done.
 fn more<R: Threads + Sync>(
     rt: &R,
     alloc: Global,
@@ -61,7 +61,7 @@ fn more<R: Threads + Sync>(
     }
 }
 
-/// What rounds did, one run of them behind another.
+/// What rounds did, one run of them after another.
 #[derive(Drop)]
 struct Joined {
     rounds: u32,
@@ -89,7 +89,7 @@ impl Joined {
     }
 }
 
-/// The rounds, from the opening, behind which a net is like the one that came back.
+/// The rounds, from the opening, after which a net is like the one that came back.
 fn rounds_until<R: Threads + Sync>(
     rt: &R,
     alloc: Global,
@@ -105,7 +105,7 @@ fn rounds_until<R: Threads + Sync>(
         let done = first.rounds;
         net = first.add(more(rt, alloc, net, 1, holds, done, 1)?)?;
     }
-    Err(Fault::Wrong("the net that came back is not behind whole rounds"))
+    Err(Fault::Wrong("the net that came back is not at the end of a round"))
 }
 
 /// A net runs in rounds until it is quiet. Where that is refused, the net that came back is as after whole rounds, and

@@ -81,7 +81,7 @@ impl Story {
         Ok(())
     }
 
-    /// Tells how many events were done, the trace of their notes, and the dumps of the net behind them.
+    /// Tells how many events were done, the trace of their notes, and the dumps of the net after them.
     pub fn tell(
         &mut self,
         alloc: Global,
@@ -100,7 +100,7 @@ impl Story {
         match self.refused {
             None => format!(in alloc; "refused no call\n"),
             Some(Call::Build) => format!(in alloc; "refused build\n"),
-            Some(Call::Rounds(done)) => format!(in alloc; "refused run_rounds behind {done}\n"),
+            Some(Call::Rounds(done)) => format!(in alloc; "refused run_rounds after {done}\n"),
             Some(Call::Open) => format!(in alloc; "refused open\n"),
             Some(Call::Turn) => format!(in alloc; "refused turn\n"),
             Some(Call::Gather) => format!(in alloc; "refused gather\n"),
