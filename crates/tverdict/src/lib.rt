@@ -24,4 +24,4 @@ mod verdict;
 pub use agent::Agent;
 pub use halt::Halt;
 pub use machine::{Machine, Sink};
-pub use verdict::{Outcome, Race, Refusal, Verdict};
+pub use verdict::{Race, Refusal, Verdict};

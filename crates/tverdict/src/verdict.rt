@@ -1,6 +1,5 @@
 //! What is said of a plan.
 
-use crate::machine::Machine;
 use tcertify::Stop;
 use tclocks::{Access, Mode, Step};
 
@@ -40,11 +39,4 @@ pub enum Verdict {
     Refused(Refusal),
     /// The run was given up after as many steps as were permitted.
     Cut,
-}
-
-/// What is said of a plan, and the machine as the run has left it.
-#[derive(Drop)]
-pub struct Outcome {
-    pub verdict: Verdict,
-    pub machine: Machine,
 }
