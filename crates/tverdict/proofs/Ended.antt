@@ -1,8 +1,8 @@
 -- Runs that are over.
-use Rattle.std.proofs.Common.{◌≡◌, ◌≢◌, ◌<◌, ◌≤◌, ℕ, zero, suc, refl, sym, ap, ◌∙◌, subst, Bool, true, false, List, [], ◌∷◌}
+use Rattle.std.proofs.Common.{◌≡◌, ◌<◌, ◌≤◌, ℕ, sym, ap, ◌∙◌, subst, Bool, true, false, List, [], ◌∷◌}
 use Rattle.std.proofs.Common.{Option, Some, None, All, length, ◌⊎◌, inl, inr}
 use Rattle.std.proofs.Math.ListN.{get_or}
-use Rattle.std.specs.Prelude.{◌==◌, ◌&&◌, int_le, not, pos, position, slice_get, if◌then◌else◌}
+use Rattle.std.specs.Prelude.{◌==◌, ◌&&◌, int_le, not, pos, position, slice_get}
 use Rattle.std.proofs.lemmas.Bool.{eq-eqb, false≢true, not-false}
 use Rattle.std.proofs.lemmas.List.Quantifiers.{position-Some}
 use Rattle.std.proofs.lemmas.Option.{get_or_from_slice_get, slice_get_cases, slice_get-get_or, slice_get_past, slice_get_within}
@@ -10,7 +10,6 @@ use Rattle.tword.specs.Limits.{most_processes}
 use Rattle.tplan.specs.declared.plan.NodePlan.{NodePlan}
 use Rattle.tplan.specs.declared.plan.Plan.{Plan}
 use Rattle.tnet.proofs.FirstFaults.{no_position}
-use Rattle.tprocesses.specs.Certified.{HadFew, KeptFlags}
 use Rattle.tprocesses.specs.Opening.{opening_state}
 use Rattle.tprocesses.specs.Places.{Population, HasRun, FlagChanged}
 use Rattle.tprocesses.specs.Values.{Value, IsAmount, IsFlag, amount_in, flag_in}

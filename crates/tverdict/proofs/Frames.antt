@@ -1,19 +1,18 @@
 -- What stands at the places of one node is nothing to the others.
-use Rattle.std.proofs.Common.{◌≡◌, ℕ, refl, sym, ap, ◌∙◌, subst, Bool, true, false, List, Option, Some, None, Result}
+use Rattle.std.proofs.Common.{◌≡◌, ℕ, refl, sym, ap, ◌∙◌, Bool, true, false, List, Option, Some}
 use Rattle.std.specs.Prelude.{◌==◌, pos, slice_get, slice_set, if◌then◌else◌}
 use Rattle.std.proofs.lemmas.Bool.{eq-eqb, eqb-true, false≢true}
 use Rattle.tplan.specs.declared.plan.Plan.{Plan}
 use Rattle.tprocesses.specs.Opening.{opening_state}
-use Rattle.tprocesses.specs.Parts.{Part, Reason}
 use Rattle.tprocesses.specs.Places.{Place, WordAt, Sending, Standing, Half, LinkHalf, Error, HaltOnError, Life}
 use Rattle.tprocesses.specs.Places.{Successions, Messages, Kept, Population, HasRun, FlagChanged}
 use Rattle.tprocesses.specs.Values.{Value, IsStand, IsHalf, IsLink, IsFlag, IsAmount, IsCount}
 use Rattle.tcertify.specs.declared.node.Node.{Node}
-use Rattle.tcertify.specs.Nodes.{Grows, RunsAt, board_of, node_at}
+use Rattle.tcertify.specs.Nodes.{board_of, node_at}
 use Rattle.tcertify.specs.Running.{State, run_part}
 use Rattle.tcertify.specs.Words.{sending_or, word_or}
 use Rattle.tcertify.proofs.Places.{set_elsewhere, set_here}
-use Rattle.tverdict.specs.declared.machine.Sink.{Sink}
+use Rattle.tcertify.specs.declared.sink.Sink.{Sink}
 use Rattle.tverdict.specs.Apart.{IsApart, NodesAreApart, CallsAtNodesRun}
 use Rattle.tverdict.specs.Machines.{at_node, at_nodes, state_of, with_scripts}
 use Rattle.tverdict.specs.Numbers.{node_in}

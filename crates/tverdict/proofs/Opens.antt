@@ -1,30 +1,29 @@
 -- Who has a step, by what the nodes have.
-use Rattle.std.proofs.Common.{◌≡◌, ◌<◌, ℕ, refl, sym, ap, ◌∙◌, Bool, true, false, List, [], Option, Some, None}
+use Rattle.std.proofs.Common.{◌≡◌, ℕ, refl, sym, ap, ◌∙◌, Bool, true, false, List, [], Option, Some, None}
 use Rattle.std.proofs.lemmas.Option.{slice_get-map}
-use Rattle.std.specs.Prelude.{◌==◌, ◌&&◌, find, is_some, slice_get, unwrap_or, option_map, if◌then◌else◌}
+use Rattle.std.specs.Prelude.{◌==◌, ◌&&◌, find, is_some, slice_get, unwrap_or, option_map}
 use Rattle.std.proofs.lemmas.Bool.{eq-eqb, eqb-true, false≢true}
 use Rattle.tagents.specs.Walks.{are_open}
 use Rattle.tplan.specs.declared.plan.Plan.{Plan}
-use Rattle.tproc.specs.declared.channels.Side as machines
 use Rattle.tproc.specs.declared.channels.Side.TheVariants as machineside
 use Rattle.tprocesses.specs.Machine.{Process, Channel, Successor, process_machine, is_ready, awaits_successor}
 use Rattle.tprocesses.specs.Places.{Name, Image, Standing, Half, WordAt}
-use Rattle.tprocesses.specs.Values.{Value, IsHalf, IsStand, IsWord, half_in, stand_in}
+use Rattle.tprocesses.specs.Values.{Value, half_in, stand_in}
 use Rattle.tcertify.specs.declared.channel.Channel as stored
 use Rattle.tcertify.specs.declared.channel.Request.{Request}
 use Rattle.tcertify.specs.declared.node.Node.{Node}
 use Rattle.tcertify.specs.declared.process.Process as kept
 use Rattle.tcertify.specs.declared.side.Side.TheVariants as side
 use Rattle.tcertify.specs.declared.stored.StoredWord.{StoredWord}
-use Rattle.tcertify.specs.Channels.{half_of, request_of, taken_half}
-use Rattle.tcertify.specs.Nodes.{name_at, names, address_at, node_at}
+use Rattle.tcertify.specs.Channels.{request_of, taken_half}
+use Rattle.tcertify.specs.Nodes.{name_at, names, address_at}
 use Rattle.tcertify.specs.Running.{State}
 use Rattle.tcertify.specs.Standing.{stand_of}
 use Rattle.tcertify.specs.Words.{use_of, word_of, word_or}
 use Rattle.tcertify.proofs.Found.{find_apart}
 use Rattle.tcertify.proofs.NodeStands.{stand_seen}
 use Rattle.tfollow.proofs.Opened.{agents_are_open_by}
-use Rattle.tverdict.specs.declared.machine.Sink.{Sink}
+use Rattle.tcertify.specs.declared.sink.Sink.{Sink}
 use Rattle.tverdict.specs.Agents.{name_there, address_there}
 use Rattle.tverdict.specs.Apart.{IsApart}
 use Rattle.tverdict.specs.Machines.{state_of}

@@ -1,6 +1,6 @@
 -- The agents that the program has found.
 -- Source: own choice.
-use Rattle.std.specs.Prelude.{ℕ, ◌≡◌, ◌<◌, List, [], map, option_map, length, Option, Some, None, slice_get, unwrap_or}
+use Rattle.std.specs.Prelude.{ℕ, ◌≡◌, ◌<◌, List, [], option_map, length, Some, slice_get, unwrap_or}
 use Rattle.tprocesses.specs.Places.{Name, Image}
 use Rattle.tprocesses.specs.Machine as machine
 use Rattle.tcertify.specs.declared.node.Node.{Node}

@@ -6,7 +6,7 @@ use Rattle.tprocesses.specs.Parts.{Part, Reason}
 use Rattle.tcertify.specs.declared.node.Node.{Node}
 use Rattle.tcertify.specs.Nodes.{node_at, RunsAt}
 use Rattle.tcertify.specs.Running.{State, run_part}
-use Rattle.tverdict.specs.declared.machine.Sink.{Sink}
+use Rattle.tcertify.specs.declared.sink.Sink.{Sink}
 use Rattle.tverdict.specs.Machines.{state_of}
 
 -- the state of the whole machine as that of one of its nodes, in a state that stays as it is where the node changes

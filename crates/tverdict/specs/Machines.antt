@@ -1,6 +1,6 @@
 -- What stands at the places of the whole machine, and what holds of it while it follows a run.
 -- Source: own choice, the state of `tprocesses` as the program keeps it.
-use Rattle.std.specs.Prelude.{ℕ, ◌≡◌, ◌+◌, ◌-◌, ◌<◌, ◌≤◌, List, [], map, length, Option, Some, None, slice_get, slice_index}
+use Rattle.std.specs.Prelude.{ℕ, ◌≡◌, ◌+◌, ◌-◌, ◌<◌, List, [], map, length, Option, Some, None, slice_get, slice_index}
 use Rattle.std.specs.Prelude.{All, Contains, true}
 use Rattle.std.proofs.Math.ListN.{drop}
 use Rattle.tplan.specs.declared.plan.End.{End}
@@ -8,7 +8,7 @@ use Rattle.tplan.specs.declared.plan.NodePlan.{NodePlan}
 use Rattle.tplan.specs.declared.plan.SinkPlan.{SinkPlan}
 use Rattle.tplan.specs.declared.plan.Plan.{Plan}
 use Rattle.tnet.specs.Building.{all_wires}
-use Rattle.tprocesses.specs.Places.{Place, Messages, Kept}
+use Rattle.tprocesses.specs.Places.{Messages, Kept}
 use Rattle.tprocesses.specs.Values.{Value, AreMessages, AreKept}
 use Rattle.tprocesses.specs.Machine as machine
 use Rattle.tprocesses.specs.Machine.{process_machine}
@@ -22,7 +22,7 @@ use Rattle.tfollow.specs.Laws.{AreShut}
 use Rattle.tfollow.specs.Numbering.{HasNumber, Places}
 use Rattle.tfollow.specs.Following.{IsFollowed}
 use Rattle.tverdict.specs.declared.machine.Machine.{Machine}
-use Rattle.tverdict.specs.declared.machine.Sink.{Sink}
+use Rattle.tcertify.specs.declared.sink.Sink.{Sink}
 use Rattle.tverdict.specs.declared.agent.Agent.{Agent}
 use Rattle.tverdict.specs.declared.agent.Agent.TheVariants as agent
 use Rattle.tverdict.specs.Agents.{agent_of, HasChannel, HasProcess, IsThere}

@@ -6,9 +6,7 @@ use Rattle.tproc.specs.declared.channels.Side.TheVariants.{Input, Output}
 use Rattle.tprocesses.specs.Places as place
 use Rattle.tprocesses.specs.Places.{Place, same_name}
 use Rattle.tcertify.specs.declared.channel.Channel.{Channel}
-use Rattle.tcertify.specs.declared.life.Life.{Life}
 use Rattle.tcertify.specs.declared.node.Node.{Node}
-use Rattle.tcertify.specs.declared.process.Process.{Process}
 use Rattle.tcertify.specs.Nodes.{NumbersNode}
 use Rattle.tcertify.specs.Processes.{name_of}
 use Rattle.tfollow.specs.Numbering.{Places}

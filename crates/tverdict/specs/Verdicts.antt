@@ -1,19 +1,15 @@
 -- What the program says of a plan.
 -- Source: own choice.
-use Rattle.std.specs.Prelude.{ℕ, ◌≡◌, ◌≢◌, ◌<◌, ◌≤◌, ◌⊎◌, ◌&&◌, true, List, ◌∷◌, Contains, Option, Some, None, length, reverse}
+use Rattle.std.specs.Prelude.{ℕ, ◌≡◌, ◌≢◌, ◌≤◌, ◌&&◌, true, List, length}
 use Rattle.std.specs.Prelude.{Bool, nat_le, not, int_le, pos, ◌+◌, Result, Ok, Err}
 use Rattle.tword.specs.Limits.{most_processes}
 use Rattle.tplan.specs.declared.plan.Plan.{Plan}
-use Rattle.tagents.specs.Agents.{IsRun}
-use Rattle.tagents.specs.Walks.{label_of}
-use Rattle.tclocks.specs.Modes.{collide}
 use Rattle.tclocks.specs.Checks.{Check}
 use Rattle.tprocesses.specs.Places.{Population, HasRun, FlagChanged}
 use Rattle.tprocesses.specs.Values.{amount_in, flag_in}
 use Rattle.tprocesses.specs.Parts.{Reason}
 use Rattle.tprocesses.specs.Machine as machine
-use Rattle.tprocesses.specs.Opening.{opening_state}
-use Rattle.tprocesses.specs.Certified.{ProcessStep, machine_of}
+use Rattle.tprocesses.specs.Certified.{ProcessStep}
 use Rattle.tcertify.specs.declared.node.Node.{Node}
 use Rattle.tcertify.specs.Running.{State}
 use Rattle.tcertify.specs.Words.{reason_of}

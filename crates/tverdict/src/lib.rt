@@ -8,7 +8,6 @@
 //! - `looks`: which agents have a step
 //! - `laws`: a step at a node is one of the whole machine
 //! - `telling`: notes as the check is told of them
-//! - `scripts`: sources and sinks
 #![tactic(auto)]
 
 mod agent;
@@ -17,11 +16,10 @@ mod halt;
 pub mod laws;
 mod looks;
 mod machine;
-mod scripts;
 mod telling;
 mod verdict;
 
 pub use agent::Agent;
 pub use halt::Halt;
-pub use machine::{Machine, Sink};
+pub use machine::Machine;
 pub use verdict::{Race, Refusal, Verdict};

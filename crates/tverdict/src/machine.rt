@@ -1,18 +1,9 @@
 //! The whole machine.
 
 use crate::agent::Agent;
-use tcertify::Node;
+use tcertify::{Node, Sink};
 use tclocks::RaceCheck;
 use tnet::Wires;
-
-/// A sink.
-#[derive(Drop)]
-pub struct Sink {
-    /// How many bytes it still takes.
-    pub room: u32,
-    /// The messages that it has kept, the first one first. Some of their bytes may not be known.
-    pub messages: Vec<Vec<Option<u8>>>,
-}
 
 /// The process machine of a plan after some steps of a run, with the check of these for races.
 #[derive(Drop)]

@@ -1,4 +1,4 @@
-use Rattle.std.proofs.Common.{◌≡◌, ◌∙◌, sym, ap, List}
+use Rattle.std.proofs.Common.{◌∙◌, sym, ap, List}
 use Rattle.std.specs.Prelude.{position}
 use Rattle.tcertify.specs.declared.node.Node.{Node}
 use Rattle.tverdict.specs.Verdicts.{had_many, changed_flags}

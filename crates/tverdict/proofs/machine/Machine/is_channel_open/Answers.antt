@@ -1,4 +1,4 @@
-use Rattle.std.proofs.Common.{◌≡◌, ◌<◌, ◌∙◌, sym, refl, ap, subst, length, Bool}
+use Rattle.std.proofs.Common.{◌<◌, ◌∙◌, sym, refl, ap, subst, length, Bool}
 use Rattle.std.specs.Prelude.{◌&&◌, is_some}
 use Rattle.std.proofs.lemmas.Option.{same_Some, slice_get_read, slice_get_within}
 use Rattle.tcertify.specs.declared.node.Node.{Node}

@@ -1,4 +1,4 @@
-use Rattle.std.proofs.Common.{◌≡◌, ◌<◌, ◌∙◌, sym, refl, subst, length}
+use Rattle.std.proofs.Common.{◌<◌, ◌∙◌, sym, refl, subst, length}
 use Rattle.std.proofs.lemmas.Option.{same_Some, slice_get_read, slice_get_within}
 use Rattle.tcertify.specs.declared.node.Node.{Node}
 use Rattle.tverdict.proofs.Opens.{process_open}
