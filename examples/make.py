@@ -5,9 +5,9 @@
     examples/make.py --check [PROGRAM]            tells which images differ from their listings, and where the
                                                   instructions that a listing names are not those that PROGRAM shows
     examples/make.py image LISTING IMAGE          makes one image
-    examples/make.py names LISTING                prints the names of a listing, each after its address
-    examples/make.py label NAMES [NODE]           puts such names into what `temu dis` prints, or `temu where` of all
-                                                  nodes or of one (standard input)
+    examples/make.py names LISTING                prints the names of a listing, each after its address: a file of names
+    examples/make.py jumps                        adds to what `temu dis --names` prints (standard input) the name that
+                                                  each jump and call leads to
     examples/make.py words NODE ADDRESS [COUNT]   prints words of a node from what `temu run` prints (standard input),
                                                   and refuses those that lie outside its memory
     examples/make.py ring IMAGE..                 prints a wiring: link 1 of each node to link 2 of the next, round
@@ -78,11 +78,6 @@ def image(segments, processes):
         parts += [struct.pack("<II", address, len(code)), bytes(code)]
     parts += [struct.pack("<II", descriptor, start) for descriptor, start in processes]
     return b"".join(parts)
-
-
-def process(workspace, start, high=False):
-    """Returns the process of a workspace, low unless it is to be high, for `image`."""
-    return workspace | (0 if high else 1), start
 
 
 def address_of(word):
@@ -312,11 +307,11 @@ def image_of(listing):
 
 def wiring(images, wires, memory=2048):
     """Returns the text of a wiring: nodes of these images, and wires as pairs of ends (node, link)."""
-    text = "version = 1\n"
+    text = "version = 1"
     for name in images:
-        text += f'\n[[node]]\nmemory = {memory}\nimage = "{name}"\n'
+        text += f'\n\n[[node]]\nmemory = {memory}\nimage = "{name}"'
     for a, b in wires:
-        text += f"\n[[wire]]\na = [{a[0]}, {a[1]}]\nb = [{b[0]}, {b[1]}]\n"
+        text += f"\n\n[[wire]]\na = {list(a)}\nb = {list(b)}"
     return text
 
 
@@ -379,64 +374,29 @@ def shown_words(output, node, address, count, memory):
     return lines
 
 
-def read_names(file):
-    """Returns the names of a file by address; each line of it is an address and a name."""
-    names = {}
-    for number, line in enumerate(file.read_text(encoding="utf-8").split("\n"), 1):
-        words = line.split()
-        if words and (len(words) != 2 or not re.fullmatch(r"[0-9a-fA-F]{8}", words[0])):
-            raise Wrong(f"{file}:{number}: no address of eight hexadecimal digits with a name: {line.strip()}")
-        if words:
-            names[int(words[0], 16)] = words[1]
-    return names
+def with_targets(printed):
+    """Returns the lines that `temu dis --names` printed, each jump and call with the name that it leads to."""
+    lines = printed.splitlines()
+    starts = [int(it[:8], 16) for it in lines if re.match(r"[0-9a-f]{8}: ", it)]
+    if not starts:
+        raise Wrong("the input is not what `temu dis` prints")
+    # A name has a line of its own before its instruction.
+    names = {after[:8]: line[:-1] for line, after in zip(lines, lines[1:]) if line[8:10] != ": "}
+    nexts = dict(zip(starts, starts[1:]))
+    return [with_target(it, names, nexts) for it in lines]
 
 
-def labelled(printed, names, node=None):
-    """Returns the lines that `temu dis` or `temu where` printed with names put into them."""
-    lines = [it for it in printed.split("\n") if it]
-    if any(re.match(r"node \d+ ", it) for it in lines):
-        return placed(lines, names, node)
-    if not all(re.match(r"[0-9a-f]{8}: ", it) for it in lines):
-        raise Wrong("the input is neither what `temu dis` nor what `temu where` prints")
-    return listed(lines, names)
-
-
-def placed(lines, names, node):
-    """Returns the lines of `temu where` with names after the addresses of one node, or of all nodes."""
-    told, mine = [], node is None
-    for line in lines:
-        head = re.match(r"(?:node|source|sink|stuck #[0-9a-f]{8} of|stuck source|stuck sink) (\d+)\b", line)
-        mine = node in (None, int(head[1])) if head else mine
-        told.append(re.sub(r"(Iptr +)?#([0-9a-f]{8})", lambda it: named(it, names), line) if mine else line)
-    return told
-
-
-def named(found, names):
-    """Returns an address with its name; that of an instruction may be some bytes after the name."""
-    address = int(found[2], 16)
-    nearest = max((it for it in names if it <= address), default=None) if found[1] else address
-    if nearest not in names:
-        return found[0]
-    distance = f"+{address - nearest}" if address != nearest else ""
-    return f"{found[0]} ({names[nearest]}{distance})"
-
-
-def listed(lines, names):
-    """Returns the lines of `temu dis` with names at their addresses, and after jumps and calls to them."""
-    starts = [int(it[:8], 16) for it in lines]
-    told = []
-    for at, line in enumerate(lines):
-        told += [f"{names[starts[at]]}:"] if starts[at] in names else []
-        jump = re.fullmatch(r"[0-9a-f]{8}: (?:j|cj|call) (-?\d+)", line)
-        if jump:
-            operand = int(jump[1])
-            after = starts[at] + len(chain(0, operand))
-            # A longer spelling than the shortest is seen by where the next instruction begins.
-            after = starts[at + 1] if at + 1 < len(lines) and after < starts[at + 1] <= after + 15 else after
-            name = names.get(after + operand & 0xFFFFFFFF)
-            line = f"{line:<24} to {name}" if name else line
-        told.append(line)
-    return told
+def with_target(line, names, nexts):
+    """Returns a line with the name that its jump or call leads to; nexts are the starts of the next instructions."""
+    jump = re.fullmatch(r"([0-9a-f]{8}): (?:j|cj|call) (-?\d+)", line)
+    if not jump:
+        return line
+    start, operand = int(jump[1], 16), int(jump[2])
+    # A longer spelling than the shortest is seen by where the next instruction begins.
+    after = start + len(chain(0, operand))
+    after = max(after, nexts.get(start, 0)) if nexts.get(start, 0) <= after + 15 else after
+    name = names.get(f"{after + operand & 0xFFFFFFFF:08x}")
+    return f"{line:<24} to {name}" if name else line
 
 
 def differences(listing, lines):
@@ -480,58 +440,49 @@ def listings():
 def make(listing, to):
     """Makes the image of a listing's file."""
     to.write_bytes(image_of(read_listing(listing)))
+    return []
 
 
-def hexadecimal(word):
-    """Returns the number that hexadecimal digits are."""
-    return int(word, 16)
-
-
-def arguments():
-    """Returns what the command line asks for."""
-    parser = argparse.ArgumentParser(description=__doc__, formatter_class=argparse.RawDescriptionHelpFormatter)
-    parser.add_argument("--check", nargs="?", const="", metavar="PROGRAM")
-    commands = parser.add_subparsers(dest="command", metavar="COMMAND")
-    one = commands.add_parser("image")
-    one.add_argument("listing", type=pathlib.Path)
-    one.add_argument("image", type=pathlib.Path)
-    commands.add_parser("names").add_argument("listing", type=pathlib.Path)
-    label = commands.add_parser("label")
-    label.add_argument("names", type=pathlib.Path)
-    label.add_argument("node", type=int, nargs="?")
-    words = commands.add_parser("words")
-    words.add_argument("node", type=int)
-    words.add_argument("address", type=hexadecimal)
-    words.add_argument("count", type=int, nargs="?", default=1)
-    words.add_argument("--memory", type=int, default=2048)
-    for name in ("ring", "pipeline", "grid"):
-        net = commands.add_parser(name)
-        net.add_argument("--memory", type=int, default=2048)
-        if name == "grid":
-            net.add_argument("width", type=int)
-        net.add_argument("images", nargs="+")
-    return parser.parse_args()
-
-
-def do(given):
-    """Does what the command line asks for, and returns the lines that it prints."""
-    if given.command == "image":
-        make(given.listing, given.image)
-        return []
-    if given.command == "names":
-        names = read_listing(given.listing).names
-        return [f"{address:08x} {name}" for name, address in names.items()]
-    if given.command == "label":
-        return labelled(sys.stdin.read(), read_names(given.names), given.node)
-    if given.command == "words":
-        return shown_words(sys.stdin.read(), given.node, given.address, given.count, given.memory)
-    if given.command == "grid":
-        return [grid(given.images, given.width, given.memory)[:-1]]
-    if given.command:
-        return [(ring if given.command == "ring" else pipeline)(given.images, given.memory)[:-1]]
+def make_all(_):
+    """Makes the image of each example."""
     for file in listings():
         make(file, file.with_suffix(".img"))
     return []
+
+
+def arguments():
+    """Returns what the command line asks for: what `do` makes of it are the lines to print."""
+    parser = argparse.ArgumentParser(description=__doc__, formatter_class=argparse.RawDescriptionHelpFormatter)
+    parser.add_argument("--check", nargs="?", const="", metavar="PROGRAM")
+    parser.set_defaults(do=make_all)
+    commands = parser.add_subparsers(metavar="COMMAND")
+
+    def command(name, do):
+        made = commands.add_parser(name)
+        made.set_defaults(do=do)
+        return made
+
+    one = command("image", lambda it: make(it.listing, it.image))
+    one.add_argument("listing", type=pathlib.Path)
+    one.add_argument("image", type=pathlib.Path)
+    named = command("names", lambda it: [f"{at:08x} {name}" for name, at in read_listing(it.listing).names.items()])
+    named.add_argument("listing", type=pathlib.Path)
+    command("jumps", lambda _: with_targets(sys.stdin.read()))
+    words = command("words", lambda it: shown_words(sys.stdin.read(), it.node, it.address, it.count, it.memory))
+    words.add_argument("node", type=int)
+    words.add_argument("address", type=lambda word: int(word, 16))
+    words.add_argument("count", type=int, nargs="?", default=1)
+    nets = {
+        "ring": command("ring", lambda it: [ring(it.images, it.memory)]),
+        "pipeline": command("pipeline", lambda it: [pipeline(it.images, it.memory)]),
+        "grid": command("grid", lambda it: [grid(it.images, it.width, it.memory)]),
+    }
+    nets["grid"].add_argument("width", type=int)
+    for it in nets.values():
+        it.add_argument("images", nargs="+")
+    for it in (words, *nets.values()):
+        it.add_argument("--memory", type=int, default=2048)
+    return parser.parse_args()
 
 
 def main():
@@ -539,7 +490,7 @@ def main():
     try:
         if given.check is not None:
             return check(given.check)
-        for line in do(given):
+        for line in given.do(given):
             print(line)
     except (Wrong, OSError, ValueError) as fault:
         for line in str(fault).split("\n"):

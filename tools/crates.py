@@ -1,7 +1,8 @@
-"""What the scripts know of the crates of the repository, by crates.txt, which has each after those that it uses; and
-files that are at two places."""
+"""What the scripts know of the crates of the repository, by crates.txt, which has each after those that it uses; of
+files that are at two places; and of the memory of the machine."""
 import os
 import pathlib
+import re
 import shutil
 
 TOP = pathlib.Path(__file__).resolve().parent.parent
@@ -29,3 +30,17 @@ def link_or_copy(source, target):
         os.link(source, target)
     except OSError:
         shutil.copy2(source, target)
+
+
+def memory_left():
+    """Returns the gigabytes of memory that are free or can be freed, of the machine and of a container with a limit."""
+    told = pathlib.Path("/proc/meminfo").read_text(encoding="ascii")
+    left = int(re.search(r"^MemAvailable: +(\d+) kB", told, re.MULTILINE)[1]) * 1024
+    group = pathlib.Path("/sys/fs/cgroup")
+    try:
+        files = int(re.search(r"^file (\d+)", (group / "memory.stat").read_text(), re.MULTILINE)[1])
+        held = int((group / "memory.current").read_text()) - files
+        left = min(left, int((group / "memory.max").read_text()) - held)
+    except (OSError, ValueError, TypeError):
+        pass  # there is no limit
+    return left / 1e9

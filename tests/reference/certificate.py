@@ -29,6 +29,10 @@ class Certificate:
     def dump(self):
         return list(dump_of(self.machine))
 
+    def text(self):
+        """Returns what is printed of a net that is certified."""
+        return "\n".join(["certified", *self.dump(), f"end certified {self.verdict.steps}", ""])
+
     def agrees_with(self, dump):
         """Tells whether the dump of an end has each byte that is known here, and no node is frozen or halted."""
         known, shown = by_place(self.dump()), by_place(dump)

@@ -179,6 +179,11 @@ def node_of(number, plan, timeslice):
     return node
 
 
+def links_of(part):
+    """Returns the numbers of the links of a node, a source or a sink."""
+    return range(LINKS if isinstance(part, Processor) else 1)
+
+
 class Net:
     """A net of a plan before its first event; `notes` are the lines of its trace, `done` is the number of events so
     far, and `halts` are those that halted a node: the node, the event, and the instruction with its address."""
@@ -193,7 +198,7 @@ class Net:
     def links(self):
         """Yields each link of each node, source and sink, with a wire or without."""
         for number, part in enumerate(self.parts):
-            yield from ((number, link) for link in range(LINKS if isinstance(part, Processor) else 1))
+            yield from ((number, link) for link in links_of(part))
 
     def can(self, event):
         """Tells whether an event is enabled."""
@@ -279,7 +284,7 @@ class Net:
         for number, part in enumerate(self.parts):
             if self.can(Event(number, "run")):
                 yield Event(number, "run")
-            for link in range(LINKS if isinstance(part, Processor) else 1):
+            for link in links_of(part):
                 yield from (it for act in ACTS[1:] if self.can(it := Event(number, act, link)))
 
     def is_quiet(self):

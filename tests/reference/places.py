@@ -13,16 +13,14 @@ def cells_of(number):
 
 
 class Use(enum.Enum):
-    """What a word of memory is used for; the value is what a step that touches it is refused for."""
+    """What a word of memory is used for."""
 
-    FREE = "Free"
-    SAVED = "SavedWord"
-    RECEIVING = "InTransit"
-    CHANNEL = "ChannelInUse"
-    LAST_HIGH, LAST_LOW = "HighSuccessorPending", "LowSuccessorPending"
-    SPOILT = "SpoiltWord"
+    FREE, SAVED, RECEIVING, CHANNEL, SPOILT = "free", "saved", "receiving", "channel", "spoilt"
+    LAST_HIGH, LAST_LOW = "last high", "last low"
 
 
+# What a step that touches a word as memory is refused for, by its use.
+REFUSALS = {Use.SAVED: "SavedWord", Use.RECEIVING: "InTransit"}
 # The uses of a count of which the last process has ended, by its priority.
 LAST = (Use.LAST_HIGH, Use.LAST_LOW)
 
@@ -94,7 +92,7 @@ class Kind(str, enum.Enum):
     LINK_HALF = "link"  # half of a link, by number and whether it is the input
     ERROR, HALTING = "Error", "HaltOnError"
     LIFE = "workspace"  # how many processes have a workspace, by its address
-    SUCCESSIONS = "successions"  # how many successors went on at a workspace, by its address
+    SUCCESSIONS = "successors at"  # how many successors went on at a workspace, by its address
     MESSAGES = "messages"  # the messages of a source that are not yet taken
     KEPT = "kept"  # the messages that a sink took
 

@@ -4,7 +4,7 @@ from channels import is_link
 from images import FUNCTIONS, OPERATION_NAMES, text_of
 from memory import Break, Memory, require
 from net import Sink, Source
-from places import (DECREMENTS, FIRST_VALUES, LAST, UNKNOWN, Act, Agent, AgentKind, Change, Context, Kind, LinkHalf,
+from places import (DECREMENTS, FIRST_VALUES, LAST, REFUSALS, UNKNOWN, Act, Agent, AgentKind, Change, Context, Kind, LinkHalf,
                     Loan, Message, Place, Standing, Status, Use, Word, cells_of)
 from processes import LOW, MOST_LIVE
 from processor import OPERATE, Processor
@@ -70,7 +70,7 @@ class Looks(Memory):
         for place in self.words(start, length):
             found = self.step.look(place).use
             if found is not use:
-                raise Break((use if found is Use.FREE else found).value)
+                raise Break(REFUSALS.get(found, "WordInUse") if use is Use.FREE else "WordInUse")
             if writes:
                 self.not_sent(place)
 
@@ -169,7 +169,7 @@ class Turn(Processor):
             self.memory.touch(loan.buffer, loan.length, False)
             self.memory.count_output(loan.buffer, loan.length, -1)
             half = self.step.place(Kind.LINK_HALF, (loan.link, False))
-            require(self.step.look(half) is LinkHalf.COPIED, "LinkBusy")
+            require(self.step.look(half) is LinkHalf.COPIED, "HasNoStep")
             self.step.put(half, LinkHalf.EMPTY)
         self.leave_with(self.context.stack)
 
@@ -180,7 +180,7 @@ class Turn(Processor):
         require(not self.memory.has_read_unknown, "SawTheScheduler")
         name = OPERATION_NAMES[operand] if function == OPERATE else FUNCTIONS[function]
         self.step.text = text_of(function, operand if function == OPERATE else signed(operand))
-        require(name in USES, "Alternative")
+        require(name in USES, "HasAlternatives")
         needs, left = USES[name]
         unknown = {it for it, value in zip("ABC", self.context.stack) if value is None}
         require(not unknown.intersection(needs), "SawTheScheduler")
@@ -230,7 +230,7 @@ class Turn(Processor):
         require(self.step.look(self.step.place(Kind.LIFE, workspace)) == 0, "AlreadyLive")
         self.memory.save(workspace, True)
         child = self.step.place(Kind.STANDING, (*self.step.agent.key, self.children))
-        require(self.step.look(child).status is Status.ABSENT, "NameTaken")
+        require(self.step.look(child).status is Status.ABSENT, "HasNoStep")
         self.step.put(child, Standing(Status.RESTS, Context(priority, workspace, iptr % MODULUS)))
         self.step.change(self.step.place(Kind.LIFE, workspace), Act.ADD, 1)
         self.children += 1
@@ -319,7 +319,7 @@ def wake(step, node, process, loan=None):
     """A process that waited rests: its message is copied."""
     place = Place(Kind.STANDING, node, process)
     status, context = step.look(place)
-    require(status is Status.WAITS, "ChannelMisuse")
+    require(status is Status.WAITS, "HasNoStep")
     step.put(place, Standing(Status.RESTS, context._replace(loan=loan)))
 
 
@@ -384,7 +384,7 @@ def successor_step(step):
     step.text = "goes on"
     count = memory.word_place(workspace + 4)
     use = step.look(count).use
-    require(use in LAST, use.value)
+    require(use in LAST, "WordInUse")
     memory.touch_word(workspace, False)
     iptr = memory.word(workspace)
     require(not memory.has_read_unknown, "SawTheScheduler")
@@ -396,7 +396,7 @@ def successor_step(step):
     number = step.look(successions)
     step.put(successions, number + 1)
     process = step.place(Kind.STANDING, ("after", workspace, number))
-    require(step.look(process).status is Status.ABSENT, "NameTaken")
+    require(step.look(process).status is Status.ABSENT, "HasNoStep")
     step.put(process, Standing(Status.RUNS, Context(LAST.index(use), workspace, iptr)))
 
 
@@ -509,7 +509,7 @@ class ProcessMachine:
             if len(self.names.get(number, ())) > MOST_LIVE:
                 return "TooManyProcesses", number
             if number in self.flagged and len(self.priorities[number]) > 1:
-                return "FlagsOfBothPriorities", number
+                return "FlagsChanged", number
         return None
 
 

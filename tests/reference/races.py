@@ -16,7 +16,7 @@ COLLIDING = {one: [other for other in MODES
 
 
 class Done(NamedTuple):
-    """A step that was done, as it is told."""
+    """A step as it is told, by its number among the steps of its agent."""
 
     number: int
     agent: tuple
@@ -25,18 +25,19 @@ class Done(NamedTuple):
 
 
 class Access(NamedTuple):
-    """The last access of a kind that an agent had to a place."""
+    """The last access of a kind that an agent had to a place, and as what it is told."""
 
     count: int
     done: Done
+    told: object
 
 
 class Race(NamedTuple):
     """Two accesses to a place of which none has to come first."""
 
     place: Place
-    modes: tuple
-    steps: tuple
+    earlier: Access
+    last: Access
 
 
 class RaceCheck:
@@ -54,13 +55,14 @@ class RaceCheck:
         agent, clock = step.agent, self.clocks[step.agent]
         for gate in self.machine.gates(agent):
             join(clock, self.leading.pop(gate, {}))
-        access = Access(self.counts[agent], Done(number, agent, step.iptr, step.text))
+        done = Done(number, agent, step.iptr, step.text)
         for place, mode in dict.fromkeys(accesses_of(step)):
+            access = Access(self.counts[agent], done, told_as(step, place, mode))
             seen = self.accesses[place]
             for other in COLLIDING[mode]:
                 for who, earlier in seen.get(other, {}).items():
                     if who != agent and clock.get(who, 0) < earlier.count:
-                        return Race(place, (other, mode), (earlier.done, access.done))
+                        return Race(place, earlier, access)
             seen.setdefault(mode, {})[agent] = access
         self.lead(step)
         return None
@@ -92,6 +94,12 @@ def accesses_of(step):
         yield place, change.act
 
 
+def told_as(step, place, mode):
+    """Returns as what an access is told: a look of a step that also puts the word is part of that."""
+    word = place._replace(kind=Kind.WORD) if place.kind is Kind.SENDING else place
+    return Act.PUT if mode == LOOK and (word, Act.PUT) in accesses_of(step) else mode
+
+
 def gates_led_through(step):
     """Yields the gates through which a step leads to steps of others."""
     for place, value in step.seen:
@@ -103,7 +111,7 @@ def gates_led_through(step):
 
 
 class Verdict(NamedTuple):
-    """What is told of a run: how many steps it has, and its race, or why it is refused, and at which step or node."""
+    """What is told of a run: how many steps were done, and its race, or why it is refused, and at which step or node."""
 
     steps: int
     race: Optional[Race] = None
@@ -116,18 +124,21 @@ class Verdict(NamedTuple):
 
 def certify(machine, most, choose=lambda ready: next(iter(ready)), tell=lambda step: None):
     """Runs the process machine with the check, up to its end, a race, a step that stops, or so many steps."""
-    check, number = RaceCheck(machine), 0
+    check, number, own = RaceCheck(machine), 0, collections.Counter()
     while machine.ready:
         if number == most:
             return Verdict(number, refusal="Steps")
-        number += 1
         step = machine.step_of(choose(machine.ready))
-        race = check.enter(step, number)
+        own[step.agent] += 1
+        if step.stop:
+            # Where nothing is fetched, why it is not stands in place of the instruction.
+            at = Done(own[step.agent], step.agent, step.iptr, step.text or step.stop)
+            return Verdict(number, refusal=step.stop, at=at)
+        race = check.enter(step, own[step.agent])
         if race:
             return Verdict(number, race=race)
-        if step.stop:
-            return Verdict(number, refusal=step.stop, at=Done(number, step.agent, step.iptr, step.text))
         tell(step)
         machine.do(step)
+        number += 1
     refusal, node = machine.refusal() or (None, None)
     return Verdict(number, refusal=refusal, at=node)

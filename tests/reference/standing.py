@@ -2,7 +2,7 @@
 that a command prints of a net."""
 from formats import dump_of, heading
 from channels import ALTERNATIVE, OnChannel, OnLink
-from net import LINKS, Sink, Source
+from net import LINKS, Sink, Source, links_of
 from processes import HIGH, LOW
 from processor import Processor
 from words import IPTR, address, workspace_of
@@ -15,7 +15,7 @@ def standing_of(net):
         lines.append(heading(net, number))
         if isinstance(part, Processor):
             lines += processes_of(net, number, part)
-        for link in range(LINKS if isinstance(part, Processor) else 1):
+        for link in links_of(part):
             lines += link_lines(net, number, part, link)
     if net.is_quiet():
         stuck = stuck_lines(net)

@@ -1,5 +1,7 @@
 //! Free workers: what their turns do with packets between them, on one thread and on three.
 
+ghost use Rattle.tfree.specs.Opened.{ComeFromOneOpen};
+
 use crate::plans::{event, lengths, ring, scripted, transfer};
 use crate::texts::{LENGTHS_LINES, PAIR_LINES, SCRIPTED_LINES, ring_lines, shown};
 use crate::threads::{on_threads_until_idle, turn_by_halves, turn_together};
@@ -10,7 +12,7 @@ use crate::workers::{
 use std::alloc::Global;
 use std::process::Abort;
 use std::test::Fail;
-use tfree::{GatherFault, Gathered, OpenFault, Turned, gather, open};
+use tfree::{GatherFault, Gathered, OpenFault, Turned, Worker, gather, open};
 use tnet::Net;
 use tplan::Act;
 use trounds::{Ending, Open, run_rounds};
@@ -53,17 +55,22 @@ fn assert_ring(rt: &impl Abort, alloc: Global, opened: Net, done: &Gathered) -> 
     Ok(())
 }
 
+/// The ring by so many workers, in rotation.
+fn assert_ring_by(rt: &impl Abort, alloc: Global, count: usize) -> Result<(), Fail> {
+    let net = Net::build(alloc, ring(alloc)?)?;
+    let copy = net.try_copy(alloc)?;
+    let mut workers = opened(alloc, net, count)?;
+    assert!(rt; workers.len() == count);
+    assert!(rt; rotate_until_idle(&mut workers));
+    let done = gathered(alloc, workers)?;
+    assert_ring(rt, alloc, copy, &done)
+}
+
 /// A worker for each node, and 64 workers, of which 61 have none.
 #[test]
 fn a_ring_by_turns_in_rotation(rt: HostRuntime) -> Result<(), Fail> {
-    let alloc = rt.alloc();
     for count in [3, 64] {
-        let net = Net::build(alloc, ring(alloc)?)?;
-        let copy = net.try_copy(alloc)?;
-        let mut workers = opened(alloc, net, count)?;
-        assert!(rt; workers.len() == count);
-        assert!(rt; rotate_until_idle(&mut workers));
-        assert_ring(&rt, alloc, copy, &gathered(alloc, workers)?)?;
+        assert_ring_by(&rt, rt.alloc(), count)?;
     }
     Ok(())
 }
@@ -160,22 +167,42 @@ fn a_source_and_a_sink_by_turns_in_rotation(rt: HostRuntime) -> Result<(), Fail>
     Ok(())
 }
 
+/// The workers of two nets turn side by side, three times each, and then those of one net after those of the other
+/// until they rest. Whether it came to that.
+fn turn_side_by_side(some: &mut Vec<Worker>, others: &mut Vec<Worker>) -> bool
+    requires one { ComeFromOneOpen some.old.items }
+    requires another { ComeFromOneOpen others.old.items }
+    ensures one { ComeFromOneOpen some.new.items }
+    ensures another { ComeFromOneOpen others.new.items }
+{
+    for _rotation in 0..3 {
+        if rotate(some).is_err() {
+            return false;
+        }
+        if rotate(others).is_err() {
+            return false;
+        }
+    }
+    rotate_until_idle(some) && rotate_until_idle(others)
+}
+
+/// Whether workers that are gathered show these lines.
+fn come_to(alloc: Global, workers: Vec<Worker>, lines: &str) -> Result<bool, Fail>
+    requires { ComeFromOneOpen workers.items }
+{
+    let done = gathered(alloc, workers)?;
+    Ok(shows(alloc, &done, lines)?)
+}
+
 /// Two nets side by side, of which neither gets packets of the other.
 #[test]
 fn two_nets_side_by_side(rt: HostRuntime) -> Result<(), Fail> {
     let alloc = rt.alloc();
     let mut some = opened(alloc, Net::build(alloc, transfer(alloc)?)?, 2)?;
     let mut others = opened(alloc, Net::build(alloc, lengths(alloc)?)?, 2)?;
-    for _rotation in 0..3 {
-        assert!(rt; rotate(&mut some).is_ok());
-        assert!(rt; rotate(&mut others).is_ok());
-    }
-    assert!(rt; rotate_until_idle(&mut some));
-    assert!(rt; rotate_until_idle(&mut others));
-    let done = gathered(alloc, some)?;
-    assert!(rt; shows(alloc, &done, PAIR_LINES)?);
-    let done = gathered(alloc, others)?;
-    assert!(rt; shows(alloc, &done, LENGTHS_LINES)?);
+    assert!(rt; turn_side_by_side(&mut some, &mut others));
+    assert!(rt; come_to(alloc, some, PAIR_LINES)?);
+    assert!(rt; come_to(alloc, others, LENGTHS_LINES)?);
     Ok(())
 }
 

@@ -99,6 +99,8 @@ pub mod NodeOutputs
 -- Nodes before the first step.
 pub mod OpenedWords
 pub mod NodeOpening
+-- Whether a process comes before the first step, by the workspaces of those before it.
+pub mod OwnWorkspaces
 -- Messages on internal channels.
 pub mod Messages
 -- Messages on links.

@@ -40,7 +40,7 @@ use Rattle.tcertify.proofs.Keeping.{get_pushed}
 use Rattle.tcertify.proofs.Telling.{same_name-self, same_name-true}
 
 -- a node's plan with these processes in its image
-abbrev with_processes : List Process → NodePlan → NodePlan
+abbrev pub with_processes : List Process → NodePlan → NodePlan
 with_processes ps plan = record plan { image = record plan.image { processes = ps } }
 
 -- the opening of a plan, but that one node has these processes
@@ -65,7 +65,7 @@ alike true u v w e = e refl
 alike false u v w e = refl
 
 -- one more in a list
-get_else : {X : Type 0} (xs : List X) (x : X) (k : ℕ) → (length xs ≡ k → ⊥)
+pub get_else : {X : Type 0} (xs : List X) (x : X) (k : ℕ) → (length xs ≡ k → ⊥)
     → slice_get (xs ++ x ∷ []) k ≡ slice_get xs k
 get_else [] x zero ne = absurd (ne refl)
 get_else [] x (suc k) ne = refl
@@ -278,8 +278,11 @@ module _ (p : Plan) (n : ℕ) (plan : NodePlan) (ps : List Process) (q : Process
   one_more after s e = λ j z. more_at after s e z j
 
 -- where no process has come
-module _ (plan : NodePlan) (number : ℕ) (node : Node) (h : HasNothing plan number node) (p : Plan)
+module _ (plan : NodePlan) (number first : ℕ) (node : Node) (h : HasNothing plan number first node) (p : Plan)
     (there : slice_get p.nodes number ≡ Some plan) where
+  numbered : node.words.number ≡ number
+  numbered = ap (λ (s : Site). s.number) h.site
+
   abbrev opening : State
   opening = opening_state p
 
@@ -287,7 +290,7 @@ module _ (plan : NodePlan) (number : ℕ) (node : Node) (h : HasNothing plan num
   of_this : {A : Type 0} (m : ℕ) (t : Bool) (d : A) (f : NodePlan → A) → (node.words.number == m) ≡ true
       → of_node p m d f ≡ f plan
   of_this m t d f e =
-      let same = sym h.number ∙ eqb-true node.words.number m e in
+      let same = sym numbered ∙ eqb-true node.words.number m e in
       ap (λ (o : Option NodePlan). elim o [ Some x ↦ f x | None ↦ d ])
       (ap (λ (k : ℕ). slice_get p.nodes k) (sym same) ∙ there)
 
@@ -342,17 +345,17 @@ module _ (plan : NodePlan) (number : ℕ) (node : Node) (h : HasNothing plan num
   at_place (Standing x) =
       ap (λ ps. if node.words.number == x.node then IsStand (stand_among node.words.number ps x)
       else opening (Standing x)) h.processes
-      ∙ ap (λ (k : ℕ). if k == x.node then IsStand Absent else opening (Standing x)) h.number
+      ∙ ap (λ (k : ℕ). if k == x.node then IsStand Absent else opening (Standing x)) numbered
       ∙ ap (λ (s : Stand). if number == x.node then IsStand s else opening (Standing x)) (sym (no_stand x.root x.path))
   at_place (Life m w) =
       ap (λ ls. if node.words.number == m then IsAmount (lives_at ls w) else opening (Life m w)) h.lives
-      ∙ ap (λ (k : ℕ). if k == m then IsAmount (pos 0) else opening (Life m w)) h.number
+      ∙ ap (λ (k : ℕ). if k == m then IsAmount (pos 0) else opening (Life m w)) numbered
   at_place (Population m) =
       ap (λ (k : ℕ). if node.words.number == m then IsAmount (pos k) else opening (Population m)) h.population
-      ∙ ap (λ (k : ℕ). if k == m then IsAmount (pos 0) else opening (Population m)) h.number
+      ∙ ap (λ (k : ℕ). if k == m then IsAmount (pos 0) else opening (Population m)) numbered
   at_place (HasRun m q) =
       ap (λ (t : Bool). if node.words.number == m then IsFlag t else opening (HasRun m q)) (run_so q)
-      ∙ ap (λ (k : ℕ). if k == m then IsFlag false else opening (HasRun m q)) h.number
+      ∙ ap (λ (k : ℕ). if k == m then IsFlag false else opening (HasRun m q)) numbered
   at_place (Half m a s) =
       same_if (node.words.number == m) (IsHalf (half_among (names node) node.channels.items.items a s))
       (opening (Half m a s)) (λ e. ap IsHalf (no_half a s))

@@ -10,6 +10,7 @@ use Rattle.tplan.specs.declared.plan.NodePlan.{NodePlan}
 use Rattle.tplan.specs.declared.plan.Process.{Process}
 use Rattle.tplan.specs.declared.plan.Segment.{Segment}
 use Rattle.tprocesses.specs.Opening.{after_segment, opened_word}
+use Rattle.tprocesses.specs.Touching.{Site}
 use Rattle.tprocesses.specs.Values.{Free, Saved, Use, unknown}
 use Rattle.tcertify.specs.declared.stored.StoredWord.{StoredWord}
 use Rattle.tcertify.specs.declared.stored.Words.{Words}
@@ -50,3 +51,9 @@ pub record IsOpenedAt (plan : NodePlan) (old : Words) (k : ℕ) (new : Words) : 
   pub items : new.items.items ≡ slice_set old.items.items k word
   pub number : new.number ≡ old.number
   pub kind : new.kind ≡ old.kind
+  pub first : new.first_place ≡ old.first_place
+  pub notes : new.notes ≡ old.notes
+
+-- the number of a node of a plan, the size of its memory, and its kind
+abbrev pub planned_site : NodePlan → ℕ → Site
+planned_site plan k = record { number = k; size = plan.memory; kind = plan.kind }

@@ -1,12 +1,13 @@
 //! A node before the first step.
 
-ghost use Rattle.std.specs.Prelude.{◌≡◌, IfOk, [], false};
+ghost use Rattle.std.specs.Prelude.{◌≡◌, IfErr, IfOk, MatchResult, [], false};
 ghost use Rattle.tword.specs.Accesses.{IsMemorySize};
 ghost use Rattle.tproc.specs.Machine.{priority_of, workspace_of};
 ghost use Rattle.tprocesses.specs.Standing.{comes, fresh};
 ghost use Rattle.tprocesses.specs.Values.{Rests};
 ghost use Rattle.tcertify.specs.Contexts.{context_of};
-ghost use Rattle.tcertify.specs.NodeOpened.{HasNothing, IsOpen};
+ghost use Rattle.tcertify.specs.declared.fault.Fault.TheVariants.{OutOfMemory};
+ghost use Rattle.tcertify.specs.NodeOpened.{HasNothing, IsOpen, IsOpeningFault};
 ghost use Rattle.tcertify.specs.Nodes.{Does, node_site, nothing};
 ghost use Rattle.tcertify.specs.Processes.{named};
 
@@ -63,7 +64,8 @@ impl Node {
         first_place: u32,
     ) -> Result<Node, Fault>
         requires { IsMemorySize plan.now.kind plan.now.memory }
-        ensures { IfOk result (λ node. HasNothing plan.now number node) }
+        ensures node { IfOk result (HasNothing plan.now number first_place) }
+        ensures fault { IfErr result (λ fault. fault ≡ OutOfMemory) }
     {
         let Some(fixed_place) = first_place.checked_add(plan.memory / 4) else {
             return Err(Fault::OutOfMemory);
@@ -112,8 +114,8 @@ impl Node {
     /// first word; `fresh_place` of the node is the lowest one after all its places.
     ///
     /// # Errors
-    /// `OutOfMemory` where the allocator refuses, or the numbers of the places would not fit; `AlreadyLive` where two
-    /// processes of the image have one workspace, which no plan has that a net is built of.
+    /// `AlreadyLive` where two processes of the image have one workspace, which no plan has that a net is built of;
+    /// `OutOfMemory` where the allocator refuses, or the numbers of the places would not fit.
     pub fn open(
         alloc: Global,
         plan: &NodePlan,
@@ -121,7 +123,7 @@ impl Node {
         first_place: u32,
     ) -> Result<Node, Fault>
         requires { IsMemorySize plan.now.kind plan.now.memory }
-        ensures { IfOk result (λ node. IsOpen plan.now number node) }
+        ensures { MatchResult result (IsOpen plan.now number first_place) (IsOpeningFault plan.now) }
     {
         let mut node = Node::without_processes(alloc, plan, number, first_place)?;
         let processes = plan.image.processes.as_slice();

@@ -1,6 +1,6 @@
 //! The words of a node, as its steps touch them.
 
-ghost use Rattle.std.specs.Prelude.{◌≡◌, ◌<◌, Ok, length, true, if◌then◌else◌};
+ghost use Rattle.std.specs.Prelude.{◌≡◌, ◌<◌, ◌↔◌, IsTrue, Ok, length, if◌then◌else◌};
 ghost use Rattle.tprocesses.specs.Changes.{Decrement, Engage};
 ghost use Rattle.tprocesses.specs.Parts.{change};
 ghost use Rattle.tprocesses.specs.Standing as spec;
@@ -62,11 +62,9 @@ impl Node {
     /// Whether the memory has all words of a span.
     #[inline(always)]
     pub fn has_words(&self, span: &Span) -> bool
-        ensures { result ≡ true → HasWords (length self.now.words.items.items) span.now }
+        ensures { IsTrue result ↔ HasWords (length self.now.words.items.items) span.now }
     {
         let count = self.words.items.len();
-        let first = word_number(span.start);
-        let words = word_count(span);
-        first <= count && words <= count - first
+        word_count(span) <= count.saturating_sub(word_number(span.start))
     }
 }

@@ -1,19 +1,18 @@
 //! The words of a node before the first step.
 
-ghost use Rattle.std.specs.Prelude.{◌≡◌, ◌<◌, ◌≤◌, ◌+◌, ◌/◌, ◌^◌, ◌∷◌, [], IfOk, fold, length};
+ghost use Rattle.std.specs.Prelude.{◌≡◌, ◌<◌, ◌≤◌, ◌+◌, ◌/◌, ◌^◌, ◌∷◌, [], IfOk, false, fold, length};
 ghost use Rattle.std.specs.List.{list_any};
 ghost use Rattle.tword.specs.Accesses.{IsMemorySize};
 ghost use Rattle.tprocesses.specs.Opening as spec;
 ghost use Rattle.tcertify.specs.Cells.{cells_of};
 ghost use Rattle.tcertify.specs.Opened.{AreOpened, IsOpened, IsOpenedAt, is_saved_below, is_unknown_below};
-ghost use Rattle.tcertify.specs.Opened.{loaded_cells, opened_cells, opened_use};
+ghost use Rattle.tcertify.specs.Opened.{loaded_cells, opened_cells, opened_use, planned_site};
 ghost use Rattle.tcertify.specs.Words.{site_of, use_of};
 
 use crate::cells::Cells;
-use crate::fault::Fault;
 use crate::stored::{StoredWord, Words};
 use crate::word_use::WordUse;
-use std::alloc::Global;
+use std::alloc::{AllocError, Global};
 use tplan::{NodePlan, Process, Segment};
 use tproc::workspace_of;
 use tword::limits::MOST_NEG;
@@ -153,22 +152,21 @@ impl Words {
     /// as long as there are bytes times segments, and words times processes.
     ///
     /// # Errors
-    /// `OutOfMemory` where the allocator refuses, or the numbers of the places would not fit.
+    /// Where the allocator refuses.
     pub fn open(
         alloc: Global,
         plan: &NodePlan,
         number: u32,
         first_place: u32,
-    ) -> Result<Words, Fault>
-        requires { IsMemorySize plan.now.kind plan.now.memory }
+    ) -> Result<Words, AllocError>
+        requires memory { IsMemorySize plan.now.kind plan.now.memory }
+        requires places { first_place + plan.now.memory / 4 ≤ 2 ^ 32 }
         ensures words { IfOk result (λ words. AreOpened plan.now words.items.items) }
-        ensures site { IfOk result (λ words. site_of words
-            ≡ record { number = number; size = plan.now.memory; kind = plan.now.kind }) }
+        ensures site { IfOk result (λ words. site_of words ≡ planned_site plan.now number) }
+        ensures first { IfOk result (λ words. words.first_place ≡ first_place) }
+        ensures notes { IfOk result (λ words. (words.notes.items.items ≡ []) × (words.notes.is_lost ≡ false)) }
     {
         let count = plan.memory / 4;
-        if first_place > u32::MAX - count {
-            return Err(Fault::OutOfMemory);
-        }
         let mut words = Words::new(alloc, plan.memory, number, plan.kind, first_place)?;
         for index in 0..count {
             words.open_word(plan, index);

@@ -1,6 +1,6 @@
 -- The text of a picture.
 -- Source: own choice, in Scalable Vector Graphics 1.1 (W3C, 2011).
-use Rattle.std.specs.Prelude.{ℕ, ◌+◌, ◌-◌, ◌*◌, min, nat_lt, List, [], ◌++◌, flat_map, length, codes, decimal}
+use Rattle.std.specs.Prelude.{ℕ, ◌+◌, ◌-◌, ◌*◌, ◌/◌, min, nat_lt, List, [], ◌++◌, flat_map, length, codes, decimal}
 use Rattle.std.specs.Prelude.{Option, Some, None, if◌then◌else◌}
 use Rattle.hex.specs.Hex.{encode_lower}
 use Rattle.tword.specs.Limits.{most_nodes}
@@ -185,12 +185,20 @@ width_of c = 240 * min (length c.columns) most_nodes + 100
 abbrev pub height_of : (rows : ℕ) → ℕ
 height_of rows = y_of rows + 50
 
--- the first line
-abbrev pub head_text : (width height : ℕ) → List ℕ
-head_text width height =
+-- how many rows are drawn at full size
+abbrev pub most_full_rows : ℕ
+most_full_rows = 1300
+
+-- how many pixels a length has in a picture of this number of rows
+abbrev pub pixels : (rows length : ℕ) → ℕ
+pixels rows length = if nat_lt most_full_rows rows then 2 * length / 3 else length
+
+-- the first line of a picture of this number of rows
+abbrev pub head_text : (rows width height : ℕ) → List ℕ
+head_text rows width height =
     codes "<svg xmlns='http://www.w3.org/2000/svg'"
-    ++ (number_text (codes "width") width
-    ++ (number_text (codes "height") height
+    ++ (number_text (codes "width") (pixels rows width)
+    ++ (number_text (codes "height") (pixels rows height)
     ++ (codes " viewBox='0 0 " ++ (decimal width ++ (codes " " ++ (decimal height ++ line (codes "'>")))))))
 
 -- the colour of a pause, and what is waited for
@@ -208,13 +216,13 @@ key_text y =
 abbrev pub rest_text : (rows y : ℕ) → List ℕ
 rest_text rows y =
     if nat_lt most_rows rows
-    then text_head (codes "right") 12 y ++ (codes "only the first 1300 rows are drawn" ++ line (codes "</text>"))
+    then text_head (codes "right") 12 y ++ (codes "only the first 2000 rows are drawn" ++ line (codes "</text>"))
     else []
 
 -- the whole text: above the columns the key, and above and below them whether there are more rows
 abbrev pub chart_text : Chart → List ℕ
 chart_text c =
-    head_text (width_of c) (height_of (drawn_rows c))
+    head_text (drawn_rows c) (width_of c) (height_of (drawn_rows c))
     ++ (style_text
     ++ (key_text 20
     ++ (rest_text c.rows 92

@@ -82,7 +82,7 @@ nothing_shown : (laid 0 7 shown.Nothing opening).marks ≡ []
 nothing_shown = refl
 
 -- the rows below the last one that is drawn are one
-last_rows : below 1299 ∷ below 1300 ∷ below 1301 ∷ [] ≡ 1300 ∷ 1301 ∷ 1301 ∷ []
+last_rows : below 1999 ∷ below 2000 ∷ below 2001 ∷ [] ≡ 2000 ∷ 2001 ∷ 2001 ∷ []
 last_rows = refl
 
 -- ---- what is waited for
@@ -139,16 +139,22 @@ a_column : column_text 4 (record { kind = kind.Sink; number = 2 })
 unfolding digits
 a_column = refl
 
-first_line : head_text 580 270
-    ≡ codes "<svg xmlns='http://www.w3.org/2000/svg' width='580' height='270' viewBox='0 0 580 270'>" ++ 10 ∷ []
+first_line : head_text 1300 580 31394
+    ≡ codes "<svg xmlns='http://www.w3.org/2000/svg' width='580' height='31394' viewBox='0 0 580 31394'>" ++ 10 ∷ []
 unfolding digits
 first_line = refl
 
+-- one of more than 1,300 rows is a third smaller
+first_line_of_many : head_text 2000 580 48194
+    ≡ codes "<svg xmlns='http://www.w3.org/2000/svg' width='386' height='32129' viewBox='0 0 580 48194'>" ++ 10 ∷ []
+unfolding digits
+first_line_of_many = refl
+
 -- all rows are drawn, or a line says that they are not
-no_rest : rest_text 1300 100 ≡ []
+no_rest : rest_text 2000 100 ≡ []
 no_rest = refl
 
-a_rest : rest_text 1301 100
-    ≡ codes "<text class='right' x='12' y='100'>only the first 1300 rows are drawn</text>" ++ 10 ∷ []
+a_rest : rest_text 2001 100
+    ≡ codes "<text class='right' x='12' y='100'>only the first 2000 rows are drawn</text>" ++ 10 ∷ []
 unfolding digits
 a_rest = refl

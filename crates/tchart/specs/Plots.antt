@@ -24,7 +24,7 @@ use Rattle.tchart.specs.Marks.{last_row}
 
 -- how many rows are drawn
 abbrev pub most_rows : ℕ
-most_rows = 1300
+most_rows = 2000
 
 -- what is known so far of the nodes and of the ends, four a node, the marks that are drawn, and the lowest row
 pub record PlotState : Type 0 where

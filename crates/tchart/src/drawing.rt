@@ -20,12 +20,16 @@ use twhere::put_word;
 use tword::limits::MOST_NODES;
 use tword::{Break, Word};
 
+/// How many rows are drawn at full size. A picture of more is a third smaller, so it is at most 32,129 pixels high: some
+/// viewers draw none above 32,767.
+const MOST_FULL_ROWS: u32 = 1_300;
+
 /// Writes a picture as SVG (own choice of format, `specs/Drawing`). It takes no memory.
 pub fn put_chart<W: CountedWrite>(out: &mut Output<'_, W>, chart: &Chart)
     ensures { Tells W.contents W.failures out.old out.new (spec.chart_text chart.now) }
 {
     let rows = chart.rows.min(MOST_ROWS);
-    put_head(out, width_of(chart), height_of(rows));
+    put_head(out, rows, width_of(chart), height_of(rows));
     put_style(out);
     put_key(out, 20);
     put_rest(out, chart.rows, 92);
@@ -50,13 +54,27 @@ fn height_of(rows: u32) -> u64
     y_of(rows) + 50
 }
 
-/// The first line.
-fn put_head<W: CountedWrite>(out: &mut Output<'_, W>, width: u64, height: u64)
-    ensures { Tells W.contents W.failures out.old out.new (spec.head_text width height) }
+/// How many pixels a length has in a picture of this number of rows.
+fn pixels(rows: u32, length: u64) -> u64
+    requires { length < 2 ^ 60 }
+    ensures { result ≡ spec.pixels rows length }
+{
+    if MOST_FULL_ROWS < rows {
+        2 * length / 3
+    } else {
+        length
+    }
+}
+
+/// The first line of a picture of this number of rows.
+fn put_head<W: CountedWrite>(out: &mut Output<'_, W>, rows: u32, width: u64, height: u64)
+    requires width { width < 2 ^ 60 }
+    requires height { height < 2 ^ 60 }
+    ensures { Tells W.contents W.failures out.old out.new (spec.head_text rows width height) }
 {
     out.put(b"<svg xmlns='http://www.w3.org/2000/svg'");
-    put_number(out, b"width", width);
-    put_number(out, b"height", height);
+    put_number(out, b"width", pixels(rows, width));
+    put_number(out, b"height", pixels(rows, height));
     out.put(b" viewBox='0 0 ");
     put_decimal(out, width);
     out.put(b" ");
@@ -126,7 +144,7 @@ fn put_rest<W: CountedWrite>(out: &mut Output<'_, W>, rows: u32, y: u64)
 {
     if MOST_ROWS < rows {
         put_text(out, b"right", 12, y);
-        out.put(b"only the first 1300 rows are drawn");
+        out.put(b"only the first 2000 rows are drawn");
         out.put(b"</text>\n");
     }
 }

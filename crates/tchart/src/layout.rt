@@ -46,7 +46,7 @@ pub struct Chart {
 }
 
 /// Does events on a net, in their order, and lays out what they did (own choice, `specs/Layout`). One that is not
-/// enabled changes nothing, and is not shown. It takes memory for the marks of the first 1,300 rows: a row has a few
+/// enabled changes nothing, and is not shown. It takes memory for the marks of the first 2,000 rows: a row has a few
 /// for each node.
 ///
 /// # Errors

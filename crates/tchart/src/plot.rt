@@ -13,8 +13,8 @@ use tplan::plan::End;
 use tword::limits::MOST_NODES;
 use tword::{Break, Items, Word};
 
-/// How many rows are drawn: a picture of them is at most 31,394 pixels high. Some viewers draw none above 32,767.
-pub(crate) const MOST_ROWS: u32 = 1_300;
+/// How many rows are drawn.
+pub(crate) const MOST_ROWS: u32 = 2_000;
 
 /// How many links a node has.
 const LINKS: usize = 4;

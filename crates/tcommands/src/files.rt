@@ -169,7 +169,7 @@ fn sought(rt: &HostRuntime, name: &str) -> Result<Option<Items<u8>>, Fault> {
 }
 
 /// The names of the files that are asked for, in their order.
-fn load_names(rt: &HostRuntime, asked: &[NamesFile]) -> Result<Items<NodeNames>, Fault>
+pub(crate) fn load_names(rt: &HostRuntime, asked: &[NamesFile]) -> Result<Items<NodeNames>, Fault>
     ensures { IfOk result (λ all. map (λ n. n.node) all ≡ map (λ f. f.node) asked.now) }
 {
     let mut all = Vec::new(rt.alloc());

@@ -3,12 +3,13 @@
 //!
 //! - `program`: what is asked for is done, and its fault told
 //! - `commands`: which files each command opens, and what is done with their bytes
-//! - `exploring`, `checking`: `explore` with its logs, and `check`
+//! - `exploring`, `certifying`, `checking`: `explore` with its logs, `certify`, and `check`
 //! - `files`: the files that are read
 //! - `log_file`: the file that a log is written into
 //! - `output`: what ends an output
 #![tactic(auto)]
 
+mod certifying;
 mod checking;
 mod commands;
 mod exploring;

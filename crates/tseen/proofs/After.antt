@@ -8,11 +8,13 @@ use Rattle.tagents.specs.Walks.{deed_of, value_after, are_open, label_of, next_s
 use Rattle.tprocesses.specs.Places.{Place, Name, same_place}
 use Rattle.tprocesses.specs.Values.{Value}
 use Rattle.tprocesses.specs.Changes.{Change, apply}
-use Rattle.tprocesses.specs.Parts.{Reason, Part, gives, stopping, seeing, changing, telling, Doing, Changed, Deed, made}
+use Rattle.tprocesses.specs.Parts.{Reason, Part, gives, stopping, seeing, changing, telling, Doing, Changed, Deed}
+use Rattle.tprocesses.specs.Parts.{made}
 use Rattle.tprocesses.specs.Parts.{walk_from, ◌>>=◌, require, unless}
 use Rattle.tprocesses.specs.Machine.{Agent, Process, process_machine, step_of}
 use Rattle.tprocesses.specs.Certified.{ProcessStep}
 use Rattle.tseen.specs.Steps.{Makes}
+use Rattle.tseen.specs.AgentSteps.{AgentMakes}
 
 -- what stands at each place
 abbrev pub State : Type 0
@@ -86,10 +88,10 @@ made-more [] p q c v = refl
 made-more (x ∷ cs) p q c v = made-more cs p q c (if same_place x.place q then apply x.change v else v)
 
 -- a state with changes made
-abbrev so_far : List Changed → State → State
+abbrev pub so_far : List Changed → State → State
 so_far cs s p = made cs p (s p)
 
-so_far-more : (cs : List Changed) (p : Place) (c : Change) (s : State)
+pub so_far-more : (cs : List Changed) (p : Place) (c : Change) (s : State)
     → so_far (cs ++ record { place = p; change = c } ∷ []) s ≡ changed p c (so_far cs s)
 so_far-more cs p c s = λ i q. made-more cs p q c (s q) i
 
@@ -109,7 +111,7 @@ picked plan (x ∷ cs) p v = by (same_place x.place p) (λ u. picked plan cs p u
     by false rest v = rest v
 
 -- a walk that does not stop leaves what holds after its step
-walked : (d : Deed) (step : Doing) (s : State) (Q : Unit {0} → State → Type 0) → After step (so_far d.changes s) Q
+pub walked : (d : Deed) (step : Doing) (s : State) (Q : Unit {0} → State → Type 0) → After step (so_far d.changes s) Q
     → is_some (deed_of (walk_from d step) s).stops ≡ false → Q tt (so_far (deed_of (walk_from d step) s).changes s)
 walked d (gives x) s Q h none = h
 walked d (stopping why) s Q h none = absurd (true≢false none)
@@ -119,33 +121,35 @@ walked d (changing p c next) s Q h none =
     (subst (λ (t : State). After next t Q) (sym (so_far-more d.changes p c s)) h) none
 walked d (telling m next) s Q h none = walked (record d { message = Some m }) next s Q h none
 
--- what a process does in its step
-abbrev deed_at : Plan → Name → State → Deed
-deed_at p x s = deed_of (walk_from (record { changes = []; message = None; stops = None }) (step_of p (Process x))) s
+-- what an agent does in its step
+abbrev pub deed_at : Plan → Agent → State → Deed
+deed_at p a s = deed_of (walk_from (record { changes = []; message = None; stops = None }) (step_of p a)) s
 
-abbrev if_open : Bool → ProcessStep × State → Option (ProcessStep × State)
+abbrev pub if_open : Bool → ProcessStep × State → Option (ProcessStep × State)
 if_open t x = if t then Some x else None
 
--- so it is of a step that a process makes
-pub after_step : (p : Plan) (x : Name) (s s' : State) (Q : Unit {0} → State → Type 0) → Makes p x s s'
-    → After (step_of p (Process x)) s Q → Q tt s'
-after_step p x s s' Q m h =
-    by (are_open (process_machine p) (Process x) s)
-    (subst (λ (a : Agent). next_step (process_machine p) a s ≡ Some (m.label, s')) m.agent m.step)
+-- so it is of a step that an agent makes
+pub after_agent_step : (p : Plan) (a : Agent) (s s' : State) (Q : Unit {0} → State → Type 0) → AgentMakes p a s s'
+    → After (step_of p a) s Q → Q tt s'
+after_agent_step p a s s' Q m h =
+    by (are_open (process_machine p) a s)
+    (subst (λ (b : Agent). next_step (process_machine p) b s ≡ Some (m.label, s')) m.agent m.step)
   where
-    by : (t : Bool) → if_open t (
-      label_of (process_machine p) (Process x) s,
-      state_after (process_machine p) (deed_at p x s) s,
-    )
+    by : (t : Bool) → if_open t (label_of (process_machine p) a s, state_after (process_machine p) (deed_at p a s) s)
         ≡ Some (m.label, s') → Q tt s'
     by false e = cc
     by true e =
         let both : ◌≡◌ {A = ProcessStep × State}
-        (label_of (process_machine p) (Process x) s, state_after (process_machine p) (deed_at p x s) s)
+        (label_of (process_machine p) a s, state_after (process_machine p) (deed_at p a s) s)
         (m.label, s') = cc in
-        let stops : is_some (deed_at p x s).stops ≡ false =
+        let stops : is_some (deed_at p a s).stops ≡ false =
         ap (λ (q : ProcessStep × State). is_some q.0.deed.stops) both ∙ m.goes_on in
-        let same : so_far (deed_at p x s).changes s ≡ s' =
-        (λ i q. sym (picked p (deed_at p x s).changes q (s q)) i) ∙ ap (λ (q : ProcessStep × State). q.1) both in
+        let same : so_far (deed_at p a s).changes s ≡ s' =
+        (λ i q. sym (picked p (deed_at p a s).changes q (s q)) i) ∙ ap (λ (q : ProcessStep × State). q.1) both in
         subst (λ (t : State). Q tt t) same
-        (walked (record { changes = []; message = None; stops = None }) (step_of p (Process x)) s Q h stops)
+        (walked (record { changes = []; message = None; stops = None }) (step_of p a) s Q h stops)
+
+-- and of one that a process makes
+pub after_step : (p : Plan) (x : Name) (s s' : State) (Q : Unit {0} → State → Type 0) → Makes p x s s'
+    → After (step_of p (Process x)) s Q → Q tt s'
+after_step p x s s' Q m = after_agent_step p (Process x) s s' Q m

@@ -1,6 +1,5 @@
 -- What a processor does whose process begins another one.
-use Rattle.std.proofs.Common.{◌≡◌, ℕ, ◌+◌, refl, ap, ◌∙◌}
-use Rattle.std.proofs.Common.{true, false, not, length, Ok, Option, Some, None}
+use Rattle.std.proofs.Common.{◌≡◌, ℕ, ◌+◌, refl, ap, ◌∙◌, true, false, not, length, Ok, Option, Some, None}
 use Rattle.std.specs.Prelude.{◌==◌}
 use Rattle.std.proofs.lemmas.Bool.{eq-eqb, or_left}
 use Rattle.tword.specs.declared.breaks.Break.TheVariants.{Unaligned, AlreadyLive, TooManyProcesses}
@@ -19,6 +18,7 @@ use Rattle.tproc.specs.Queues.{appended, admit, enqueue, last_of, link_from, ipt
 use Rattle.tproc.specs.Channels.{StepAction, goes_on}
 use Rattle.tproc.specs.Scheduler.{operation_step}
 use Rattle.tseen.proofs.Added.{linked}
+use Rattle.tseen.proofs.Yields.{put_behind}
 
 -- a process is let in, and put behind others
 abbrev admit_at : ℕ → Control → Deed
@@ -27,9 +27,6 @@ admit_at w m = do
   require (not (is_live m w)) AlreadyLive
   require (has_room m) TooManyProcesses
   deschedule w
-
-abbrev put_behind : Control → (priority workspace : ℕ) → Action Control
-put_behind m priority w = link_from (last_of (queue m priority)) w >> answer (appended w priority m)
 
 module _ (m : Control) (process w level : ℕ) (at : workspace_of process ≡ w) (of : priority_of process ≡ level)
     (old : Store) (claims : Claims) (aligned : is_aligned w ≡ true) (new : is_live m w ≡ false)

@@ -1,7 +1,6 @@
 -- A processor of a plan after so many of its processes were added.
-use Rattle.std.proofs.Common.{◌≡◌, ℕ, ◌+◌, ◌-◌, ◌<◌, ◌≤◌, ◌^◌, refl, ◌∙◌, List, [], ◌∷◌, ◌++◌}
-use Rattle.std.proofs.Common.{length, get_or, Bool, true, false, None, ◌⊎◌, inl, inr, arith}
-use Rattle.std.proofs.Common.{◌&&◌, ◌%◌, cond}
+use Rattle.std.proofs.Common.{◌≡◌, ℕ, ◌+◌, ◌-◌, ◌<◌, ◌≤◌, ◌^◌, refl, ◌∙◌, List, [], ◌∷◌, ◌++◌, length, get_or, Bool}
+use Rattle.std.proofs.Common.{true, false, None, ◌⊎◌, inl, inr, arith, ◌&&◌, ◌%◌, cond}
 use Rattle.std.specs.Int.{w32, to_le_bytes}
 use Rattle.std.proofs.lemmas.Bool.{cases_eq, eqb-true}
 use Rattle.std.proofs.lemmas.List.{append-nil}

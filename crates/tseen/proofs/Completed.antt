@@ -1,6 +1,6 @@
 -- The end of an instruction: it goes on, it jumps, or it is left to the scheduler.
-use Rattle.std.proofs.Common.{◌≡◌, ℕ, refl, sym, ap, subst, ◌∙◌, Bool, true, false, true≢false, not, ◌||◌}
-use Rattle.std.proofs.Common.{unwrap_or, ◌%◌}
+use Rattle.std.proofs.Common.{◌≡◌, ℕ, refl, sym, ap, subst, ◌∙◌, Bool, true, false, true≢false, not, ◌||◌, unwrap_or}
+use Rattle.std.proofs.Common.{◌%◌, inl, inr}
 use Rattle.std.specs.Prelude.{if◌then◌else◌}
 use Rattle.std.proofs.lemmas.Bool.{or_parts}
 use Rattle.tword.specs.Words.{plus}
@@ -13,8 +13,8 @@ use Rattle.tcpu.specs.declared.registers.Next.{Next}
 use Rattle.tcpu.specs.declared.registers.Next.TheVariants.{Go, Jumped, Schedule, Halt}
 use Rattle.tcpu.specs.Outcomes.{Outcome}
 use Rattle.tplan.specs.declared.plan.Plan.{Plan}
-use Rattle.tprocesses.specs.Places.{Place, Name, Standing, Error, HaltOnError, Life}
-use Rattle.tprocesses.specs.Values.{Context, Runs, IsStand, IsFlag}
+use Rattle.tprocesses.specs.Places.{Place, Name, Standing, Error, HaltOnError, Life, FlagChanged}
+use Rattle.tprocesses.specs.Values.{Context, Runs, IsStand, IsFlag, flag_in}
 use Rattle.tprocesses.specs.Parts.{Part, require, SawTheScheduler, ◌>>=◌}
 use Rattle.tprocesses.specs.Instructions.{Flags, has_flags, flags_after, context_after, jumped, followed, completed}
 use Rattle.tprocesses.specs.Instructions.{sets_flag}
@@ -31,8 +31,8 @@ use Rattle.tseen.proofs.Cells.{Tells}
 use Rattle.tseen.proofs.Touched.{Permits}
 use Rattle.tseen.proofs.Effected.{IsReadKnown}
 use Rattle.tseen.proofs.Executed.{IsExecuted, flags_for, AreFlagsAfter}
-use Rattle.tseen.proofs.Finished.{is_flag_of, is_life_of, is_stand_of, IsFlagged, sets_error_then, sets_halting_then}
-use Rattle.tseen.proofs.Finished.{moved, HasMoved, moves_then, StandsNow, stands_then, error_then}
+use Rattle.tseen.proofs.Finished.{is_flag_of, is_life_of, is_stand_of, IsNoted, IsFlagged, sets_error_then}
+use Rattle.tseen.proofs.Finished.{sets_halting_then, moved, HasMoved, moves_then, StandsNow, stands_then, error_then}
 
 -- a place that the end of an instruction may change
 abbrev pub is_own : ℕ → Name → Place → Bool
@@ -45,6 +45,7 @@ pub record WentOn (site : Site) (x : Name) (old : ℕ) (after : Registers) (c : 
   pub error : s (Error site.number) ≡ IsFlag after.error
   pub halting : s (HaltOnError site.number) ≡ IsFlag after.halt_on_error
   pub others : (q : Place) → is_own site.number x q ≡ false → s q ≡ t q
+  pub noted : IsNoted site.number t s
 
 module _ (site : Site) (x : Name) (old : ℕ) (after : Registers) (c : Context) where
   abbrev n : ℕ
@@ -65,7 +66,16 @@ module _ (site : Site) (x : Name) (old : ℕ) (after : Registers) (c : Context) 
             or_parts _ _ h in
             let o : (is_flag_of n q ≡ false) × (is_life_of n q ≡ false) = or_parts _ _ p.0 in
             k.others q p.1 ∙ m.others q o.1 ∙ f.others q o.0);
+        noted = by f.noted;
       }
+    where
+      by : IsNoted n t t1 → IsNoted n t t3
+      by (inl e) = inl (ap flag_in (k.others (FlagChanged n) refl ∙ m.others (FlagChanged n) refl) ∙ e)
+      by (inr e) =
+          inr (
+            k.others (Error n) refl ∙ m.others (Error n) refl ∙ e.0,
+            k.others (HaltOnError n) refl ∙ m.others (HaltOnError n) refl ∙ e.1,
+          )
 
   -- workspaces, then flags, and then where it stands
   went_with_error : (t t1 t2 t3 : State) → HasMoved site old after.wptr t t1
@@ -81,7 +91,16 @@ module _ (site : Site) (x : Name) (old : ℕ) (after : Registers) (c : Context) 
             or_parts _ _ h in
             let o : (is_flag_of n q ≡ false) × (is_life_of n q ≡ false) = or_parts _ _ p.0 in
             k.others q p.1 ∙ f.others q o.0 ∙ m.others q o.1);
+        noted = by f.noted;
       }
+    where
+      by : IsNoted n t1 t2 → IsNoted n t t3
+      by (inl e) = inl (ap flag_in (k.others (FlagChanged n) refl) ∙ e)
+      by (inr e) =
+          inr (
+            k.others (Error n) refl ∙ e.0 ∙ m.others (Error n) refl,
+            k.others (HaltOnError n) refl ∙ e.1 ∙ m.others (HaltOnError n) refl,
+          )
 
 module _ (plan : Plan) (site : Site) (whole : site.size % 4 ≡ 0) (claims : Claims) (i : Instruction) (level : ℕ)
     (r : Registers) (c : Context) (k : HasRegisters level r c) (s : State) (store : Store)
@@ -119,6 +138,7 @@ module _ (plan : Plan) (site : Site) (whole : site.size % 4 ≡ 0) (claims : Cla
           error = d.on.keeps.others (Error site.number) refl ∙ flags.error;
           halting = d.on.keeps.others (HaltOnError site.number) refl ∙ flags.halting;
           others = λ q h. refl;
+          noted = inr (refl, refl);
         }
 
     moved_now : (d : Executed p t) (t1 t2 : State) → HasMoved site c.wptr p.value.0.wptr t1 t2
@@ -175,6 +195,7 @@ module _ (plan : Plan) (site : Site) (whole : site.size % 4 ≡ 0) (claims : Cla
               error = m.others (Error site.number) refl ∙ (flagged d).error;
               halting = m.others (HaltOnError site.number) refl ∙ (flagged d).halting;
               others = λ q h. refl;
+              noted = inr (refl, refl);
             }
 
         error_now : (t1 t2 : State) → p.value.1 ≡ Halt → r.halt_on_error ≡ false

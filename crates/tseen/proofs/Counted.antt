@@ -1,15 +1,16 @@
 -- Where a process is found, and how many have a workspace, as its workspace changes.
 use Rattle.std.proofs.Common.{◌≡◌, ℕ, suc, ◌+◌, ◌<◌, ◌%◌, refl, sym, ap, ◌∙◌, List, [], ◌∷◌, ◌++◌, map}
-use Rattle.std.proofs.Common.{Bool, true, false, true≢false, cond, Contains, Some, None, arith, append-nil, pos}
-use Rattle.std.specs.Prelude.{◌==◌, find, option_map, is_some, negsuc, if◌then◌else◌}
+use Rattle.std.proofs.Common.{Bool, true, false, true≢false, cond, Contains, Some, None, arith, append-nil, length}
+use Rattle.std.proofs.Common.{length-append, pos}
+use Rattle.std.specs.Prelude.{◌==◌, find, option_map, option_to_list, is_some, negsuc, if◌then◌else◌}
 use Rattle.std.specs.List.{count_by}
 use Rattle.std.proofs.lemmas.Bool.{eqb-true, eq-eqb}
 use Rattle.std.proofs.lemmas.List.Elements.{Contains-append_right}
-use Rattle.std.proofs.lemmas.List.Sums.{sum_by-append}
+use Rattle.std.proofs.lemmas.List.Sums.{sum_by-append, sum_by-cons}
 use Rattle.std.proofs.lemmas.Int.{ints}
 use Rattle.tproc.specs.declared.waiter.Waiter.{Waiter}
 use Rattle.tproc.specs.Machine.{Control, workspace_of, priority_of, descheduled}
-use Rattle.tproc.specs.ProcessStatus.{live, reason_of, is_queued}
+use Rattle.tproc.specs.ProcessStatus.{live, interrupted_process, reason_of, is_queued}
 use Rattle.tprocesses.specs.Values.{IsAmount}
 use Rattle.tprocesses.specs.Changes.{Add, apply}
 use Rattle.tprocesses.specs.Touching.{Site}
@@ -43,26 +44,52 @@ waits_descheduled m p h =
 pub queued_descheduled : (m : Control) (p : ℕ) → is_queued m p ≡ true → Contains (descheduled m) (workspace_of p)
 queued_descheduled m p h = in_queue m (priority_of p) (workspace_of p) h
 
--- the live processes, where one runs and none was interrupted
-pub live_is : (m : Control) (level : ℕ) → m.current ≡ Some level → m.interrupted ≡ None
-    → live m ≡ descheduled m ++ workspace_of (m.registers.wptr + level) ∷ []
-live_is m level c i = rw (c, i) (ap (λ (xs : List ℕ). descheduled m ++ xs) refl)
+-- who was interrupted, and all that live but do not run
+abbrev pub beside : Control → List ℕ
+beside m = map workspace_of (option_to_list (interrupted_process m))
 
-pub live_idle : (m : Control) → m.current ≡ None → m.interrupted ≡ None → live m ≡ descheduled m
-live_idle m c i = rw (c, i) (append-nil (descheduled m))
+abbrev pub settled : Control → List ℕ
+settled m = descheduled m ++ beside m
+
+-- the live processes, where one runs, and where none does
+pub live_beside : (m : Control) (level : ℕ) → m.current ≡ Some level
+    → live m ≡ descheduled m ++ workspace_of (m.registers.wptr + level) ∷ beside m
+live_beside m level c = rw c refl
+
+pub live_idle : (m : Control) → m.current ≡ None → live m ≡ settled m
+live_idle m c = rw c refl
+
+pub live_long : (m : Control) (level : ℕ) → m.current ≡ Some level → length (live m) ≡ suc (length (settled m))
+live_long m level c =
+    ap length (live_beside m level c)
+    ∙ length-append (descheduled m) (workspace_of (m.registers.wptr + level) ∷ beside m)
+    ∙ sym (ap suc (length-append (descheduled m) (beside m)) ∙ omega arith)
+
+pub settled_alone : (m : Control) → m.interrupted ≡ None → settled m ≡ descheduled m
+settled_alone m i = rw i (append-nil (descheduled m))
 
 -- how many have a workspace
 abbrev pub count_at : ℕ → List ℕ → ℕ
 count_at w ws = count_by (λ v. v == w) ws
 
-pub lives_are : (m : Control) (level w : ℕ) → m.current ≡ Some level → m.interrupted ≡ None
-    → m.registers.wptr % 4 ≡ 0 → level < 2
-    → count_at w (live m) ≡ count_at w (descheduled m) + cond (m.registers.wptr == w) 1 0
-lives_are m level w c i aligned small =
+pub lives_are : (m : Control) (level w : ℕ) → m.current ≡ Some level → m.registers.wptr % 4 ≡ 0 → level < 2
+    → count_at w (live m) ≡ count_at w (settled m) + cond (m.registers.wptr == w) 1 0
+lives_are m level w c aligned small =
     let own : workspace_of (m.registers.wptr + level) ≡ m.registers.wptr = omega (arith, aligned, small) in
-    ap (count_at w) (live_is m level c i)
-    ∙ sum_by-append (λ v. cond (v == w) 1 0) (descheduled m) (workspace_of (m.registers.wptr + level) ∷ [])
-    ∙ rw own (omega arith)
+    ap (count_at w) (live_beside m level c)
+    ∙ sum_by-append f (descheduled m) (workspace_of (m.registers.wptr + level) ∷ beside m)
+    ∙ ap (λ z. count_at w (descheduled m) + z)
+    (sum_by-cons f (workspace_of (m.registers.wptr + level)) (beside m) ∙ ap (λ z. f z + count_at w (beside m)) own)
+    ∙ sym (ap (λ z. z + f m.registers.wptr) (sum_by-append f (descheduled m) (beside m)) ∙ omega arith)
+  where
+    f : ℕ → ℕ
+    f v = cond (v == w) 1 0
+
+-- one more
+pub one_more : (a : ℕ) (b : Bool) → (if b then apply (Add (pos 1)) (IsAmount (pos a)) else IsAmount (pos a))
+    ≡ IsAmount (pos (a + cond b 1 0))
+one_more a true = ap IsAmount (omega (arith, ints))
+one_more a false = ap (λ z. IsAmount (pos z)) (omega arith)
 
 -- one more, and one less
 moved_by : (a b same : Bool) (d : ℕ) → (same ≡ true → a ≡ b) → (a ≡ true → b ≡ true → same ≡ true)

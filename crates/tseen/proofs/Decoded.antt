@@ -1,6 +1,6 @@
 -- An instruction that is decoded on places, of bytes that are known, is decoded from the store.
-use Rattle.std.proofs.Common.{◌≡◌, ℕ, ℤ, zero, suc, pos, ◌%◌, refl, subst, length, Bool, true, false, cond, ◌&&◌}
-use Rattle.std.proofs.Common.{Ok, None, []}
+use Rattle.std.proofs.Common.{◌≡◌, ℕ, ℤ, zero, suc, pos, ◌%◌, refl, subst, length, Bool, true, false, cond, ◌&&◌, Ok}
+use Rattle.std.proofs.Common.{None, []}
 use Rattle.std.proofs.lemmas.Bool.{and_parts}
 use Rattle.std.specs.Int.{w32, from_le_bytes}
 use Rattle.tword.specs.declared.breaks.Break.TheVariants.{NoSuchOperation}
@@ -9,8 +9,7 @@ use Rattle.tword.specs.Words.{plus}
 use Rattle.tword.specs.Stores.{Store, shown}
 use Rattle.tword.specs.Claims.{Claims}
 use Rattle.tword.specs.Touches.{byte_span, span_break}
-use Rattle.tword.specs.Actions.{Action, answer, breaks, touching_byte}
-use Rattle.tword.specs.Actions.{run}
+use Rattle.tword.specs.Actions.{Action, answer, breaks, touching_byte, run}
 use Rattle.tcode.specs.declared.instruction.Instruction.{Instruction}
 use Rattle.tcode.specs.Chains.{Chained, More, Last, chained, is_listed, instruction, longest}
 use Rattle.tcode.specs.Decoding.{complete, fetch, decode}

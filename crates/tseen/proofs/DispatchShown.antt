@@ -1,11 +1,13 @@
 -- A dispatch is seen as that the process goes on from its rest.
-use Rattle.std.proofs.Common.{◌≡◌, ◌≢◌, ℕ, zero, suc, ◌+◌, ◌<◌, ◌≤◌, ◌%◌, refl, sym, ap, subst, ◌∙◌, List, []}
-use Rattle.std.proofs.Common.{◌∷◌, Bool, true, false, true≢false, length, length-append, Contains, Option, Some}
-use Rattle.std.proofs.Common.{None, arith, ◌⊎◌, inl, inr, pos, cond}
-use Rattle.std.specs.Prelude.{◌==◌, IfSome, is_some, find, option_map, slice_index_or}
+use Rattle.std.proofs.Common.{◌≡◌, ◌≢◌, ℕ, zero, suc, ◌+◌, ◌<◌, ◌≤◌, ◌%◌, refl, sym, ap, subst, ◌∙◌, List, [], ◌∷◌}
+use Rattle.std.proofs.Common.{Bool, true, false, true≢false, length, length-append, Contains, Option, Some, None, arith}
+use Rattle.std.proofs.Common.{◌⊎◌, inl, inr, pos, cond, map, ◌++◌}
+use Rattle.std.specs.Prelude.{◌==◌, IfSome, is_some, find, option_map, option_to_list, slice_index_or}
+use Rattle.std.specs.List.{sum_by}
+use Rattle.std.proofs.lemmas.Option.{IfSome_then}
 use Rattle.std.proofs.lemmas.Bool.{eq-eqb, eqb-true}
 use Rattle.std.proofs.lemmas.List.Elements.{All-contains}
-use Rattle.std.proofs.lemmas.List.Sums.{sum_by-append}
+use Rattle.std.proofs.lemmas.List.Sums.{sum_by-append, sum_by-cons}
 use Rattle.tword.specs.Words.{word_below}
 use Rattle.tword.specs.Stores.{Store, word_at}
 use Rattle.tproc.specs.declared.offer.Offer.{Offer}
@@ -45,17 +47,17 @@ use Rattle.tseen.proofs.TakenBack.{takes_back_then}
 use Rattle.tseen.proofs.Cells.{use_of, shows_from}
 use Rattle.tseen.proofs.Finished.{stands_then, is_stand_of, one_name, place_itself}
 use Rattle.tseen.proofs.Nets.{chosen, leads_by}
-use Rattle.tseen.proofs.Running.{whole_memory, told, flags_are}
-use Rattle.tseen.proofs.Counted.{count_at, live_is, live_idle, lives_are, waits_descheduled, queued_descheduled}
+use Rattle.tseen.proofs.Running.{whole_memory, told}
+use Rattle.tseen.proofs.Counted.{count_at, beside, live_beside, live_idle, waits_descheduled, queued_descheduled}
 use Rattle.tseen.proofs.Saving.{below, other_number, no_word, IsUnsaved, unsave_then}
 use Rattle.tseen.proofs.Staying.{saved_words_alike, marks_from, channels_stay, half_asking_stays, used_one, used_two}
-use Rattle.tseen.proofs.Others.{queued_seated, waiting_seated}
-use Rattle.tseen.proofs.TakenBack.{is_sending_of, is_output_of, sent_back, emptied, without_output, taken_back_sendings}
+use Rattle.tseen.proofs.Others.{queued_seated, waiting_seated, interrupted_seated}
+use Rattle.tseen.proofs.TakenBack.{is_sending_of, is_output_of, sent_back, emptied, without_output}
+use Rattle.tseen.proofs.TakenBack.{taken_back_sendings}
 use Rattle.tseen.proofs.Written.{is_word_of}
 use Rattle.tseen.proofs.Resumed.{numbers_apart, unsaved_stays, used_then, tells_then}
 use Rattle.tseen.proofs.Dispatching.{shown_next, pop, still_there, other_workspace, other_below, own_words, IsResting}
-use Rattle.tseen.proofs.Dispatching.{rests_there, none, now, stepped, hidden_now, AreResumed, stays, not_lent}
-use Rattle.tseen.proofs.Dispatching.{word_then}
+use Rattle.tseen.proofs.Dispatching.{rests_there, now, stepped, hidden_now, AreResumed, stays, not_lent, word_then}
 use Rattle.tseen.proofs.Dispatching.{others_stay, same_workspace, same_priority, aligned, w, w_space, w_small}
 
 -- names where a process runs now
@@ -90,7 +92,7 @@ still_sent (Some t) sent l q h = by (t.link == l) refl h
         same e = cc
 
 -- who waits for something is found
-found_waiting : (ws : List Waiter) (p : ℕ) (r : Reason) → Contains ws (record { process = p; reason = r })
+pub found_waiting : (ws : List Waiter) (p : ℕ) (r : Reason) → Contains ws (record { process = p; reason = r })
     → is_some (option_map (λ z. z.reason) (find (λ z. z.process == p) ws)) ≡ true
 found_waiting [] p r h = absurd (omega (arith, h.1))
 found_waiting (x ∷ xs) p r (zero, b, e) =
@@ -151,7 +153,7 @@ module _ (p : Plan) (c : Configuration) (s : State) (n : ℕ) (x : Name) (k : Is
   stay q e f g h = stays p c s n x k d v v2 s' a q e f (not_lent p c s n x k d v v2 s' a d.lent q g) h
 
   abbrev whole : k.plan.memory % 4 ≡ 0
-  whole = whole_memory s n k.plan named sent k.node shown k.steady k.alone
+  whole = whole_memory s n k.plan named sent k.node shown k.steady
 
   one : use_of s n (below (w p c s n x k) 1) ≡ Saved
   one = used_one s n (w p c s n x k) (own_words p c s n x k)
@@ -272,6 +274,7 @@ module _ (p : Plan) (c : Configuration) (s : State) (n : ℕ) (x : Name) (k : Is
             (no_word n (w p c s n x k) (LinkHalf (end_at n l) Output) refl) ∙ old.output)
             ∙ emptied_is site d.lent sent l;
         offered = λ o e. offered o (sym (ap (λ (e : LinkEnd). e.output) (same_link l)) ∙ e);
+        fresh = λ e. old.fresh (sym (ap (λ (e : LinkEnd). e.output) (same_link l)) ∙ e);
         forgotten = ap (λ (e : LinkEnd). e.remembered) (same_link l) ∙ old.forgotten;
         pending = λ q e f. (let o = old.pending q (still_sent d.lent sent l q e).0 f in
             (o.0, ap (λ (e : LinkEnd). e.output) (same_link l) ∙ o.1));
@@ -338,8 +341,17 @@ module _ (p : Plan) (c : Configuration) (s : State) (n : ℕ) (x : Name) (k : Is
             ∙ ap (λ q. s (HasRun n q)) (rested.saved.priority ∙ same_priority p c s n x k) ∙ rested.has_run;
       }
 
-  no_interrupted : after.control.interrupted ≡ None
-  no_interrupted = (pop p c s n x k).interrupted ∙ none p c s n x k
+  -- whoever was interrupted is so still
+  same_interrupted : after.control.interrupted ≡ m.interrupted
+  same_interrupted = (pop p c s n x k).interrupted
+
+  not_interrupted : is_some m.interrupted ≡ true → named Interrupted ≡ x → ⊥
+  not_interrupted h e =
+      let old : IsSeated s n k.node Interrupted (named Interrupted) = shown.processes.seated Interrupted h in
+      subst (Fits k.node Interrupted) (same_stand old.stand (named Interrupted) e old.stands) old.fits
+
+  was_interrupted : is_some after.control.interrupted ≡ true → is_some m.interrupted ≡ true
+  was_interrupted h = subst (λ (o : Option Suspended). is_some o ≡ true) same_interrupted h
 
   was_queued : (b : ℕ) → is_queued rest b ≡ true → is_queued m b ≡ true
   was_queued b h = (pop p c s n x k).were (workspace_of b) (priority_of b) (omega arith) h
@@ -353,8 +365,9 @@ module _ (p : Plan) (c : Configuration) (s : State) (n : ℕ) (x : Name) (k : Is
   seated : (q : Seat) → is_taken after.control q ≡ true → IsSeated s' n node' q (named' q)
   seated Current h = current_seated
   seated Interrupted h =
-      let f : false ≡ true = subst (λ (o : Option Suspended). is_some o ≡ true) no_interrupted h in
-      absurd (true≢false (sym f))
+      interrupted_seated n x s s' stand_stays run_stays k.node node' (named Interrupted)
+      (other_name (named Interrupted) (not_interrupted (was_interrupted h))) same_interrupted
+      (shown.processes.seated Interrupted (was_interrupted h))
   seated (Queued b) h =
       queued_seated n x s s' stand_stays run_stays k.node node' b (named (Queued b))
       (other_name (named (Queued b)) (not_queued b h (was_queued b h))) refl
@@ -385,9 +398,7 @@ module _ (p : Plan) (c : Configuration) (s : State) (n : ℕ) (x : Name) (k : Is
           let f : false ≡ true = subst (λ (o : Option ℕ). is_some o ≡ true) k.idle taken in
           absurd (true≢false (sym f))
       of other (inr (Interrupted, taken, e)) =
-          let f : false ≡ true =
-          subst (λ (o : Option Suspended). is_some o ≡ true) (none p c s n x k) taken in
-          absurd (true≢false (sym f))
+          inr (Interrupted, subst (λ (o : Option Suspended). is_some o ≡ true) (sym same_interrupted) taken, e)
       of other (inr (Queued b, taken, e)) =
           queued b e other ((pop p c s n x k).still (workspace_of b) (priority_of b) (omega arith) taken)
       of other (inr (Waiting b, taken, e)) =
@@ -397,29 +408,41 @@ module _ (p : Plan) (c : Configuration) (s : State) (n : ℕ) (x : Name) (k : Is
       by true e = inr (Current, refl, one_name p x y e)
       by false e = of e (shown.processes.there y h)
 
-  aligned_after : after.control.registers.wptr % 4 ≡ 0
-  aligned_after = aligned p c s n x k
+  same_beside : beside after.control ≡ beside m
+  same_beside =
+      ap (λ (o : Option Suspended). map workspace_of (option_to_list (option_map (λ t. t.registers.wptr + 1) o)))
+      same_interrupted
+
+  own_workspace : workspace_of (w p c s n x k + level) ≡ w p c s n x k
+  own_workspace = omega (arith, aligned p c s n x k, (pop p c s n x k).small)
 
   lives : (b : ℕ) → s' (Life n b) ≡ IsAmount (pos (count_at b (live after.control)))
   lives b =
       stay (Life n b) refl refl (λ j. refl) refl ∙ shown.processes.lives b
       ∙ ap (λ z. IsAmount (pos z))
-      (ap (count_at b) (live_idle m k.idle (none p c s n x k) ∙ (pop p c s n x k).first) ∙ turned
-      ∙ sym (lives_are after.control level b refl no_interrupted aligned_after (pop p c s n x k).small))
+      (ap (count_at b) (live_idle m k.idle ∙ ap (λ (ws : List ℕ). ws ++ others) (pop p c s n x k).first)
+      ∙ sum_by-append f (w p c s n x k ∷ descheduled rest) others
+      ∙ ap (λ z. z + sum_by f others) (sum_by-cons f (w p c s n x k) (descheduled rest))
+      ∙ sym (ap (count_at b) (live_beside after.control level refl)
+      ∙ sum_by-append f (descheduled rest) (workspace_of (w p c s n x k + level) ∷ beside after.control)
+      ∙ ap (λ z. sum_by f (descheduled rest) + z) (sum_by-cons f (workspace_of (w p c s n x k + level))
+      (beside after.control)
+      ∙ ap (λ z. f z + sum_by f (beside after.control)) own_workspace
+      ∙ ap (λ z. f (w p c s n x k) + sum_by f z) same_beside) ∙ omega arith))
     where
       f : ℕ → ℕ
       f z = cond (z == b) 1 0
 
-      turned : count_at b (w p c s n x k ∷ descheduled rest)
-          ≡ count_at b (descheduled rest) + cond (w p c s n x k == b) 1 0
-      turned = sum_by-append f (w p c s n x k ∷ []) (descheduled rest) ∙ omega arith
+      others : List ℕ
+      others = beside m
 
   many : length (live after.control) ≡ length (live m)
   many =
-      ap length (live_is after.control level refl no_interrupted)
-      ∙ length-append (descheduled rest) (workspace_of (w p c s n x k + level) ∷ [])
-      ∙ omega arith
-      ∙ sym (ap length (live_idle m k.idle (none p c s n x k) ∙ (pop p c s n x k).first))
+      ap length (live_beside after.control level refl)
+      ∙ length-append (descheduled rest) (workspace_of (w p c s n x k + level) ∷ beside after.control)
+      ∙ ap (λ (ws : List ℕ). length (descheduled rest) + suc (length ws)) same_beside
+      ∙ sym (ap length (live_idle m k.idle ∙ ap (λ (ws : List ℕ). ws ++ beside m) (pop p c s n x k).first)
+      ∙ length-append (w p c s n x k ∷ descheduled rest) (beside m) ∙ omega arith)
 
   processes_after : ShowsProcesses s' n named' sent' node'
   processes_after =
@@ -435,14 +458,23 @@ module _ (p : Plan) (c : Configuration) (s : State) (n : ℕ) (x : Name) (k : Is
           subst (λ z. z ≤ shown.processes.population.0) (sym many) shown.processes.population.2,
         );
         interrupting = subst (λ (o : Option Suspended). IfSome o (λ t. s' (HasRun n 0) ≡ IsFlag true))
-            (sym no_interrupted) tt;
+            (sym same_interrupted)
+            (IfSome_then m.interrupted shown.processes.interrupting (λ t e. run_stays 0 ∙ e));
         flags = λ h. flags_after;
         kept_flags = λ h. subst (λ (o : Option Suspended). IfSome o (λ t. HasFlags s' n t.registers))
-            (sym no_interrupted) tt;
+            (sym same_interrupted)
+            (IfSome_then m.interrupted (shown.processes.kept_flags k.kept) (λ t e. flags_stay t.registers e));
       }
     where
       flags_before : HasFlags s n m.registers
-      flags_before = flags_are s n k.plan named sent k.node shown k.steady k.alone
+      flags_before = shown.processes.flags k.kept
+
+      flags_stay : (r : Registers) → HasFlags s n r → HasFlags s' n r
+      flags_stay r f =
+          record {
+            error = stay (Error n) refl refl (λ j. refl) refl ∙ f.error;
+            halting = stay (HaltOnError n) refl refl (λ j. refl) refl ∙ f.halting;
+          }
 
       flags_after : HasFlags s' n after.control.registers
       flags_after =
@@ -531,7 +563,7 @@ module _ (p : Plan) (c : Configuration) (s : State) (n : ℕ) (x : Name) (k : Is
         kind = (pop p c s n x k).kind ∙ shown.kind;
         store = shows_from s' n k.plan.memory store
             (tells_then site whole (w p c s n x k) s v a.freed one two s' k.plan.memory store
-            (word_then p c s n x k d v v2 s' a) (told s n k.plan named sent k.node shown k.steady k.alone));
+            (word_then p c s n x k d v v2 s' a) (told s n k.plan named sent k.node shown k.steady));
         marks = marks_after;
         channels = channels_stay s s' n named named' k.node.machine after (λ b. refl)
             (λ j e. ap (λ (z : Value). (word_in z).used) (unsaved j (not_free e)) ∙ e)
@@ -550,7 +582,7 @@ module _ (p : Plan) (c : Configuration) (s : State) (n : ℕ) (x : Name) (k : Is
 abbrev memory_whole : (p : Plan) (c : Configuration) (s : State) (n : ℕ) (x : Name) (k : IsNext p c s n x)
     → k.plan.memory % 4 ≡ 0
 memory_whole p c s n x k =
-    whole_memory s n k.plan (k.shows.named n) (k.shows.sent n) k.node (shown_next p c s n x k) k.steady k.alone
+    whole_memory s n k.plan (k.shows.named n) (k.shows.sent n) k.node (shown_next p c s n x k) k.steady
 
 -- dispatches are seen
 pub dispatches_are_seen : DispatchesAreSeen

@@ -1,13 +1,13 @@
 -- What a processor does that dispatches a process.
-use Rattle.std.proofs.Common.{◌≡◌, ℕ, zero, suc, ◌+◌, ◌<◌, refl, sym, ap, ◌∙◌, List, [], ◌∷◌}
-use Rattle.std.proofs.Common.{true, false, Ok, Some, None, arith, ◌⊎◌}
-use Rattle.std.proofs.Common.{inl, inr}
+use Rattle.std.proofs.Common.{◌≡◌, ℕ, zero, suc, ◌+◌, ◌<◌, refl, sym, ap, ◌∙◌, List, [], ◌∷◌, true, false, Ok, Option}
+use Rattle.std.proofs.Common.{Some, None, arith, ◌⊎◌, inl, inr}
 use Rattle.std.specs.Prelude.{◌==◌}
 use Rattle.std.proofs.lemmas.Bool.{eq-eqb, eqb-true, or_left, or_right, or_cases}
 use Rattle.tword.specs.Words.{word_below}
 use Rattle.tword.specs.Stores.{Store, word_at}
 use Rattle.tword.specs.Claims.{Claims, has_saved}
 use Rattle.tproc.specs.declared.ran.Ran.TheVariants as ran
+use Rattle.tproc.specs.declared.waiter.Suspended.{Suspended}
 use Rattle.tproc.specs.Machine.{Control, claims_of, descheduled}
 use Rattle.tproc.specs.ProcessStatus.{queue, is_among}
 use Rattle.tproc.specs.Steps.{step, acted, control_step, dispatched}
@@ -42,7 +42,7 @@ pub record IsPopped (m : Control) (process : ℕ) : Type 0 where
   pub links : rest.links ≡ m.links
   pub kind : rest.kind ≡ m.kind
   pub halted : rest.halted ≡ m.halted
-  pub steps : (store : Store) → m.halted ≡ false → m.current ≡ None → m.interrupted ≡ None
+  pub steps : (store : Store) → m.halted ≡ false → m.current ≡ None
       → has_saved (claims_of m) workspace ≡ true
       → step (record { control = m; store = store })
       ≡ Ok (
@@ -142,7 +142,7 @@ module _ (m : Control) (process : ℕ) where
       were v zero l h = rw e (or_right (w == v) (is_among v ws) h)
       were v (suc q) l h = h
 
-      steps : (store : Store) → m.halted ≡ false → m.current ≡ None → m.interrupted ≡ None
+      steps : (store : Store) → m.halted ≡ false → m.current ≡ None
           → has_saved (claims_of m) w ≡ true
           → step (record { control = m; store = store })
           ≡ Ok (
@@ -152,10 +152,11 @@ module _ (m : Control) (process : ℕ) where
             },
             ran.Dispatch,
           )
-      steps store a b c h = high_step w ws e store a b h
+      steps store a b h = high_step w ws e store a b h
 
-  low_popped : (w : ℕ) (ws : List ℕ) → m.high ≡ [] → m.low ≡ w ∷ ws → process ≡ w + 1 → IsPopped m process
-  low_popped w ws none e f =
+  low_popped : (w : ℕ) (ws : List ℕ) → m.interrupted ≡ None → m.high ≡ [] → m.low ≡ w ∷ ws → process ≡ w + 1
+      → IsPopped m process
+  low_popped w ws alone none e f =
       record {
         level = 1;
         small = omega arith;
@@ -188,7 +189,7 @@ module _ (m : Control) (process : ℕ) where
       were v zero l h = h
       were v (suc q) l h = rw e (or_right (w == v) (is_among v ws) h)
 
-      steps : (store : Store) → m.halted ≡ false → m.current ≡ None → m.interrupted ≡ None
+      steps : (store : Store) → m.halted ≡ false → m.current ≡ None
           → has_saved (claims_of m) w ≡ true
           → step (record { control = m; store = store })
           ≡ Ok (
@@ -198,19 +199,17 @@ module _ (m : Control) (process : ℕ) where
             },
             ran.Dispatch,
           )
-      steps store a b c h = low_step w ws none e store a b c h
+      steps store a b h = low_step w ws none e store a b alone h
 
-  pub popped : next_queued m.high m.low ≡ Some process → IsPopped m process
-  popped h = by m.high refl m.low refl h
+  pub popped : next_queued m.interrupted m.high m.low ≡ Some process → IsPopped m process
+  popped h = by m.interrupted refl m.high refl m.low refl h
     where
-      by : (high : List ℕ) → m.high ≡ high → (low : List ℕ) → m.low ≡ low → next_queued high low ≡ Some process
-          → IsPopped m process
-      by (w ∷ ws) e low f g = high_popped w ws e (same (sym g))
-        where
-          same : {a b : ℕ} → Some a ≡ Some b → a ≡ b
-          same e = cc
-      by [] e (w ∷ ws) f g = low_popped w ws e f (same (sym g))
-        where
-          same : {a b : ℕ} → Some a ≡ Some b → a ≡ b
-          same e = cc
-      by [] e [] f g = cc
+      same : {a b : ℕ} → Some a ≡ Some b → a ≡ b
+      same e = cc
+
+      by : (t : Option Suspended) → m.interrupted ≡ t → (high : List ℕ) → m.high ≡ high → (low : List ℕ)
+          → m.low ≡ low → next_queued t high low ≡ Some process → IsPopped m process
+      by t i (w ∷ ws) e low f g = high_popped w ws e (same (sym g))
+      by None i [] e (w ∷ ws) f g = low_popped w ws i e f (same (sym g))
+      by None i [] e [] f g = cc
+      by (Some t) i [] e low f g = cc

@@ -1,7 +1,6 @@
 -- A dispatch is seen as that the process goes on from its rest: what is known before it, and what its step leaves.
-use Rattle.std.proofs.Common.{◌≡◌, ◌≢◌, ℕ, suc, ◌<◌, ◌≤◌, ◌%◌, ◌^◌, refl, sym, ap, subst, ◌∙◌, List}
-use Rattle.std.proofs.Common.{true, false, true≢false, length, Contains, AllPairs, Ok, Option, Some, None, arith}
-use Rattle.std.proofs.Common.{map}
+use Rattle.std.proofs.Common.{◌≡◌, ◌≢◌, ℕ, suc, ◌<◌, ◌≤◌, ◌%◌, ◌^◌, refl, sym, ap, subst, ◌∙◌, List, true, false}
+use Rattle.std.proofs.Common.{length, Contains, AllPairs, Ok, Option, Some, None, arith, map}
 use Rattle.std.specs.Prelude.{◌==◌, IfSome, option_map}
 use Rattle.std.proofs.lemmas.Bool.{eqb-true, ne_eqb}
 use Rattle.std.proofs.lemmas.List.Elements.{All-contains}
@@ -11,7 +10,6 @@ use Rattle.tword.specs.Claims.{is_input, overlap, saved_words}
 use Rattle.tword.specs.Touches.{byte_span}
 use Rattle.tproc.specs.declared.channels.Side.TheVariants.{Input, Output}
 use Rattle.tproc.specs.declared.ran.Ran.TheVariants as ran
-use Rattle.tproc.specs.declared.waiter.Suspended.{Suspended}
 use Rattle.tproc.specs.declared.waiter.LinkEnd.{LinkEnd}
 use Rattle.tproc.specs.Machine.{Control, Machine, claims_of, descheduled, workspace_of, priority_of, buffer_of}
 use Rattle.tproc.specs.Hidden.{hidden}
@@ -20,14 +18,12 @@ use Rattle.tproc.specs.Placement.{IsWord, IsWorkspace, IsPlaced}
 use Rattle.tproc.specs.Steps.{step}
 use Rattle.tplan.specs.declared.plan.Plan.{Plan}
 use Rattle.tnet.specs.Rendezvous.{Node, Configuration}
-use Rattle.tprocesses.specs.Places.{Place, Name, WordAt, Sending, Standing, LinkHalf}
-use Rattle.tprocesses.specs.Places.{HasRun}
-use Rattle.tprocesses.specs.Values.{Context, Lent, Stand, Absent, Rests, Runs, Waits, Ended}
-use Rattle.tprocesses.specs.Values.{IsStand, IsFlag}
+use Rattle.tprocesses.specs.Places.{Place, Name, WordAt, Sending, Standing, LinkHalf, HasRun}
+use Rattle.tprocesses.specs.Values.{Context, Lent, Stand, Absent, Rests, Runs, Waits, Ended, IsStand, IsFlag}
 use Rattle.tprocesses.specs.Touching.{Site}
 use Rattle.tprocesses.specs.Machine.{site_of}
-use Rattle.tseen.specs.Known.{HasRegisters, HasSaved}
-use Rattle.tseen.specs.Seats.{Interrupted, Queued, is_taken}
+use Rattle.tseen.specs.Known.{HasSaved}
+use Rattle.tseen.specs.Seats.{Queued, is_taken}
 use Rattle.tseen.specs.Words.{AreSavedWords}
 use Rattle.tseen.specs.Processes.{Fits, IsSeated, context_in}
 use Rattle.tseen.specs.Shown.{ShowsNode}
@@ -153,44 +149,12 @@ module _ (p : Plan) (c : Configuration) (s : State) (n : ℕ) (x : Name) (k : Is
       with_seat : IsSeated s n k.node (Queued k.process) (k.shows.named n (Queued k.process)) → IsResting
       with_seat q = by_stand q q.stand q.stands q.fits q.has_run
 
-  -- no process was interrupted
-  pub none : m.interrupted ≡ None
-  none = by m.interrupted refl
-    where
-      not_both : s (HasRun n 0) ≡ IsFlag true → s (HasRun n 1) ≡ IsFlag true → ⊥
-      not_both a b = let h : true ≡ false = rw (a, b) at k.alone in true≢false h
-
-      low_ran : (t : Suspended) → m.interrupted ≡ Some t → s (HasRun n 1) ≡ IsFlag true
-      low_ran t e = with_seat (shown_next.processes.seated Interrupted (rw e refl))
-        where
-          by_stand : (stand : Stand) → Fits k.node Interrupted stand
-              → IfSome (context_in stand) (λ d. s (HasRun n d.priority) ≡ IsFlag true) → s (HasRun n 1) ≡ IsFlag true
-          by_stand (Runs d) f h =
-              let g : HasRegisters 1 t.registers d =
-              subst (λ (o : Option Suspended). IfSome o (λ t. HasRegisters 1 t.registers d)) e f in
-              ap (λ q. s (HasRun n q)) (sym g.priority) ∙ h
-          by_stand Absent f h = absurd f
-          by_stand (Rests d) f h = absurd f
-          by_stand (Waits d) f h = absurd f
-          by_stand Ended f h = absurd f
-
-          with_seat : IsSeated s n k.node Interrupted (k.shows.named n Interrupted) → s (HasRun n 1) ≡ IsFlag true
-          with_seat q = by_stand q.stand q.fits q.has_run
-
-      by : (o : Option Suspended) → m.interrupted ≡ o → m.interrupted ≡ None
-      by None e = e
-      by (Some t) e =
-          let high : s (HasRun n 0) ≡ IsFlag true =
-          subst (λ (o : Option Suspended). IfSome o (λ t. s (HasRun n 0) ≡ IsFlag true)) e
-          shown_next.processes.interrupting in
-          absurd (not_both high (low_ran t e))
-
   -- the machine after the step
   abbrev pub now : Machine
   now = record { control = begun pop.rest w pop.level (word_at store (word_below w 1)); store = store }
 
   pub stepped : step k.node.machine ≡ Ok (now, ran.Dispatch)
-  stepped = pop.steps store shown_next.runs_on k.idle none (among (descheduled m) w w_there)
+  stepped = pop.steps store shown_next.runs_on k.idle (among (descheduled m) w w_there)
 
   -- pending inputs stay hidden
   pub hidden_now : hidden now ≡ now
@@ -203,8 +167,8 @@ module _ (p : Plan) (c : Configuration) (s : State) (n : ℕ) (x : Name) (k : Is
 
   -- the states of the step: words freed, an output taken back, and where the process stands
   pub record AreResumed (d : Context) (v v2 s' : State) : Type 0 where
-    pub freed : IsUnsaved site (whole_memory s n k.plan (k.shows.named n) (k.shows.sent n) k.node shown_next k.steady
-        k.alone) s v w
+    pub freed : IsUnsaved site (whole_memory s n k.plan (k.shows.named n) (k.shows.sent n) k.node shown_next k.steady)
+        s v w
     pub back : IsTakenBack site d.lent v v2
     pub runs : StandsNow site x (Runs (record d { lent = None })) v2 s'
 

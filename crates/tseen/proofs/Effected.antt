@@ -20,8 +20,7 @@ use Rattle.tprocesses.specs.Instructions.{Flags, registers, context_after}
 use Rattle.tprocesses.specs.Touching.{Site}
 use Rattle.tprocesses.specs.Performing.{Performed, perform}
 use Rattle.tprocesses.specs.Uses.{Uses, uses_of, has_needed, known_writes}
-use Rattle.tprocesses.specs.Depending.{with_flags, DoAlike, AreAlike, EndsByFlags}
-use Rattle.tprocesses.specs.Depending.{DoesByFlags}
+use Rattle.tprocesses.specs.Depending.{with_flags, DoAlike, AreAlike, EndsByFlags, DoesByFlags}
 use Rattle.tprocesses.proofs.Depended.{uses_are_told}
 use Rattle.tseen.specs.Known.{HasRegisters}
 use Rattle.tseen.proofs.After.{State, After, after_weaken, after_both}

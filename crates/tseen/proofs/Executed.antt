@@ -1,6 +1,5 @@
 -- The instruction of a process, with the flags as they are.
-use Rattle.std.proofs.Common.{◌≡◌, ℕ, ◌%◌, refl, sym, ap, subst, ◌∙◌, Bool, true, false, ◌||◌, Result, Ok}
-use Rattle.std.proofs.Common.{unwrap_or}
+use Rattle.std.proofs.Common.{◌≡◌, ℕ, ◌%◌, refl, sym, ap, subst, ◌∙◌, Bool, true, false, ◌||◌, Result, Ok, unwrap_or}
 use Rattle.std.specs.Prelude.{if◌then◌else◌}
 use Rattle.tword.specs.Stores.{Store}
 use Rattle.tword.specs.Claims.{Claims}
@@ -14,7 +13,8 @@ use Rattle.tcpu.specs.Effects.{effect}
 use Rattle.tprocesses.specs.Places.{Name, HaltOnError}
 use Rattle.tprocesses.specs.Values.{Context, Value, flag_in}
 use Rattle.tprocesses.specs.Parts.{require, SawTheScheduler, ◌>>=◌}
-use Rattle.tprocesses.specs.Instructions.{Flags, registers, has_flags, flags_before, context_after, completed, executed}
+use Rattle.tprocesses.specs.Instructions.{Flags, registers, has_flags, flags_before, context_after, completed}
+use Rattle.tprocesses.specs.Instructions.{executed}
 use Rattle.tprocesses.specs.Touching.{Site}
 use Rattle.tprocesses.specs.Performing.{Performed, perform}
 use Rattle.tprocesses.specs.Uses.{Uses, uses_of, has_needed, known_writes}

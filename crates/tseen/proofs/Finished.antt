@@ -1,10 +1,11 @@
 -- How a step of a process ends: flags, workspaces that change, and where the process stands.
-use Rattle.std.proofs.Common.{◌≡◌, ℕ, refl, sym, ap, subst, ◌∙◌, Bool, true, false, true≢false, not}
+use Rattle.std.proofs.Common.{◌≡◌, ℕ, refl, sym, ap, subst, ◌∙◌, Bool, true, false, true≢false, not, ◌⊎◌, inl}
 use Rattle.std.specs.Prelude.{◌==◌, pos, negsuc, if◌then◌else◌}
 use Rattle.std.proofs.lemmas.Bool.{eq-eqb}
 use Rattle.tplan.specs.declared.plan.Plan.{Plan}
 use Rattle.tprocesses.specs.Places.{Place, Name, WordAt, Sending, Standing, Half, LinkHalf, Error, HaltOnError, Life}
-use Rattle.tprocesses.specs.Places.{Successions, Messages, Kept, Population, HasRun, FlagChanged, same_name, same_place}
+use Rattle.tprocesses.specs.Places.{Successions, Messages, Kept, Population, HasRun, FlagChanged, same_name}
+use Rattle.tprocesses.specs.Places.{same_place}
 use Rattle.tprocesses.specs.Values.{Value, Context, Stand, Runs, IsStand, IsFlag, flag_in}
 use Rattle.tprocesses.specs.Changes.{Put, Add, Raise, apply}
 use Rattle.tprocesses.specs.Parts.{Halts, require, change, done, ◌>>=◌, ◌>>◌}
@@ -46,11 +47,22 @@ pub one_name : Plan → (x y : Name) → same_name x y ≡ true → x ≡ y
 unfolding name_in
 one_name p x y h = ap (name_in x) ((process_machine_is_tidy p).told.is_same_place (Standing x) (Standing y) h)
 
+-- a change of a flag was noted, or none was changed
+abbrev pub IsNoted : ℕ → State → State → Type 0
+IsNoted n s t =
+    (flag_in (t (FlagChanged n)) ≡ true) ⊎ ((t (Error n) ≡ s (Error n)) × (t (HaltOnError n) ≡ s (HaltOnError n)))
+
+flag_raised : (v : Value) → flag_in (apply Raise v) ≡ true
+flag_raised (IsFlag b) = refl
+flag_raised _ = refl
+
 -- the flags are these now, and all else is as it was
 pub record IsFlagged (n : ℕ) (e h : Bool) (s t : State) : Type 0 where
   pub error : t (Error n) ≡ IsFlag e
   pub halting : t (HaltOnError n) ≡ IsFlag h
   pub others : (q : Place) → is_flag_of n q ≡ false → t q ≡ s q
+  -- if they are others than before, it is noted
+  pub noted : IsNoted n s t
 
 same_flag : (a b : Bool) → is_same_flag a b ≡ true → a ≡ b
 same_flag true true h = refl
@@ -69,6 +81,9 @@ module _ (site : Site) where
     where
       put : State
       put = changed (FlagChanged n) Raise (changed (Error n) (Put (IsFlag new)) t)
+
+      noted : flag_in (put (FlagChanged n)) ≡ true
+      noted = rw (eq-eqb n n refl) (flag_raised (t (FlagChanged n)))
 
       others : (q : Place) → is_flag_of n q ≡ false → put q ≡ s q
       others (Error m) e = rw e (f.others (Error m) e)
@@ -92,7 +107,13 @@ module _ (site : Site) where
             change (FlagChanged site.number) Raise)) t Q
       by true e =
           k t (subst (λ b. IsFlagged n b h s t) (same_flag old new e) f)
-      by false e = k put (record { error = rw (eq-eqb n n refl) refl; halting = f.halting; others = others })
+      by false e =
+          k put (record {
+            error = rw (eq-eqb n n refl) refl;
+            halting = f.halting;
+            others = others;
+            noted = inl noted;
+          })
 
   -- HaltOnError is
   pub sets_halting_then : (e old new : Bool) (s t : State) (Q : Unit {0} → State → Type 0) → IsFlagged n e old s t
@@ -101,6 +122,9 @@ module _ (site : Site) where
     where
       put : State
       put = changed (FlagChanged n) Raise (changed (HaltOnError n) (Put (IsFlag new)) t)
+
+      noted : flag_in (put (FlagChanged n)) ≡ true
+      noted = rw (eq-eqb n n refl) (flag_raised (t (FlagChanged n)))
 
       others : (q : Place) → is_flag_of n q ≡ false → put q ≡ s q
       others (HaltOnError m) e = rw e (f.others (HaltOnError m) e)
@@ -124,7 +148,13 @@ module _ (site : Site) where
             change (FlagChanged site.number) Raise)) t Q
       by true d =
           k t (subst (λ b. IsFlagged n e b s t) (same_flag old new d) f)
-      by false d = k put (record { error = f.error; halting = rw (eq-eqb n n refl) refl; others = others })
+      by false d =
+          k put (record {
+            error = f.error;
+            halting = rw (eq-eqb n n refl) refl;
+            others = others;
+            noted = inl noted;
+          })
 
   -- what becomes of a count of lives where a process has another workspace
   abbrev pub moved : (old new w : ℕ) → Value → Value
@@ -185,6 +215,9 @@ module _ (site : Site) where
       put : State
       put = changed (FlagChanged n) Raise (changed (Error n) Raise t)
 
+      noted : flag_in (put (FlagChanged n)) ≡ true
+      noted = rw (eq-eqb n n refl) (flag_raised (t (FlagChanged n)))
+
       is_low : (b : Bool) → not b ≡ true → b ≡ false
       is_low false l = refl
       is_low true l = absurd (true≢false (sym l))
@@ -211,4 +244,5 @@ module _ (site : Site) where
             error = rw (eq-eqb n n refl) (ap (apply Raise) f.error);
             halting = f.halting ∙ ap IsFlag low;
             others = others;
+            noted = inl noted;
           }

@@ -1,6 +1,6 @@
 -- Instructions that are done, and jumps after which the process runs on.
 use Rattle.std.proofs.Common.{◌≡◌, ◌≢◌, ℕ, refl, sym, subst, ◌∙◌, List, [], ◌∷◌, Bool, true, false}
-use Rattle.std.proofs.Common.{true≢false, length, Ok, Option, Some, None, arith}
+use Rattle.std.proofs.Common.{true≢false, length, Ok, Option, Some, None, arith, inr}
 use Rattle.std.specs.Prelude.{◌&&◌, ◌||◌, nat_le, nat_lt, slice_get}
 use Rattle.std.proofs.lemmas.Bool.{lt-ltb, or_parts}
 use Rattle.tword.specs.Stores.{Store}
@@ -118,7 +118,7 @@ high_jumps_are_seen p c s s' n x k next high makes =
     runs_on length r next store' e = rw (e, level) refl
 
 -- a low process that does not yield at a jump runs on
-runs_on_low : (size : ℕ) (m : Control) (r : Registers) (old new : Store) (claims : Claims) → yields m ≡ false
+pub runs_on_low : (size : ℕ) (m : Control) (r : Registers) (old new : Store) (claims : Claims) → yields m ≡ false
     → (count : ℕ) × (run_from (after size 1 m r Jumped) old claims new
     ≡ Ok ((record m { registers = r; count = count }, ran.Instruction), new))
 runs_on_low size m r old new claims h =
@@ -203,6 +203,10 @@ module _ (p : Plan) (c : Configuration) (s : State) (n : ℕ) (x : Name) (k : Is
           error = passes (Error n) refl refl ∙ a.moved_on.others (Error n) refl ∙ a.flagged.error;
           halting = passes (HaltOnError n) refl refl ∙ a.moved_on.others (HaltOnError n) refl ∙ a.flagged.halting;
           others = λ q h. others q (or_parts _ _ h) (is_word_of n q) refl;
+          noted = inr (
+            passes (Error n) refl refl ∙ a.moved_on.others (Error n) refl,
+            passes (HaltOnError n) refl refl ∙ a.moved_on.others (HaltOnError n) refl,
+          );
         }
       where
         others : (q : Place) → ((is_flag_of n q || is_life_of n q) ≡ false) × (is_stand_of x q ≡ false) → (b : Bool)

@@ -63,13 +63,99 @@ mod Resumed
 mod Dispatching
 mod DispatchShown
 mod Scheduled
+mod Leaving
 mod Stopping
 mod Stops
+-- processes that end together, and their successor
+mod Coming
+mod Arriving
+mod Ends
+mod Ended
+mod Succeeding
 mod Steady
 mod Begins
+-- operations that begin a process
+mod Joined
+mod Linking
+mod BegunWords
+mod BegunShown
+mod Beginnings
+-- own steps that break no rule
+mod Freezing
+-- processes of both priorities
+mod Resumptions
+mod Interruptions
+-- what only grows
+mod Tame
+mod Grown
 mod SteadySteps
 mod SteadyOpening
 mod SteadyRuns
 mod Notices
-mod NoticeWires
+mod WireEnds
 mod SourceWakes
+-- nets at rest
+mod Resting
+mod RestLinks
+mod Certified
+-- messages on internal channels
+mod AtOperation
+mod HalfTaken
+mod Asked
+mod Claimed
+mod Reasons
+mod Taken
+mod SetUnknown
+mod TakenWords
+mod FirstWords
+mod Renamed
+mod FirstShown
+mod FirstHalves
+mod Meeting
+mod Exchanged
+mod Partner
+mod MeetingWords
+mod Released
+mod MeetingShown
+mod Meetings
+-- a process that waits is queued
+mod Rejoined
+mod QueueLinks
+mod Receives
+mod Waiting
+mod Woken
+mod ChannelsKept
+-- messages on links
+mod Among
+mod EndRoles
+mod SavedThen
+mod Missing
+mod Wakes
+mod Sending
+mod Receiving
+mod NetScripts
+mod SourceSends
+mod SinkReceives
+mod Copies
+mod Mismatches
+-- all runs
+mod Due
+mod Reached
+mod DueNext
+mod DueWires
+mod Weights
+mod Handed
+mod Carrying
+mod NodesCounted
+mod ScriptsRest
+mod OwnInstructions
+mod OwnSteps
+mod AllSteps
+mod AllRuns
+-- operations on links
+mod LinkRuns
+mod Taking
+mod Asking
+mod LinkTaken
+mod TakenShown
+mod LinkOperations

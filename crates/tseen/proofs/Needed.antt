@@ -14,9 +14,8 @@ use Rattle.tcpu.specs.declared.registers.Registers.{Registers}
 use Rattle.tprocesses.specs.Values.{Context}
 use Rattle.tprocesses.specs.Instructions.{Flags, registers}
 use Rattle.tprocesses.specs.Uses.{Need, NeedsNone, NeedsA, NeedsAB, NeedsABC, Origin, Made, FromA, FromB, FromC}
-use Rattle.tprocesses.specs.Uses.{FromMemory}
-use Rattle.tprocesses.specs.Uses.{uses, drops_one, operation_uses, selected_uses, function_uses, uses_of, has_needed}
-use Rattle.tprocesses.specs.Uses.{is_known, known_value}
+use Rattle.tprocesses.specs.Uses.{FromMemory, uses, drops_one, operation_uses, selected_uses, function_uses, uses_of}
+use Rattle.tprocesses.specs.Uses.{has_needed, is_known, known_value}
 use Rattle.tprocesses.specs.Depending.{with_others, with_flags, AreAlike, AreBoth}
 use Rattle.tseen.specs.Known.{Knows, HasRegisters}
 use Rattle.tseen.proofs.Performed.{KnownAs}

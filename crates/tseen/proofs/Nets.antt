@@ -24,7 +24,7 @@ use Rattle.tseen.proofs.After.{State}
 use Rattle.tseen.proofs.Frames.{node_at, node_stays}
 
 -- a script stays shown
-source_stays : (s s' : State) (e : End) (node : Node) → s' (Messages e) ≡ s (Messages e) → ShowsSource s e node
+pub source_stays : (s s' : State) (e : End) (node : Node) → s' (Messages e) ≡ s (Messages e) → ShowsSource s e node
     → ShowsSource s' e node
 source_stays s s' e node same k =
     record {
@@ -32,12 +32,16 @@ source_stays s s' e node same k =
       over = k.over;
       rest = k.rest;
       role = k.role;
+      seen = k.seen;
       address = k.address;
+      above = k.above;
+      lies = k.lies;
       output = k.output;
+      input = k.input;
       messages = same ∙ k.messages;
     }
 
-sink_stays : (s s' : State) (e : End) (node : Node) → s' (Kept e) ≡ s (Kept e) → ShowsSink s e node
+pub sink_stays : (s s' : State) (e : End) (node : Node) → s' (Kept e) ≡ s (Kept e) → ShowsSink s e node
     → ShowsSink s' e node
 sink_stays s s' e node same k =
     record {
@@ -46,6 +50,9 @@ sink_stays s s' e node same k =
       role = k.role;
       room = k.room;
       input = k.input;
+      output = k.output;
+      alone = k.alone;
+      lies = k.lies;
       messages = k.messages;
       stands = same ∙ k.stands;
       knows = k.knows;
@@ -114,6 +121,11 @@ module _ (p : Plan) (c : Configuration) (s s' : State) (k : Shows p c s) (n : �
       elsewhere : (x : Name) → slice_get p.nodes x.node ≡ None → x.node ≡ n → ⊥
       elsewhere x none e =
           let f : ◌≡◌ {A = Option NodePlan} None (Some plan) = sym none ∙ ap (slice_get p.nodes) e ∙ planned in cc
+
+  -- with these names at the node
+  pub net_named : net_shown.named n ≡ named
+  unfolding net_shown
+  net_named = ap (λ t. chosen t named (k.named n)) (eq-eqb n n refl)
 
 -- what a step of a processor leaves is shown
 pub leads_by : (p : Plan) (c : Configuration) (s s' : State) (k : Shows p c s) (n : ℕ) (plan : NodePlan)

@@ -31,13 +31,13 @@ use Rattle.tseen.specs.Halves.{ShowsLink, half_asking}
 use Rattle.tseen.specs.Processes.{Fits, IsSeated, IsGone, ShowsProcesses}
 use Rattle.tseen.specs.Shown.{Shows, ShowsNode}
 use Rattle.tseen.specs.Steps.{IsSteady, AreSteady, NoticesAreSeen}
-use Rattle.tseen.proofs.NoticeWires.{wire_proper}
+use Rattle.tseen.proofs.WireEnds.{wire_proper}
 use Rattle.tseen.proofs.After.{State}
 use Rattle.tseen.proofs.Nets.{net_shown}
 use Rattle.tseen.proofs.Staying.{channels_stay}
 
 -- what a function tells of the links where it tells the same of one that is set
-alike : {X : Type 0} (f : LinkEnd → X) (ls : List LinkEnd) (l j : ℕ) (e : LinkEnd) → f e ≡ f (get_or ls l quiet_end)
+pub alike : {X : Type 0} (f : LinkEnd → X) (ls : List LinkEnd) (l j : ℕ) (e : LinkEnd) → f e ≡ f (get_or ls l quiet_end)
     → f (get_or (set ls l e) j quiet_end) ≡ f (get_or ls j quiet_end)
 alike f ls l j e h =
     sym (get_or-map f (set ls l e) j quiet_end) ∙ ap (λ xs. get_or xs j (f quiet_end)) (set_same f ls l e h)
@@ -86,6 +86,7 @@ module _ (s : State) (n : ℕ) (plan : NodePlan) (named : Seat → Name) (sent :
         input = h.input ∙ ap (λ (o : Option Offer). IsLink (half_asking named o)) (sym (input_is j));
         output = h.output;
         offered = λ o e. h.offered o (sym (output_is j) ∙ e);
+        fresh = λ e. h.fresh (sym (output_is j) ∙ e);
         forgotten = alike (λ (e : LinkEnd). e.remembered) m.control.links l j _ (sym forgotten) ∙ h.forgotten;
         pending = λ p e f. (let o = h.pending p e f in (o.0, output_is j ∙ o.1));
       }
@@ -165,6 +166,7 @@ module _ (s : State) (n : ℕ) (plan : NodePlan) (named : Seat → Name) (sent :
         marks = record {
           saved = k.marks.saved;
           inputs = λ j o e. k.marks.inputs j o (sym (input_is j) ∙ e);
+          inputs_apart = λ i a b o q e f. k.marks.inputs_apart i a b o q (sym (input_is a) ∙ e) (sym (input_is b) ∙ f);
           outputs = k.marks.outputs;
           no_successor = k.marks.no_successor;
         };

@@ -1,6 +1,7 @@
 -- The processes of a node before the first step.
 use Rattle.std.proofs.Common.{◌≡◌, ◌≢◌, ℕ, zero, suc, ◌<◌, refl, sym, ap, ◌∙◌, subst, List, [], ◌∷◌, ◌++◌}
-use Rattle.std.proofs.Common.{length, get_or, Bool, true, false, Option, Some, None, ◌⊎◌, inl, inr, arith, IfSome, ◌==◌}
+use Rattle.std.proofs.Common.{length, get_or, Bool, true, false, Option, Some, None, ◌⊎◌, inl, inr, arith, IfSome}
+use Rattle.std.proofs.Common.{◌==◌}
 use Rattle.std.proofs.Common.{cond, AllPairs, Contains, count_by, pos}
 use Rattle.std.specs.Prelude.{slice_get}
 use Rattle.std.specs.List.{position_or_len}

@@ -1,18 +1,21 @@
 -- The sources and the sinks of a plan before the first step.
-use Rattle.std.proofs.Common.{◌≡◌, ℕ, suc, ◌+◌, ◌-◌, ◌≤◌, refl, sym, ap, ◌∙◌, List, [], ◌∷◌, ◌++◌, length, map}
-use Rattle.std.proofs.Common.{Bool, false, cond, Option, Some, None, arith, option_map}
-use Rattle.std.specs.Prelude.{slice_get}
+use Rattle.std.proofs.Common.{◌≡◌, ℕ, zero, suc, ◌+◌, ◌-◌, ◌≤◌, refl, sym, ap, ◌∙◌, List, [], ◌∷◌, ◌++◌, length, map}
+use Rattle.std.proofs.Common.{Bool, false, cond, Option, Some, None, arith, option_map, replicate}
+use Rattle.std.specs.Prelude.{slice_get, sum}
 use Rattle.std.specs.List.{concat}
 use Rattle.std.proofs.lemmas.Bool.{le-leb}
-use Rattle.std.proofs.lemmas.List.{length-map, length-append, append_assoc, take_at, drop_at}
+use Rattle.std.proofs.lemmas.List.{length-map, length-append, length-replicate, append_assoc, take_at, drop_at}
+use Rattle.std.proofs.lemmas.List.Sums.{sum_by-cons}
 use Rattle.std.proofs.lemmas.Option.{slice_get-map}
 use Rattle.tword.specs.Words.{most_neg}
 use Rattle.tword.specs.Stores.{Store, as_cells, shown, place, cells, hiding_from}
 use Rattle.tword.specs.Touches.{byte_span}
 use Rattle.tword.specs.Claims.{is_input}
+use Rattle.tword.proofs.Hiding.{length-hiding_from}
 use Rattle.tproc.specs.Machine.{claims_of}
 use Rattle.tproc.specs.Hidden.{hidden}
-use Rattle.tlink.specs.Roles.{script_control, offering}
+use Rattle.tproc.specs.LinkChannels.{link_end}
+use Rattle.tlink.specs.Roles.{script_control, offering, asking}
 use Rattle.tlink.specs.Node.{NodeState, fresh_source, fresh_sink}
 use Rattle.tplan.specs.declared.plan.NodePlan.{NodePlan}
 use Rattle.tplan.specs.declared.plan.SourcePlan.{SourcePlan}
@@ -80,6 +83,12 @@ source_store messages =
     (λ x. is_input (claims_of (script_control (offering most_neg (map length messages)))) (byte_span x)) most_neg
     (as_cells (concat messages)) (λ b. refl)
 
+-- messages are as long as all of them
+long : (messages : List (List ℕ)) → sum (map length messages) ≡ length (concat messages)
+long [] = refl
+long (m ∷ ms) =
+    sum_by-cons (λ x. x) (length m) (map length ms) ∙ omega (arith, long ms, length-append m (concat ms))
+
 module _ (p : Plan) (k : ℕ) where
   -- the scripts stand behind the nodes
   abbrev processors : List Node
@@ -136,8 +145,18 @@ source_shown p k source there = (seen (fresh_source source.messages), script p k
           over = [];
           rest = map length source.messages;
           role = refl;
+          seen = ap (λ (z : Store). as_cells (shown z)) (source_store source.messages)
+              ∙ ap as_cells (shown-as_cells (concat source.messages)) ∙ sym (source_store source.messages);
           address = most_neg;
+          above = omega arith;
+          lies = omega (
+            arith,
+            ap (λ (z : Store). length z) (source_store source.messages),
+            length-map {A = ℕ} (concat source.messages) Some,
+            long source.messages,
+          );
           output = refl;
+          input = refl;
           messages =
               ap (λ (o : Option SourcePlan). AreMessages (messages_of o)) found
               ∙ ap (λ (ms : List (List ℕ)). AreMessages ms)
@@ -178,6 +197,12 @@ sink_shown p k sink there = (seen (fresh_sink sink.capacity), place_is, shows)
         (le-leb (length p.nodes + length p.sources) (length p.nodes + length p.sources + k) (omega arith))
         ∙ ap (λ i. slice_get p.sinks i) back ∙ there
 
+    no_other : (l : ℕ) → (link_end (script_control (asking most_neg sink.capacity)) (suc l)).input ≡ None
+    no_other zero = refl
+    no_other (suc zero) = refl
+    no_other (suc (suc zero)) = refl
+    no_other (suc (suc (suc l))) = refl
+
     shows : ShowsSink (opening_state p) (end_at (length p.nodes + length p.sources + k) 0)
         (seen (fresh_sink sink.capacity))
     shows =
@@ -187,6 +212,16 @@ sink_shown p k sink there = (seen (fresh_sink sink.capacity), place_is, shows)
           role = refl;
           room = sink.capacity;
           input = refl;
+          output = refl;
+          alone = no_other;
+          lies = omega (
+            arith,
+            length-hiding_from
+                (λ x. is_input (claims_of (script_control (asking most_neg sink.capacity))) (byte_span x)) most_neg
+                (as_cells (replicate sink.capacity 0)),
+            length-map {A = ℕ} (replicate sink.capacity 0) Some,
+            length-replicate {A = ℕ} sink.capacity 0,
+          );
           messages = [];
           stands = ap (λ (o : Option SinkPlan). AreKept (capacity_of o) []) found;
           knows = tt;

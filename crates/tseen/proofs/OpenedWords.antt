@@ -1,5 +1,6 @@
 -- The words of a node before the first step.
-use Rattle.std.proofs.Common.{◌≡◌, ◌≢◌, ℕ, zero, suc, ◌+◌, ◌-◌, ◌*◌, ◌<◌, ◌≤◌, ◌^◌, refl, sym, ap, ◌∙◌, subst, List, []}
+use Rattle.std.proofs.Common.{◌≡◌, ◌≢◌, ℕ, zero, suc, ◌+◌, ◌-◌, ◌*◌, ◌<◌, ◌≤◌, ◌^◌, refl, sym, ap, ◌∙◌, subst, List}
+use Rattle.std.proofs.Common.{[]}
 use Rattle.std.proofs.Common.{◌∷◌, length, get_or, take, drop, Bool, true, false, Some, None, ◌⊎◌, inl, inr, arith}
 use Rattle.std.proofs.Common.{All, IfSome, cond, ◌==◌, Contains, length-take, length-drop, get_or-take, get_or-drop}
 use Rattle.std.specs.Prelude.{slice_range}

@@ -1,7 +1,7 @@
 -- The nodes of a plan before the first step are shown.
-use Rattle.std.proofs.Common.{◌≡◌, ℕ, suc, ◌+◌, ◌*◌, ◌<◌, ◌≤◌, ◌^◌, refl, sym, ap, ◌∙◌, subst, List, [], ◌∷◌, ◌++◌}
-use Rattle.std.proofs.Common.{length, get_or, Bool, true, false, cond, Result, Ok, Err, Option, Some, None, All, arith}
-use Rattle.std.proofs.Common.{Contains, fold}
+use Rattle.std.proofs.Common.{◌≡◌, ℕ, zero, suc, ◌+◌, ◌*◌, ◌<◌, ◌≤◌, ◌^◌, refl, sym, ap, ◌∙◌, subst, List, [], ◌∷◌}
+use Rattle.std.proofs.Common.{◌++◌, length, get_or, Bool, true, false, cond, Result, Ok, Err, Option, Some, None, All}
+use Rattle.std.proofs.Common.{arith, Contains, fold}
 use Rattle.std.specs.Prelude.{slice_get}
 use Rattle.std.proofs.lemmas.List.Elements.{All-append, All-nil, All-cons, All-head, All-tail, Contains-get_or}
 use Rattle.std.proofs.lemmas.Option.{slice_get_within, get_or_from_slice_get}
@@ -22,14 +22,14 @@ use Rattle.tplan.specs.declared.plan.Process.{Process}
 use Rattle.tplan.specs.declared.plan.NodePlan.{NodePlan}
 use Rattle.tplan.specs.declared.plan.Plan.{Plan}
 use Rattle.tnet.specs.Building.{fault_of, ArePlanWords, AreBytes, AreImageWords, loaded_machine, built_machine}
-use Rattle.tnet.specs.Building.{or_loaded}
-use Rattle.tnet.specs.Building.{opened_machine, opening_node, bad_process, bad_segment, is_bad_segment, is_bad_size}
+use Rattle.tnet.specs.Building.{or_loaded, opened_machine, opening_node, bad_process, bad_segment, is_bad_segment}
+use Rattle.tnet.specs.Building.{is_bad_size}
 use Rattle.tnet.proofs.OpenedPlans.{IsFaultless, faultless, good_size, good_segment, no_position}
+use Rattle.tnet.specs.Rendezvous.{was_copied}
 use Rattle.tnet.proofs.OpenedNets.{quiet_link}
 use Rattle.tprocesses.specs.Places.{Place, Name, WordAt, Standing}
 use Rattle.tprocesses.specs.Values.{Value, Word, Free, Saved, Engaged, Request, IsWord as a_word, IsLink, IsHalf}
-use Rattle.tprocesses.specs.Values.{word_in, unknown}
-use Rattle.tprocesses.specs.Values.{Stand, Absent, IsStand}
+use Rattle.tprocesses.specs.Values.{word_in, unknown, Stand, Absent, IsStand}
 use Rattle.tprocesses.specs.Machine.{awaits_successor}
 use Rattle.tprocesses.specs.Touching.{word_number}
 use Rattle.tprocesses.specs.Opening.{opening_state, of_node, stand_of, opened_word, loaded_byte, is_below}
@@ -119,6 +119,8 @@ module _ (p : Plan) (n : ℕ) (plan : NodePlan) (at : slice_get p.nodes n ≡ So
             (All-append AreSaved (seats 0 ds) (seats 1 ds) (saved_seats 0) (saved_seats 1)) (All-nil AreSaved));
         inputs = λ l o e.
             (let f : None ≡ Some o = sym (ap (λ (x : LinkEnd). x.input) (quiet l)) ∙ e in cc);
+        inputs_apart = λ j a b o q e f.
+            (let g : None ≡ Some o = sym (ap (λ (x : LinkEnd). x.input) (quiet a)) ∙ e in cc);
         outputs = λ k. refl;
         no_successor = λ k.
             ap awaits_successor (used_is k) ∙ no_successor (is_below plan (1 ∷ 2 ∷ 3 ∷ []) (most_neg + 4 * k));
@@ -145,12 +147,20 @@ module _ (p : Plan) (n : ℕ) (plan : NodePlan) (at : slice_get p.nodes n ≡ So
             absurd (not_engaged (is_below plan (1 ∷ 2 ∷ 3 ∷ []) (most_neg + 4 * k)) (sym (used_is k) ∙ e));
       }
 
+  not_copied : (l : ℕ) → was_copied (opening_node Processor m) l ≡ false
+  not_copied zero = refl
+  not_copied (suc zero) = refl
+  not_copied (suc (suc zero)) = refl
+  not_copied (suc (suc (suc zero))) = refl
+  not_copied (suc (suc (suc (suc l)))) = refl
+
   link : (l : ℕ) → ShowsLink s n (opened_name n ds) (λ _. None) (opening_node Processor m) l
   link l =
       record {
         input = ap (λ (x : LinkEnd). IsLink (half_asking (opened_name n ds) x.input)) (sym (quiet l));
         output = refl;
         offered = λ o e. (let f : None ≡ Some o = sym (ap (λ (x : LinkEnd). x.output) (quiet l)) ∙ e in cc);
+        fresh = λ e. not_copied l;
         forgotten = ap (λ (x : LinkEnd). x.remembered) (quiet l);
         pending = λ q e _. cc;
       }

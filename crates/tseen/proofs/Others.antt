@@ -1,17 +1,18 @@
 -- The seats of other processes stay taken as they were.
-use Rattle.std.proofs.Common.{◌≡◌, ℕ, refl, sym, ap, ◌∙◌, Bool, true, false, true≢false}
+use Rattle.std.proofs.Common.{◌≡◌, ℕ, refl, sym, ap, subst, ◌∙◌, Bool, true, false, true≢false, Option}
 use Rattle.std.specs.Prelude.{IfSome}
 use Rattle.std.proofs.lemmas.Option.{IfSome_then}
 use Rattle.tword.specs.Stores.{Store, word_at}
 use Rattle.tword.specs.Words.{word_below}
 use Rattle.tplan.specs.declared.plan.Plan.{Plan}
+use Rattle.tproc.specs.declared.waiter.Suspended.{Suspended}
 use Rattle.tproc.specs.Machine.{workspace_of}
 use Rattle.tproc.specs.Queues.{iptr_word}
 use Rattle.tnet.specs.Rendezvous.{Node}
 use Rattle.tprocesses.specs.Places.{Name, Standing, HasRun, same_name}
 use Rattle.tprocesses.specs.Values.{Value, Context, Stand, Absent, Rests, Runs, Waits, Ended, IsStand, IsFlag}
-use Rattle.tseen.specs.Known.{HasSaved}
-use Rattle.tseen.specs.Seats.{Queued, Waiting}
+use Rattle.tseen.specs.Known.{HasRegisters, HasSaved}
+use Rattle.tseen.specs.Seats.{Interrupted, Queued, Waiting}
 use Rattle.tseen.specs.Processes.{Fits, IsSeated, HasPassed, context_in}
 use Rattle.tseen.proofs.After.{State}
 use Rattle.tseen.proofs.Finished.{one_name}
@@ -41,20 +42,18 @@ other_name p s x y a b test e f h k = by (same_name x y) refl
     by true g =
         absurd (true≢false (sym h ∙ ap test (sym e ∙ ap (λ z. s (Standing z)) (one_name p x y g) ∙ f) ∙ k))
 
-module _ (n : ℕ) (x : Name) (s s' : State)
-    (stand_stays : (y : Name) → same_name x y ≡ false → s' (Standing y) ≡ s (Standing y))
-    (run_stays : (q : ℕ) → s' (HasRun n q) ≡ s (HasRun n q)) (node node' : Node) where
+module _ (n : ℕ) (s s' : State) (run_stays : (q : ℕ) → s' (HasRun n q) ≡ s (HasRun n q)) (node node' : Node) where
   has_run_stays : (stand : Stand) → IfSome (context_in stand) (λ k. s (HasRun n k.priority) ≡ IsFlag true)
       → IfSome (context_in stand) (λ k. s' (HasRun n k.priority) ≡ IsFlag true)
   has_run_stays stand h =
       IfSome_then (context_in stand) h (λ k e. run_stays k.priority ∙ e)
 
-  -- another process that is queued
-  pub queued_seated : (process : ℕ) (y : Name) → same_name x y ≡ false
+  -- a process that is queued and stands where it stood
+  pub queued_stays : (process : ℕ) (y : Name) → s' (Standing y) ≡ s (Standing y)
       → word_at node'.machine.store (word_below (workspace_of process) iptr_word)
       ≡ word_at node.machine.store (word_below (workspace_of process) iptr_word)
       → IsSeated s n node (Queued process) y → IsSeated s' n node' (Queued process) y
-  queued_seated process y other same k = by k.stand k.stands k.fits k.has_run
+  queued_stays process y stays same k = by k.stand k.stands k.fits k.has_run
     where
       by : (stand : Stand) → s (Standing y) ≡ IsStand stand → Fits node (Queued process) stand
           → IfSome (context_in stand) (λ k. s (HasRun n k.priority) ≡ IsFlag true)
@@ -63,7 +62,7 @@ module _ (n : ℕ) (x : Name) (s s' : State)
           record {
             home = k.home;
             stand = Rests d;
-            stands = stand_stays y other ∙ e;
+            stands = stays ∙ e;
             fits = saved_stays node.machine.store node'.machine.store process d same f;
             has_run = has_run_stays (Rests d) r;
           }
@@ -72,13 +71,13 @@ module _ (n : ℕ) (x : Name) (s s' : State)
       by (Waits d) e f r = absurd f
       by Ended e f r = absurd f
 
-  -- another process that waits
-  pub waiting_seated : (process : ℕ) (y : Name) → same_name x y ≡ false
+  -- and one that waits
+  pub waiting_stays : (process : ℕ) (y : Name) → s' (Standing y) ≡ s (Standing y)
       → (HasPassed node process → HasPassed node' process)
       → word_at node'.machine.store (word_below (workspace_of process) iptr_word)
       ≡ word_at node.machine.store (word_below (workspace_of process) iptr_word)
       → IsSeated s n node (Waiting process) y → IsSeated s' n node' (Waiting process) y
-  waiting_seated process y other passed same k = by k.stand k.stands k.fits k.has_run
+  waiting_stays process y stays passed same k = by k.stand k.stands k.fits k.has_run
     where
       by : (stand : Stand) → s (Standing y) ≡ IsStand stand → Fits node (Waiting process) stand
           → IfSome (context_in stand) (λ k. s (HasRun n k.priority) ≡ IsFlag true)
@@ -87,7 +86,7 @@ module _ (n : ℕ) (x : Name) (s s' : State)
           record {
             home = k.home;
             stand = Rests d;
-            stands = stand_stays y other ∙ e;
+            stands = stays ∙ e;
             fits = (saved_stays node.machine.store node'.machine.store process d same f.0, passed f.1);
             has_run = has_run_stays (Rests d) r;
           }
@@ -95,13 +94,60 @@ module _ (n : ℕ) (x : Name) (s s' : State)
           record {
             home = k.home;
             stand = Waits d;
-            stands = stand_stays y other ∙ e;
+            stands = stays ∙ e;
             fits = (saved_stays node.machine.store node'.machine.store process d same f.0, f.1);
             has_run = has_run_stays (Waits d) r;
           }
       by Absent e f r = absurd f
       by (Runs d) e f r = absurd f
       by Ended e f r = absurd f
+
+  -- a process that was interrupted
+  pub interrupted_stays : (y : Name) → s' (Standing y) ≡ s (Standing y)
+      → node'.machine.control.interrupted ≡ node.machine.control.interrupted
+      → IsSeated s n node Interrupted y → IsSeated s' n node' Interrupted y
+  interrupted_stays y stays same k = by k.stand k.stands k.fits k.has_run
+    where
+      by : (stand : Stand) → s (Standing y) ≡ IsStand stand → Fits node Interrupted stand
+          → IfSome (context_in stand) (λ k. s (HasRun n k.priority) ≡ IsFlag true)
+          → IsSeated s' n node' Interrupted y
+      by (Runs d) e f r =
+          record {
+            home = k.home;
+            stand = Runs d;
+            stands = stays ∙ e;
+            fits = subst (λ (o : Option Suspended). IfSome o (λ t. HasRegisters 1 t.registers d)) (sym same) f;
+            has_run = has_run_stays (Runs d) r;
+          }
+      by Absent e f r = absurd f
+      by (Rests d) e f r = absurd f
+      by (Waits d) e f r = absurd f
+      by Ended e f r = absurd f
+
+-- where one process alone stands elsewhere, each other one keeps its seat
+module _ (n : ℕ) (x : Name) (s s' : State)
+    (stand_stays : (y : Name) → same_name x y ≡ false → s' (Standing y) ≡ s (Standing y))
+    (run_stays : (q : ℕ) → s' (HasRun n q) ≡ s (HasRun n q)) (node node' : Node) where
+  -- another process that is queued
+  pub queued_seated : (process : ℕ) (y : Name) → same_name x y ≡ false
+      → word_at node'.machine.store (word_below (workspace_of process) iptr_word)
+      ≡ word_at node.machine.store (word_below (workspace_of process) iptr_word)
+      → IsSeated s n node (Queued process) y → IsSeated s' n node' (Queued process) y
+  queued_seated process y other = queued_stays n s s' run_stays node node' process y (stand_stays y other)
+
+  -- another process that waits
+  pub waiting_seated : (process : ℕ) (y : Name) → same_name x y ≡ false
+      → (HasPassed node process → HasPassed node' process)
+      → word_at node'.machine.store (word_below (workspace_of process) iptr_word)
+      ≡ word_at node.machine.store (word_below (workspace_of process) iptr_word)
+      → IsSeated s n node (Waiting process) y → IsSeated s' n node' (Waiting process) y
+  waiting_seated process y other = waiting_stays n s s' run_stays node node' process y (stand_stays y other)
+
+  -- a process that was interrupted
+  pub interrupted_seated : (y : Name) → same_name x y ≡ false
+      → node'.machine.control.interrupted ≡ node.machine.control.interrupted
+      → IsSeated s n node Interrupted y → IsSeated s' n node' Interrupted y
+  interrupted_seated y other = interrupted_stays n s s' run_stays node node' y (stand_stays y other)
 
 -- a process runs there
 abbrev pub is_running : Value → Bool

@@ -1,8 +1,7 @@
 -- A node whose current process went on is shown again.
 use Rattle.std.proofs.Common.{◌≡◌, ℕ, ◌+◌, ◌*◌, ◌<◌, ◌≤◌, ◌/◌, ◌%◌, refl, sym, ap, subst, ◌∙◌, Bool, true, false}
-use Rattle.std.proofs.Common.{true≢false, length, length-append, ◌∷◌, [], Contains, Option, Some, None, Ok, arith, ◌⊎◌}
-use Rattle.std.proofs.Common.{inl, inr, pos, get_or}
-use Rattle.std.specs.Prelude.{IfSome, slice_range}
+use Rattle.std.proofs.Common.{true≢false, length, Contains, Option, Some, None, Ok, arith, ◌⊎◌, inl, inr, pos, get_or}
+use Rattle.std.specs.Prelude.{IfSome, is_some, slice_range}
 use Rattle.std.specs.Int.{w32, from_le_bytes}
 use Rattle.std.proofs.lemmas.Bool.{eqb-true}
 use Rattle.std.proofs.lemmas.Option.{IfSome_then}
@@ -15,6 +14,7 @@ use Rattle.tcpu.specs.declared.registers.Registers.{Registers}
 use Rattle.tplan.specs.declared.plan.Plan.{Plan}
 use Rattle.tplan.specs.declared.plan.NodePlan.{NodePlan}
 use Rattle.tproc.specs.declared.ran.Ran.{Ran}
+use Rattle.tproc.specs.declared.waiter.Suspended.{Suspended}
 use Rattle.tproc.specs.Machine.{Control, Machine, workspace_of, descheduled}
 use Rattle.tproc.specs.ProcessStatus.{live}
 use Rattle.tproc.specs.Queues.{iptr_word}
@@ -25,8 +25,8 @@ use Rattle.tproc.proofs.Placed.{step_keeps_placed}
 use Rattle.tproc.proofs.SavedWords.{saved_words_stand}
 use Rattle.tnet.specs.Rendezvous.{Node}
 use Rattle.tnet.specs.Wires.{end_at}
-use Rattle.tprocesses.specs.Places.{Place, Name, WordAt, Sending, Standing, Half, LinkHalf, Life}
-use Rattle.tprocesses.specs.Places.{Population, HasRun, same_name}
+use Rattle.tprocesses.specs.Places.{Place, Name, WordAt, Sending, Standing, Half, LinkHalf, Life, Population, HasRun}
+use Rattle.tprocesses.specs.Places.{Error, HaltOnError, same_name}
 use Rattle.tprocesses.specs.Values.{Value, Free, Saved, Engaged, Context, Stand, Absent, Rests, Runs, Waits, Ended}
 use Rattle.tprocesses.specs.Values.{IsStand, IsFlag, IsAmount, word_in}
 use Rattle.tprocesses.specs.Touching.{word_number}
@@ -35,17 +35,19 @@ use Rattle.tseen.specs.Known.{HasRegisters, HasSaved}
 use Rattle.tseen.specs.Seats.{Seat, Current, Interrupted, Queued, Waiting, is_taken}
 use Rattle.tseen.specs.Outputs.{Pending}
 use Rattle.tseen.specs.Words.{AreSavedWords, use_at}
-use Rattle.tseen.specs.Processes.{Fits, IsSeated, IsGone, ShowsProcesses, context_in}
+use Rattle.tseen.specs.Processes.{Fits, IsSeated, IsGone, HasFlags, KeepsFlags, ShowsProcesses, context_in}
 use Rattle.tseen.specs.Shown.{ShowsNode}
 use Rattle.tseen.proofs.After.{State}
 use Rattle.tseen.proofs.Cells.{use_of, Knows, IsWhole, Tells, shows_from, range-at, range-length}
 use Rattle.tseen.proofs.Written.{is_word_of}
 use Rattle.tseen.proofs.Writing.{word_lies}
 use Rattle.tseen.proofs.Stored.{GoesOn, DiffersInFree}
-use Rattle.tseen.proofs.Finished.{one_name, moved}
+use Rattle.tseen.proofs.Finished.{IsNoted, one_name, moved}
 use Rattle.tseen.proofs.Completed.{is_own, WentOn}
 use Rattle.tseen.proofs.Staying.{saved_words_stay, marks_from, channels_stay, link_stays}
-use Rattle.tseen.proofs.Counted.{waits_descheduled, queued_descheduled, live_is, count_at, lives_are, moved_count}
+use Rattle.tseen.proofs.Counted.{waits_descheduled, queued_descheduled, live_long, settled, count_at, lives_are}
+use Rattle.tseen.proofs.Counted.{moved_count}
+use Rattle.tseen.proofs.Others.{interrupted_seated}
 
 -- a word that is not free stays in the store
 pub word_stays : (s : State) (n size : ℕ) (store store' : Store) (a : ℕ) → DiffersInFree s n store store'
@@ -71,7 +73,8 @@ module _ (p : Plan) (plan : NodePlan) (n : ℕ) (s t s' : State) (named : Seat �
     (node : Node) (shown : ShowsNode s n plan named sent node) (placed : IsPlaced node.machine)
     (whole : plan.memory % 4 ≡ 0) (x : Name) (home : x.node ≡ n) (level : ℕ)
     (current : node.machine.control.current ≡ Some level) (name : named Current ≡ x)
-    (none : node.machine.control.interrupted ≡ None) (after : Registers) (count : ℕ) (store' : Store) (c c' : Context)
+    (apart : is_some node.machine.control.interrupted ≡ true → same_name x (named Interrupted) ≡ false)
+    (kept : KeepsFlags s n) (after : Registers) (count : ℕ) (store' : Store) (c c' : Context)
     (stood : s (Standing x) ≡ IsStand (Runs c)) (level_is : c.priority ≡ level)
     (knows : HasRegisters level after c')
     (on : GoesOn n plan.memory s t node.machine.store store')
@@ -247,7 +250,9 @@ module _ (p : Plan) (plan : NodePlan) (n : ℕ) (s t s' : State) (named : Seat �
 
   seated : (q : Seat) → is_taken m q ≡ true → IsSeated s' n node' q (named q)
   seated Current h = subst (IsSeated s' n node' Current) (sym name) current_seated
-  seated Interrupted h = let f : false ≡ true = rw none at h in absurd (true≢false (sym f))
+  seated Interrupted h =
+      interrupted_seated n x s s' (λ y other. at (Standing y) other refl) (λ q. at (HasRun n q) refl refl) node node'
+      (named Interrupted) (apart h) refl (shown.processes.seated Interrupted h)
   seated (Queued process) h =
       rests_seated process (named (Queued process)) h (shown.processes.seated (Queued process) h)
   seated (Waiting process) h =
@@ -268,9 +273,9 @@ module _ (p : Plan) (plan : NodePlan) (n : ℕ) (s t s' : State) (named : Seat �
       went.lives w
       ∙ ap (moved (site_of n plan) m.registers.wptr after.wptr w)
       (on.keeps.others (Life n w) refl ∙ shown.processes.lives w
-      ∙ ap (λ k. IsAmount (pos k)) (lives_are m level w current none aligned small))
-      ∙ moved_count (site_of n plan) m.registers.wptr after.wptr w (count_at w (descheduled m))
-      ∙ ap (λ k. IsAmount (pos k)) (sym (lives_are m'.control level w current none aligned' small))
+      ∙ ap (λ k. IsAmount (pos k)) (lives_are m level w current aligned small))
+      ∙ moved_count (site_of n plan) m.registers.wptr after.wptr w (count_at w (settled m))
+      ∙ ap (λ k. IsAmount (pos k)) (sym (lives_are m'.control level w current aligned' small))
     where
       aligned : m.registers.wptr % 4 ≡ 0
       aligned = eqb-true _ _ placed.words.aligned
@@ -295,11 +300,51 @@ module _ (p : Plan) (plan : NodePlan) (n : ℕ) (s t s' : State) (named : Seat �
           at (Population n) refl refl ∙ shown.processes.population.1,
           omega (arith, many, shown.processes.population.2),
         );
-        interrupting = rw none tt;
+        interrupting = ran_high;
         flags = λ h. record { error = went.error; halting = went.halting };
-        kept_flags = λ h. rw none tt;
+        kept_flags = λ h. flags_beside h went.noted;
       }
     where
+      ran_high : IfSome m.interrupted (λ t. s' (HasRun n 0) ≡ IsFlag true)
+      ran_high = IfSome_then m.interrupted shown.processes.interrupting (λ t e. at (HasRun n 0) refl refl ∙ e)
+
+      -- where one was interrupted, low ones have run
+      low_ran : (t : Suspended) → m.interrupted ≡ Some t → s' (HasRun n 1) ≡ IsFlag true
+      low_ran t e = with_seat (seated Interrupted (rw e refl))
+        where
+          by_stand : (stand : Stand) → Fits node' Interrupted stand
+              → IfSome (context_in stand) (λ k. s' (HasRun n k.priority) ≡ IsFlag true) → s' (HasRun n 1) ≡ IsFlag true
+          by_stand (Runs d) f h =
+              let g : HasRegisters 1 t.registers d =
+              subst (λ (o : Option Suspended). IfSome o (λ t. HasRegisters 1 t.registers d)) e f in
+              ap (λ q. s' (HasRun n q)) (sym g.priority) ∙ h
+          by_stand Absent f h = absurd f
+          by_stand (Rests d) f h = absurd f
+          by_stand (Waits d) f h = absurd f
+          by_stand Ended f h = absurd f
+
+          with_seat : IsSeated s' n node' Interrupted (named Interrupted) → s' (HasRun n 1) ≡ IsFlag true
+          with_seat q = by_stand q.stand q.fits q.has_run
+
+      -- so no flag was changed
+      flags_beside : KeepsFlags s' n → IsNoted n t s' → IfSome m.interrupted (λ t. HasFlags s' n t.registers)
+      flags_beside h (inr same) =
+          IfSome_then m.interrupted (shown.processes.kept_flags kept) (λ i f. record {
+            error = same.0 ∙ on.keeps.others (Error n) refl ∙ f.error;
+            halting = same.1 ∙ on.keeps.others (HaltOnError n) refl ∙ f.halting;
+          })
+      flags_beside h (inl noted) = by m.interrupted refl
+        where
+          both : (t : Suspended) → m.interrupted ≡ Some t → ⊥
+          both t e =
+              let high : s' (HasRun n 0) ≡ IsFlag true =
+              subst (λ (o : Option Suspended). IfSome o (λ t. s' (HasRun n 0) ≡ IsFlag true)) e ran_high in
+              let f : true ≡ false = rw (noted, high, low_ran t e) at h in true≢false f
+
+          by : (o : Option Suspended) → m.interrupted ≡ o → IfSome o (λ t. HasFlags s' n t.registers)
+          by None e = tt
+          by (Some t) e = absurd (both t e)
+
       rests_back : (y : Name) (k : Context) → s' (Standing y) ≡ IsStand (Rests k) → s (Standing y) ≡ IsStand (Rests k)
       rests_back y k e = other_back y (Rests k) e refl
 
@@ -308,10 +353,7 @@ module _ (p : Plan) (plan : NodePlan) (n : ℕ) (s t s' : State) (named : Seat �
 
       many : length (live m'.control) ≡ length (live m)
       many =
-          ap length (live_is m'.control level current none)
-          ∙ length-append (descheduled m) (workspace_of (after.wptr + level) ∷ [])
-          ∙ sym (ap length (live_is m level current none)
-          ∙ length-append (descheduled m) (workspace_of (m.registers.wptr + level) ∷ []))
+          live_long m'.control level current ∙ sym (live_long m level current)
 
   -- a saved word stays
   used_stays : (j : ℕ) → use_of s n j ≡ Saved → s' (WordAt n j) ≡ s (WordAt n j)

@@ -1,8 +1,8 @@
 -- An action that is performed on places without a stop is done by the store, with the same answer up to what is not
 -- known.
 use Rattle.std.proofs.Common.{◌≡◌, ℕ, ◌+◌, ◌-◌, ◌*◌, ◌<◌, ◌≤◌, ◌/◌, ◌%◌, refl, sym, ap, subst, ◌∙◌, List, [], ◌∷◌}
-use Rattle.std.proofs.Common.{length, get_or, Bool, true, false, true≢false, Result, Ok, Option, None, arith}
-use Rattle.std.proofs.Common.{inl, inr, unwrap_or, length-take, length-drop}
+use Rattle.std.proofs.Common.{length, get_or, Bool, true, false, true≢false, Result, Ok, Option, None, arith, inl, inr}
+use Rattle.std.proofs.Common.{unwrap_or, length-take, length-drop}
 use Rattle.std.proofs.lemmas.Bool.{ne_eqb}
 use Rattle.std.specs.Int.{w32, from_le_bytes, to_le_bytes}
 use Rattle.tword.specs.declared.breaks.Break.{Break}
@@ -12,27 +12,27 @@ use Rattle.tword.specs.Stores.{Store, place, shown, cells, word_at, with_word, b
 use Rattle.tword.specs.Claims.{Claims}
 use Rattle.tword.specs.Touches.{Mode, Reads, Writes, byte_span, word_span, span_break, word_break, copy_break}
 use Rattle.tword.specs.Touches.{claim_break, place_break}
-use Rattle.tword.specs.Actions.{Action, answer, breaks, requiring, touching_word, touching_byte, touching, writing_word}
+use Rattle.tword.specs.Actions.{Action, answer, breaks, requiring, touching_word, touching_byte, touching}
+use Rattle.tword.specs.Actions.{writing_word}
 use Rattle.tword.specs.Actions.{writing_byte, copying, descheduling, reading_saved, setting_saved, run_from, unless}
 use Rattle.tword.proofs.Passing.{inside_bounds}
 use Rattle.tcpu.specs.declared.registers.Registers.{Registers}
 use Rattle.tcpu.specs.Outcomes.{Outcome}
 use Rattle.tprocesses.specs.Values.{Free}
 use Rattle.tprocesses.specs.Changes.{are_known}
-use Rattle.tprocesses.specs.Parts.{Part, Breaks}
-use Rattle.tprocesses.specs.Parts.{require}
+use Rattle.tprocesses.specs.Parts.{Part, Breaks, require}
 use Rattle.tprocesses.specs.Touching.{Site, word_number, word_count, touch, touch_word_at, part_of, write}
 use Rattle.tprocesses.specs.Touching.{write_word_at}
 use Rattle.tprocesses.specs.Performing.{Performed, perform, noted, is_next_known, after_next, bytes_if, copied}
 use Rattle.tprocesses.specs.Uses.{Origin, Uses}
 use Rattle.tprocesses.specs.Depending.{AreAlike, ForReads, EndAlike, DoAlike, next_origin, later_origins}
 use Rattle.tseen.proofs.After.{State, After, after_bind, after_weaken, after_all, after_require}
-use Rattle.tseen.proofs.Spans.{IsWordOf, span_clear, placed_span, placed_above, touchable}
-use Rattle.tseen.proofs.Spans.{word_touchable}
+use Rattle.tseen.proofs.Spans.{IsWordOf, span_clear, placed_span, placed_above, touchable, word_touchable}
 use Rattle.tseen.proofs.Cells.{word_of, use_of, cell, Knows, Tells, range-at, range-length}
 use Rattle.tseen.proofs.Touched.{IsTouched, Permits, permitted}
-use Rattle.tseen.proofs.Writing.{IsSpanTouched, part-length, part-at, touch_then, IsWritten, write_then, IsWordTouched}
-use Rattle.tseen.proofs.Writing.{touch_word_at_then, IsWordWritten, write_word_at_then, IsCopied, copied_then}
+use Rattle.tseen.proofs.Writing.{IsSpanTouched, span_read, part-length, part-at, touch_then, IsWritten, write_then}
+use Rattle.tseen.proofs.Writing.{IsWordTouched, touch_word_at_then, IsWordWritten, write_word_at_then, IsCopied}
+use Rattle.tseen.proofs.Writing.{copied_then}
 use Rattle.tseen.proofs.Stored.{GoesOn, goes_on_self, goes_on_more, permits_on, LieThere, set_both, knows_bytes}
 use Rattle.tseen.proofs.Stored.{word_known, byte_known}
 
@@ -96,14 +96,76 @@ module _ (site : Site) (whole : site.size % 4 ≡ 0) (claims : Claims) where
       at : get_or (part_of (byte_span a) words) 0 None ≡ cell s site.number (place a)
       at =
           let e : place a + 0 ≡ place a = omega arith in
-          part-at s site.number site.size mode (byte_span a) words whole t 0 (omega arith) ∙ ap (cell s site.number) e
+          part-at s site.number site.size (byte_span a) words whole
+          (span_read s site.number site.size mode (byte_span a) words t) 0 (omega arith) ∙ ap (cell s site.number) e
 
       by : LieThere site.size a 1
           → from_le_bytes w32 (shown (part_of (byte_span a) words)) ≡ unwrap_or (byte_at store a) 0
       by (inl z) = absurd (omega (arith, z))
       by (inr l) =
           byte_known site.number site.size s store a (part_of (byte_span a) words) tells l.0 (omega (arith, l.0, l.1))
-          (part-length s site.number site.size mode (byte_span a) words whole t) at known
+          (part-length s site.number site.size (byte_span a) words whole
+          (span_read s site.number site.size mode (byte_span a) words t)) at known
+
+  -- a copy is made on both sides
+  pub both_copied : (s t : State) (new : Store) (from to count : ℕ) → Tells s site.number site.size new
+      → IsCopied site whole s t (record { start = from; size = count }) (record { start = to; size = count })
+      → GoesOn site.number site.size s t new (with_cells new to (cells new from count))
+  both_copied s t new from to count tells k =
+      set_both site.number site.size s t new to (part_of source k.words) (cells new from count) tells k.written.keeps
+      k.written.set (part ∙ sym many)
+      (λ j h. each j (omega (arith, part, h)))
+      (λ i l h. (k.written.touched (i / 4) (byte_word target k.written.placed i l
+      (omega (arith, many, h)))).free)
+      (subst (λ m. LieThere site.size to m) (sym many) (span_lies target k.written.placed))
+    where
+      source : Span
+      source = record { start = from; size = count }
+
+      target : Span
+      target = record { start = to; size = count }
+
+      part : length (part_of source k.words) ≡ count
+      part =
+          part-length s site.number site.size source k.words whole
+          (span_read s site.number site.size Reads source k.words k.read)
+
+      many : length (cells new from count) ≡ count
+      many = by (span_lies source k.read.placed)
+        where
+          by : LieThere site.size from count → length (cells new from count) ≡ count
+          by (inl z) =
+              let none : place from + count - place from ≡ count = omega arith in
+              rw (none, length-take, length-drop) (omega (arith, z))
+          by (inr l) = range-length new (place from) count (omega (arith, l.0, l.1, tells.length))
+
+      each : (j : ℕ) → j < count
+          → Knows (get_or (part_of source k.words) j None) (get_or (cells new from count) j None)
+      each j h = by (span_lies source k.read.placed)
+        where
+          by : LieThere site.size from count
+              → Knows (get_or (part_of source k.words) j None) (get_or (cells new from count) j None)
+          by (inl z) = absurd (omega (arith, z, h))
+          by (inr l) =
+              rw (
+                part-at s site.number site.size source k.words whole
+                    (span_read s site.number site.size Reads source k.words k.read) j h,
+                range-at new (place from) count j h,
+              )
+              (tells.cells (place from + j) (omega (arith, l.0, l.1, h)))
+
+  -- and passes the check on the store
+  pub copy_passes : (s t : State) (from to count : ℕ) → Permits s site.number claims
+      → IsCopied site whole s t (record { start = from; size = count }) (record { start = to; size = count })
+      → copy_break site.size claims from to count ≡ None
+  unfolding copy_break
+  copy_passes s t from to count p k =
+      let one : span_break site.size claims Reads (record { start = from; size = count }) ≡ None =
+      span_passes s Reads (record { start = from; size = count }) p k.read.placed
+      (λ i l. k.read.are.touched i l.from l.to) in
+      let other : span_break site.size claims Writes (record { start = to; size = count }) ≡ None =
+      span_passes s Writes (record { start = to; size = count }) p k.written.placed k.written.touched in
+      rw (one, other) refl
 
 -- whether a value that is written is known is told
 abbrev pub KnownAs : (same : Bool) → (r r' : Registers) → List Origin → List Bool → Type 0
@@ -194,14 +256,8 @@ module _ (site : Site) (whole : site.size % 4 ≡ 0) (claims : Claims) (u : Uses
   copy_goes : (written : Bool) (s t : State) (old new : Store) (from to count : ℕ) → Begins written s old new
       → IsCopied site whole s t (record { start = from; size = count }) (record { start = to; size = count })
       → copy_break (length old) claims from to count ≡ None
-  unfolding copy_break
   copy_goes written s t old new from to count b k =
-      let one : span_break (length old) claims Reads (record { start = from; size = count }) ≡ None =
-      span_goes written s old new Reads (record { start = from; size = count }) b k.read.placed
-      (λ i l. k.read.are.touched i l.from l.to) in
-      let other : span_break (length old) claims Writes (record { start = to; size = count }) ≡ None =
-      span_goes written s old new Writes (record { start = to; size = count }) b k.written.placed k.written.touched in
-      rw (one, other) refl
+      rw b.size (copy_passes site whole claims s t from to count b.permits k)
 
   -- a byte that was read
   byte_read_on : (written : Bool) (s : State) (old new : Store) (mode : Mode) (a : ℕ) (words : Store)
@@ -241,42 +297,7 @@ module _ (site : Site) (whole : site.size % 4 ≡ 0) (claims : Claims) (u : Uses
   copied_on : (written : Bool) (s t : State) (old new : Store) (from to count : ℕ) → Begins written s old new
       → IsCopied site whole s t (record { start = from; size = count }) (record { start = to; size = count })
       → GoesOn n site.size s t new (with_cells new to (cells new from count))
-  copied_on written s t old new from to count b k =
-      set_both n site.size s t new to (part_of source k.words) (cells new from count) b.tells k.written.keeps
-      k.written.set (part ∙ sym many)
-      (λ j h. each j (omega (arith, part, h)))
-      (λ i l h. (k.written.touched (i / 4) (byte_word site whole claims target k.written.placed i l
-      (omega (arith, many, h)))).free)
-      (subst (λ m. LieThere site.size to m) (sym many) (span_lies site whole claims target k.written.placed))
-    where
-      source : Span
-      source = record { start = from; size = count }
-
-      target : Span
-      target = record { start = to; size = count }
-
-      part : length (part_of source k.words) ≡ count
-      part = part-length s n site.size Reads source k.words whole k.read
-
-      many : length (cells new from count) ≡ count
-      many = by (span_lies site whole claims source k.read.placed)
-        where
-          by : LieThere site.size from count → length (cells new from count) ≡ count
-          by (inl z) =
-              let none : place from + count - place from ≡ count = omega arith in
-              rw (none, length-take, length-drop) (omega (arith, z))
-          by (inr l) = range-length new (place from) count (omega (arith, l.0, l.1, b.tells.length))
-
-      each : (j : ℕ) → j < count
-          → Knows (get_or (part_of source k.words) j None) (get_or (cells new from count) j None)
-      each j h = by (span_lies site whole claims source k.read.placed)
-        where
-          by : LieThere site.size from count
-              → Knows (get_or (part_of source k.words) j None) (get_or (cells new from count) j None)
-          by (inl z) = absurd (omega (arith, z, h))
-          by (inr l) =
-              rw (part-at s n site.size Reads source k.words whole k.read j h, range-at new (place from) count j h)
-              (b.tells.cells (place from + j) (omega (arith, l.0, l.1, h)))
+  copied_on written s t old new from to count b k = both_copied site whole claims s t new from to count b.tells k
 
   -- what was read before is known or not, and what follows
   read_on : (same known : Bool) (ks : List Bool) (x y : ℕ → Action Outcome) (ws : List Origin) (v w : ℕ) (old new

@@ -1,7 +1,6 @@
 -- The words of a workspace whose process goes on, and those of the others.
-use Rattle.std.proofs.Common.{◌≡◌, ◌≢◌, ℕ, zero, suc, ◌+◌, ◌-◌, ◌*◌, ◌<◌, ◌≤◌, ◌/◌, ◌%◌, ◌^◌, sym, ap, subst, ◌∙◌}
-use Rattle.std.proofs.Common.{List, ◌∷◌, false, get_or, Contains, AllPairs, None, arith}
-use Rattle.std.proofs.Common.{◌⊎◌, inl, inr}
+use Rattle.std.proofs.Common.{◌≡◌, ◌≢◌, ℕ, zero, suc, ◌+◌, ◌-◌, ◌*◌, ◌<◌, ◌≤◌, ◌/◌, ◌%◌, ◌^◌, sym, ap, subst, ◌∙◌, List}
+use Rattle.std.proofs.Common.{◌∷◌, false, get_or, Contains, AllPairs, None, arith, ◌⊎◌, inl, inr}
 use Rattle.std.proofs.lemmas.Bool.{both_ways, cases_eq}
 use Rattle.tword.specs.Words.{most_neg, word_below}
 use Rattle.tword.specs.Stores.{Store}

@@ -1,6 +1,5 @@
 -- The words below a workspace become saved words, and words for programs again.
-use Rattle.std.proofs.Common.{◌≡◌, ◌≢◌, ℕ, refl, sym, ap, ◌∙◌, true, false, true≢false}
-use Rattle.std.proofs.Common.{◌⊎◌, inl, inr, ◌%◌}
+use Rattle.std.proofs.Common.{◌≡◌, ◌≢◌, ℕ, refl, sym, ap, ◌∙◌, true, false, true≢false, ◌⊎◌, inl, inr, ◌%◌}
 use Rattle.std.proofs.lemmas.Bool.{eq-eqb, ne_eqb, cases_eq}
 use Rattle.tword.specs.Stores.{Store}
 use Rattle.tword.specs.Words.{word_below}
@@ -11,7 +10,8 @@ use Rattle.tprocesses.specs.Values.{Value, Word, Use, Free, Saved, Receiving, En
 use Rattle.tprocesses.specs.Values.{unknown}
 use Rattle.tprocesses.specs.Changes.{Change, Put}
 use Rattle.tprocesses.specs.Parts.{WordInUse, require}
-use Rattle.tprocesses.specs.Touching.{Site, word_number, same_use, word_for, touch_word_at, save_word, save, forgotten}
+use Rattle.tprocesses.specs.Touching.{Site, word_number, same_use, word_for, touch_word_at, save_word, save}
+use Rattle.tprocesses.specs.Touching.{forgotten}
 use Rattle.tprocesses.specs.Standing.{unsave_word, unsave}
 use Rattle.tseen.proofs.After.{State, changed, After, after_bind, after_require}
 use Rattle.tseen.proofs.Cells.{word_of, use_of}
@@ -145,10 +145,6 @@ module _ (site : Site) (whole : site.size % 4 ≡ 0) where
           above = t.above;
           within = t.within;
         }
-
-    same_word_of : (a : ℕ) → k ≢ word_number a
-        → word_of (with_used k cells Saved s) n (word_number a) ≡ word_of s n (word_number a)
-    same_word_of a h = ap word_in (changed_word n k (putting cells Saved) s (word_number a) h)
 
   pub save_then : (w : ℕ) (lowest : Store → Store) (s : State) (Q : Unit {0} → State → Type 0)
       → ((t : State) → IsSaved s t w lowest → Q tt t) → After (save site w lowest) s Q

@@ -1,6 +1,5 @@
 -- Operations of the scheduler after which the process goes on, and which change no queue.
-use Rattle.std.proofs.Common.{◌≡◌, ℕ, zero, suc, ◌<◌, refl, sym, ap, subst, ◌∙◌, false, Ok, Some}
-use Rattle.std.proofs.Common.{arith}
+use Rattle.std.proofs.Common.{◌≡◌, ℕ, zero, suc, ◌<◌, refl, sym, ap, subst, ◌∙◌, false, Ok, Some, arith, inr}
 use Rattle.std.specs.Prelude.{if◌then◌else◌}
 use Rattle.tword.specs.declared.kind.Kind.{Kind}
 use Rattle.tword.specs.Words.{plus}
@@ -25,8 +24,7 @@ use Rattle.tprocesses.specs.Places.{Name, Error, HaltOnError}
 use Rattle.tprocesses.specs.Values.{Value, Context, Runs, IsFlag, flag_in}
 use Rattle.tprocesses.specs.Performing.{Performed}
 use Rattle.tprocesses.specs.Touching.{Site}
-use Rattle.tprocesses.specs.Standing.{goes_on}
-use Rattle.tprocesses.specs.Standing.{push as push_context}
+use Rattle.tprocesses.specs.Standing.{goes_on, push as push_context}
 use Rattle.tprocesses.specs.Scheduling.{schedules, stops_itself}
 use Rattle.tprocesses.specs.Machine.{site_of}
 use Rattle.tseen.specs.Known.{HasRegisters}
@@ -38,7 +36,7 @@ use Rattle.tseen.proofs.Running.{RunsThere}
 use Rattle.tseen.proofs.Stepped.{there, step_then, Executed, does, next_is, one_next, leads, step_is}
 
 -- what is left to the scheduler has changed nothing
-left_alone : (kind : Kind) (i : Instruction) (r r' : Registers) (c : Claims) (s s' : Store) (o : Operation)
+pub left_alone : (kind : Kind) (i : Instruction) (r r' : Registers) (c : Claims) (s s' : Store) (o : Operation)
     → run (effect kind i r) s c ≡ Ok ((r', Schedule o), s') → (s' ≡ s) × (r' ≡ r)
 unfolding effect
 left_alone kind i r r' c s s' o e =
@@ -73,6 +71,13 @@ module _ (p : Plan) (c : Configuration) (s : State) (n : ℕ) (x : Name) (k : Is
       ≡ Ok ((d.after, z), d.store')) is
       (does p c s n x k i pp t d))).1
 
+  pub store_unchanged : d.store' ≡ k.node.machine.store
+  store_unchanged =
+      (left_alone m.kind i m.registers d.after (claims_of m) k.node.machine.store d.store' o
+      (subst (λ z. run (effect m.kind i m.registers) k.node.machine.store (claims_of m)
+      ≡ Ok ((d.after, z), d.store')) is
+      (does p c s n x k i pp t d))).0
+
   -- the registers and the context at the operation
   abbrev pub at_operation : Registers
   at_operation = record d.after { iptr = plus d.after.iptr i.length }
@@ -103,6 +108,7 @@ module _ (p : Plan) (c : Configuration) (s : State) (n : ℕ) (x : Name) (k : Is
         halting = d.on.keeps.others (HaltOnError n) refl ∙ running.flags.halting
             ∙ ap (λ (r : Registers). IsFlag r.halt_on_error) (sym unchanged);
         others = λ q h. refl;
+        noted = inr (refl, refl);
       }
 
   -- the operation on the control

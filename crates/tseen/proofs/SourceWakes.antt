@@ -1,9 +1,13 @@
 -- What is shown of a net stays shown where the output of a source is over.
-use Rattle.std.proofs.Common.{◌≡◌, ℕ, ◌+◌, refl, sym, ap, subst, ◌∙◌, List, [], ◌∷◌, ◌++◌, length, get_or, set, take}
-use Rattle.std.proofs.Common.{Bool, true, false, Option, Some, None, ◌⊎◌, inl, inr, slice_get, slice_index_or}
+use Rattle.std.proofs.Common.{◌≡◌, ℕ, ◌+◌, ◌≤◌, refl, sym, ap, subst, ◌∙◌, List, [], ◌∷◌, ◌++◌, length, get_or, set}
+use Rattle.std.proofs.Common.{take, Bool, true, false, Option, Some, None, ◌⊎◌, inl, inr, slice_get, slice_index_or}
 use Rattle.std.proofs.Common.{slice_set, arith}
 use Rattle.std.proofs.lemmas.Bool.{cases_eq}
 use Rattle.std.proofs.lemmas.Option.{slice_get_within}
+use Rattle.std.specs.Prelude.{sum}
+use Rattle.std.proofs.lemmas.List.Sums.{sum_by-cons}
+use Rattle.tword.specs.Words.{most_neg}
+use Rattle.tword.specs.Stores.{as_cells, shown, place}
 use Rattle.tlink.specs.Roles.{Role, Source, first_offer, address_behind, role_woken, woken}
 use Rattle.tplan.specs.declared.plan.SourcePlan.{SourcePlan}
 use Rattle.tproc.specs.declared.offer.Offer.{Offer}
@@ -48,8 +52,8 @@ module _ (s : State) (n : ℕ) (node : Node) (hides : hidden node.machine ≡ no
   abbrev m : Machine
   m = node.machine
 
-  module _ (over rest : List ℕ) (length address : ℕ) (role : node.role ≡ Source over (length ∷ rest))
-      (output : (link_end m.control 0).output ≡ first_offer address (length ∷ rest)) where
+  module _ (over rest : List ℕ) (size address : ℕ) (role : node.role ≡ Source over (size ∷ rest))
+      (output : (link_end m.control 0).output ≡ first_offer address (size ∷ rest)) where
     abbrev next : Option Offer
     next = first_offer (address_behind (link_end m.control 0).output) rest
 
@@ -58,44 +62,60 @@ module _ (s : State) (n : ℕ) (node : Node) (hides : hidden node.machine ≡ no
         ap (λ (r : Role). hidden (woken r 0 m)) role ∙ output_set-hidden m 0 next
         ∙ ap (λ (z : Machine). record z { control = output_set 0 next m.control }) hides
 
-    next_is : next ≡ first_offer (address + length) rest
+    next_is : next ≡ first_offer (address + size) rest
     next_is = ap (λ (o : Option Offer). first_offer (address_behind o) rest) output
 
-    output_now : (link_end (awake node).machine.control 0).output ≡ first_offer (address + length) rest
+    output_now : (link_end (awake node).machine.control 0).output ≡ first_offer (address + size) rest
     output_now =
         ap (λ (z : Machine). (link_end z.control 0).output) machine_is
         ∙ ap (λ (e : LinkEnd). e.output) (set_there m.control.links _ out sends) ∙ next_is
 
-    shown_awake : s (Messages (end_at n 0)) ≡ AreMessages (to_come (was_copied node 0)
-        (messages_from m.store address (length ∷ rest))) → ShowsSource s (end_at n 0) (awake node)
-    shown_awake messages =
+    shown_awake : as_cells (shown m.store) ≡ m.store → most_neg ≤ address
+        → place address + sum (size ∷ rest) ≤ length m.store → (link_end m.control 0).input ≡ None
+        → s (Messages (end_at n 0)) ≡ AreMessages (to_come (was_copied node 0)
+        (messages_from m.store address (size ∷ rest))) → ShowsSource s (end_at n 0) (awake node)
+    shown_awake seen above lies input messages =
         record {
           works = alive;
-          over = over ++ take 1 (length ∷ rest);
+          over = over ++ take 1 (size ∷ rest);
           rest = rest;
           role = ap role_woken role;
-          address = address + length;
+          seen = ap (λ (z : Machine). as_cells (shown z.store)) machine_is ∙ seen
+              ∙ ap (λ (z : Machine). z.store) (sym machine_is);
+          address = address + size;
+          above = omega (arith, above);
+          lies = omega (
+            arith,
+            above,
+            lies,
+            sum_by-cons (λ x. x) size rest,
+            ap (λ (z : Machine). length z.store) machine_is,
+          );
           output = output_now;
+          input = ap (λ (z : Machine). (link_end z.control 0).input) machine_is
+              ∙ ap (λ (e : LinkEnd). e.input) (set_there m.control.links _ out sends) ∙ input;
           messages = messages
-              ∙ ap (λ b. AreMessages (to_come b (messages_from m.store address (length ∷ rest)))) copied
-              ∙ ap (λ b. AreMessages (to_come b (messages_from m.store (address + length) rest)))
+              ∙ ap (λ b. AreMessages (to_come b (messages_from m.store address (size ∷ rest)))) copied
+              ∙ ap (λ b. AreMessages (to_come b (messages_from m.store (address + size) rest)))
               (sym (cleared node.copied))
               ∙ ap (λ (z : Machine). AreMessages (to_come (was_copied (awake node) 0)
-              (messages_from z.store (address + length) rest))) (sym machine_is);
+              (messages_from z.store (address + size) rest))) (sym machine_is);
         }
 
   pub source_awake : ShowsSource s (end_at n 0) node → ShowsSource s (end_at n 0) (awake node)
-  source_awake k = by k.rest k.role k.output k.messages
+  source_awake k = by k.rest k.role k.output k.lies k.messages
     where
       by : (rest : List ℕ) → node.role ≡ Source k.over rest
           → (link_end m.control 0).output ≡ first_offer k.address rest
+          → place k.address + sum rest ≤ length m.store
           → s (Messages (end_at n 0)) ≡ AreMessages (to_come (was_copied node 0) (messages_from m.store k.address rest))
           → ShowsSource s (end_at n 0) (awake node)
-      by [] role output messages = absurd (differ (sym sends ∙ output))
+      by [] role output lies messages = absurd (differ (sym sends ∙ output))
         where
           differ : Some out ≡ None → ⊥
           differ e = cc
-      by (length ∷ rest) role output messages = shown_awake k.over rest length k.address role output messages
+      by (size ∷ rest) role output lies messages =
+          shown_awake k.over rest size k.address role output k.seen k.above lies k.input messages
 
 -- wakes of sources
 pub source_wakes_are_seen : SourceWakesAreSeen

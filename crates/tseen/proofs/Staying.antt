@@ -1,6 +1,6 @@
 -- What is shown of marks, channels and links stays shown where what it looks at stays.
-use Rattle.std.proofs.Common.{◌≡◌, ℕ, refl, sym, ap, subst, ◌∙◌, List, [], ◌∷◌, length, pos, false}
-use Rattle.std.proofs.Common.{All, Contains, get_or, arith, Option, Some, None}
+use Rattle.std.proofs.Common.{◌⊎◌, inl, inr, ◌≡◌, ℕ, refl, sym, ap, ◌∙◌, List, [], ◌∷◌, length, pos, false, All}
+use Rattle.std.proofs.Common.{Contains, get_or, arith, Option, Some, None}
 use Rattle.std.proofs.lemmas.List.Elements.{All-cons, All-nil, Contains-get_or}
 use Rattle.tword.specs.Stores.{word_at}
 use Rattle.tword.specs.Words.{word_below}
@@ -15,22 +15,16 @@ use Rattle.tproc.specs.LinkChannels.{link_end}
 use Rattle.tnet.specs.Rendezvous.{Node, was_copied}
 use Rattle.tnet.specs.Wires.{end_at}
 use Rattle.tprocesses.specs.Places.{Name, WordAt, Sending, Half, LinkHalf}
-use Rattle.tprocesses.specs.Values.{Value, Use, Free, Saved, Receiving, Engaged, Offered, IsAmount, IsHalf, IsLink}
-use Rattle.tprocesses.specs.Values.{Request, word_in, unknown}
+use Rattle.tprocesses.specs.Values.{Value, Saved, Receiving, Engaged, Offered, IsAmount, IsLink, word_in, unknown}
 use Rattle.tprocesses.specs.Touching.{word_number}
 use Rattle.tprocesses.specs.Machine.{awaits_successor}
 use Rattle.tseen.specs.Seats.{Seat, Waiting}
 use Rattle.tseen.specs.Outputs.{Pending, sendings}
 use Rattle.tseen.specs.Words.{AreMarked, AreSavedWords, use_at, cells_at}
-use Rattle.tseen.specs.Halves.{ShowsChannels, ShowsLink, IsTakenHalf, request_of, half_asking}
+use Rattle.tseen.specs.Halves.{ShowsChannels, ShowsLink, request_of, half_asking}
 use Rattle.tseen.proofs.After.{State}
 use Rattle.tseen.proofs.Cells.{use_of}
-
-saved_not_free : {u : Use} → u ≡ Saved → u ≡ Free → ⊥
-saved_not_free e f = not_both (sym e ∙ f)
-  where
-    not_both : Saved ≡ Free → ⊥
-    not_both e = cc
+use Rattle.tseen.proofs.ChannelsKept.{channels_kept}
 
 module _ (s : State) (n w : ℕ) where
   -- the saved words below a workspace, one by one
@@ -96,6 +90,7 @@ module _ (s s' : State) (n : ℕ) where
       record {
         saved = each_contained (AreSavedWords s' n) (descheduled m') saved;
         inputs = λ l o is i h. receiving _ (k.inputs l o (sym (links l) ∙ is) i h);
+        inputs_apart = λ j a b o q e f. k.inputs_apart j a b o q (sym (links a) ∙ e) (sym (links b) ∙ f);
         outputs = sending;
         no_successor = none;
       }
@@ -109,56 +104,62 @@ module _ (s s' : State) (n : ℕ) where
       (size : length m'.store ≡ length m.store)
       (words : (c : ℕ) → word_place_break (length m.store) c ≡ None → use_at s n c ≡ Engaged
       → word_at m'.store c ≡ word_at m.store c) where
-    half_stays : (c : ℕ) (side : Side) (q : Request) → IsTakenHalf s n named m c side q
-        → IsTakenHalf s' n named' m' c side q
-    half_stays c side q t =
-        record {
-          process = t.process;
-          name = waits t.process ∙ t.name;
-          waits = reasons t.process ∙ t.waits;
-          channel_word = words c t.placed t.engaged ∙ t.channel_word;
-          engaged = engaged_to (word_number c) t.engaged;
-          placed = subst (λ z. word_place_break z c ≡ None) (sym size) t.placed;
-        }
-
     pub channels_stay : ShowsChannels s n named m → ShowsChannels s' n named' m'
-    channels_stay k =
-        record {
-          taken = λ c side q e. half_stays c side q (k.taken c side q (sym (halves c side) ∙ e));
-          halves = λ c side. ((k.halves c side).0, halves c side ∙ (k.halves c side).1);
-          waiting = λ process c side buffer e.
-              halves c side ∙ k.waiting process c side buffer (sym (reasons process) ∙ e)
-              ∙ ap (λ y. IsHalf (Some (record { process = y; buffer = buffer }))) (sym (waits process));
-          engaged = λ j e. (let f = k.engaged j (engaged_back j e) in
-              (f.0, f.1, f.2, f.3, halves f.0 f.1 ∙ f.4));
-        }
+    channels_stay =
+        channels_kept s s' n named named' m m' (record {
+          waits = λ w c side buffer e. (reasons w ∙ e, waits w);
+          waited = λ w c side buffer e. (sym (reasons w) ∙ e, waits w);
+          engaged_to = engaged_to;
+          engaged_back = engaged_back;
+          halves = halves;
+          size = size;
+          words = words;
+        })
 
--- what asks at a link, by the names of those that wait
+-- what asks at a link, where those that offer there have the same names
+pub asking_alike : (named named' : Seat → Name) (o : Option Offer)
+    → ((e : Offer) → o ≡ Some e → named' (Waiting e.wdesc) ≡ named (Waiting e.wdesc))
+    → half_asking named' o ≡ half_asking named o
+asking_alike named named' None h = refl
+asking_alike named named' (Some e) h =
+    ap (λ y. Offered (record { process = y; buffer = buffer_of e })) (h e refl)
+
+-- a link
+pub link_renamed : (s s' : State) (n : ℕ) (named named' : Seat → Name) (sent : ℕ → Option Pending) (node node' : Node)
+    (l : ℕ)
+    → ((e : Offer) → ((link_end node.machine.control l).input ≡ Some e)
+    ⊎ ((link_end node.machine.control l).output ≡ Some e) → named' (Waiting e.wdesc) ≡ named (Waiting e.wdesc))
+    → ((side : Side) → s' (LinkHalf (end_at n l) side) ≡ s (LinkHalf (end_at n l) side))
+    → link_end node'.machine.control l ≡ link_end node.machine.control l → was_copied node' l ≡ was_copied node l
+    → ShowsLink s n named sent node l → ShowsLink s' n named' sent node' l
+link_renamed s s' n named named' sent node node' l waits halves same copied k =
+    record {
+      input = halves Input ∙ k.input
+          ∙ ap IsLink (sym (asking_alike named named' (link_end node.machine.control l).input (λ e f. waits e (inl f))))
+          ∙ ap (λ (e : LinkEnd). IsLink (half_asking named' e.input)) (sym same);
+      output = halves Output ∙ k.output;
+      offered = λ o e. (let f : (link_end node.machine.control l).output ≡ Some o =
+          sym (ap (λ (e : LinkEnd). e.output) same) ∙ e in
+          k.offered o f
+          ∙ ap (λ b. Some (record { request = request_of named o; copied = b })) (sym copied)
+          ∙ ap (λ y. Some (record {
+            request = record { process = y; buffer = buffer_of o };
+            copied = was_copied node' l;
+          })) (sym (waits o (inr f))));
+      fresh = λ e. copied ∙ k.fresh (sym (ap (λ (e : LinkEnd). e.output) same) ∙ e);
+      forgotten = ap (λ (e : LinkEnd). e.remembered) same ∙ k.forgotten;
+      pending = λ p e f. (let o = k.pending p e f in (o.0, ap (λ (e : LinkEnd). e.output) same ∙ o.1));
+    }
+
 pub half_asking_stays : (named named' : Seat → Name) (o : Option Offer)
     → ((w : ℕ) → named' (Waiting w) ≡ named (Waiting w))
     → half_asking named' o ≡ half_asking named o
-half_asking_stays named named' None h = refl
-half_asking_stays named named' (Some o) h =
-    ap (λ y. Offered (record { process = y; buffer = buffer_of o })) (h o.wdesc)
+half_asking_stays named named' o h = asking_alike named named' o (λ e f. h e.wdesc)
 
--- a link
 pub link_stays : (s s' : State) (n : ℕ) (named named' : Seat → Name) (sent : ℕ → Option Pending) (node node' : Node)
     (l : ℕ) → ((w : ℕ) → named' (Waiting w) ≡ named (Waiting w))
     → ((side : Side) → s' (LinkHalf (end_at n l) side) ≡ s (LinkHalf (end_at n l) side))
     → link_end node'.machine.control l ≡ link_end node.machine.control l → was_copied node' l ≡ was_copied node l
     → ShowsLink s n named sent node l → ShowsLink s' n named' sent node' l
 link_stays s s' n named named' sent node node' l waits halves same copied k =
-    record {
-      input = halves Input ∙ k.input ∙ ap (λ (e : LinkEnd). IsLink (half_asking named e.input)) (sym same)
-          ∙ ap IsLink (sym (half_asking_stays named named' (link_end node'.machine.control l).input waits));
-      output = halves Output ∙ k.output;
-      offered = λ o e.
-          k.offered o (sym (ap (λ (e : LinkEnd). e.output) same) ∙ e)
-          ∙ ap (λ b. Some (record { request = request_of named o; copied = b })) (sym copied)
-          ∙ ap (λ y. Some (record {
-            request = record { process = y; buffer = buffer_of o };
-            copied = was_copied node' l;
-          })) (sym (waits o.wdesc));
-      forgotten = ap (λ (e : LinkEnd). e.remembered) same ∙ k.forgotten;
-      pending = λ p e f. (let o = k.pending p e f in (o.0, ap (λ (e : LinkEnd). e.output) same ∙ o.1));
-    }
+    link_renamed s s' n named named' sent node node' l (λ e f. waits e.wdesc) halves same copied k

@@ -1,9 +1,9 @@
 -- All nodes of a plan without a fault are steady before the first step.
-use Rattle.std.proofs.Common.{◌≡◌, ℕ, ◌<◌, subst, List, [], ◌∷◌, map, All, get_or}
-use Rattle.std.proofs.Common.{Some, replicate, arith}
+use Rattle.std.proofs.Common.{◌≡◌, ℕ, ◌<◌, refl, subst, List, [], ◌∷◌, map, All, get_or, Some, replicate, arith}
 use Rattle.std.specs.Prelude.{slice_get}
 use Rattle.std.specs.List.{concat}
-use Rattle.std.proofs.lemmas.List.Elements.{All-append, All-map, All-weaker, All-replicate, All-nil, All-head, All-tail}
+use Rattle.std.proofs.lemmas.List.Elements.{All-append, All-map, All-weaker, All-replicate, All-nil, All-head}
+use Rattle.std.proofs.lemmas.List.Elements.{All-tail}
 use Rattle.std.proofs.lemmas.Option.{slice_get-get_or, slice_get_within, get_or_from_slice_get}
 use Rattle.tword.specs.Stores.{HoldsBytes}
 use Rattle.tword.specs.Claims.{is_input}
@@ -17,8 +17,7 @@ use Rattle.tplan.specs.declared.plan.NodePlan.{NodePlan}
 use Rattle.tplan.specs.declared.plan.SourcePlan.{SourcePlan}
 use Rattle.tplan.specs.declared.plan.SinkPlan.{SinkPlan}
 use Rattle.tproc.specs.Machine.{claims_of}
-use Rattle.tnet.specs.Building.{machines_of, opened_machine, opening_node, opening_configuration}
-use Rattle.tnet.specs.Building.{fresh_scripts}
+use Rattle.tnet.specs.Building.{machines_of, opened_machine, opening_node, opening_configuration, fresh_scripts}
 use Rattle.tnet.specs.Rendezvous.{Node}
 use Rattle.tproc.proofs.Scripted.{hidden_again}
 use Rattle.tseen.specs.Steps.{IsSteady, IsSteadyNode, OpeningNodesAreSteady}
@@ -36,6 +35,7 @@ script_steady : (n : NodeState) → HoldsBytes n.machine.store → (n.role ≡ P
 script_steady n bytes other =
     record {
       bytes = hiding_holds (λ a. is_input (claims_of n.machine.control) (byte_span a)) most_neg n.machine.store bytes;
+      copied = refl;
       hides = hidden_again n.machine;
       steady = λ h. absurd (other h);
     }
@@ -72,7 +72,7 @@ opening_nodes_are_steady p none words n node here =
     processor k plan at =
         let steady : IsSteady (opening_node Processor (opened_machine p.timeslice plan)) =
         opening_is_steady p none words k plan _ at (processor_there p k plan at) in
-        record { bytes = steady.placed.bytes; hides = steady.hides; steady = λ h. steady }
+        record { bytes = steady.placed.bytes; copied = refl; hides = steady.hides; steady = λ h. steady }
 
     processors : All IsSteadyNode (map (opening_node Processor) (machines_of p))
     processors =

@@ -1,7 +1,7 @@
 -- Each step of the rendezvous machine leaves all nodes steady.
 use Rattle.std.proofs.Common.{◌≡◌, ◌≢◌, ℕ, ◌≤◌, refl, sym, ap, subst, ◌∙◌, length, Bool, arith}
 use Rattle.std.proofs.Common.{◌⊎◌, inl, inr, true, false, Ok, Option, Some, None, List}
-use Rattle.std.proofs.lemmas.List.{length-take, length-drop}
+use Rattle.std.proofs.lemmas.List.{length-take, length-drop, length-set}
 use Rattle.std.proofs.lemmas.List.Elements.{All-take, All-drop}
 use Rattle.tword.specs.Accesses.{IsMemorySize}
 use Rattle.tword.specs.Words.{most_neg}
@@ -44,14 +44,18 @@ put_keeps c n node all one k after h = by (found c n k node after h)
     by (inl e) = subst IsSteadyNode (sym e.1) one
     by (inr e) = all k after e.1
 
+still_four : (node : Node) (l : ℕ) (b : Bool) → length node.copied ≡ 4 → length (marked l b node).copied ≡ 4
+still_four node l b h = length-set node.copied l b ∙ h
+
 -- which outputs were copied is no matter
-marks_keep : (c : Configuration) (n l : ℕ) (b : Bool) (o : Option Node) → node_of c n ≡ o → AreSteady c
+pub marks_keep : (c : Configuration) (n l : ℕ) (b : Bool) (o : Option Node) → node_of c n ≡ o → AreSteady c
     → AreSteady (marked_at n l b c o)
 marks_keep c n l b None e all = all
 marks_keep c n l b (Some node) e all =
     put_keeps c n (marked l b node) all (let old : IsSteadyNode node = all n node e in
     record {
       bytes = old.bytes;
+      copied = still_four node l b old.copied;
       hides = old.hides;
       steady = λ h. record {
         placed = (old.steady h).placed;
@@ -61,10 +65,11 @@ marks_keep c n l b (Some node) e all =
     })
 
 -- a node whose machine hides its pending inputs
-steady_node : (node : Node) (m : Machine) → node.machine ≡ hidden m → HoldsBytes m.store
+steady_node : (node : Node) (m : Machine) → node.machine ≡ hidden m → HoldsBytes m.store → length node.copied ≡ 4
     → (node.role ≡ Processor → IsFirm m) → IsSteadyNode node
-steady_node node m e bytes firm =
+steady_node node m e bytes copied firm =
     record {
+      copied = copied;
       bytes = subst (λ (z : Machine). HoldsBytes z.store) (sym e)
           (hiding_holds (λ a. is_input (claims_of m.control) (byte_span a)) most_neg m.store bytes);
       hides = ap hidden e ∙ hidden_again m ∙ sym e;
@@ -131,7 +136,7 @@ filled_firm m (Sink kept) l n k f h = absurd (differ h)
     differ e = cc
 
 -- cells of a store that holds bytes
-cells_hold : (s : Store) (a n : ℕ) → HoldsBytes s → HoldsBytes (cells s a n)
+pub cells_hold : (s : Store) (a n : ℕ) → HoldsBytes s → HoldsBytes (cells s a n)
 cells_hold s a n h = All-take IsCell _ _ (All-drop IsCell _ _ h)
 
 few_cells : (s : Store) (a n : ℕ) → length (cells s a n) ≤ n
@@ -190,7 +195,7 @@ module _ (sender receiver : Node) (out inp : Offer) (l : ℕ)
   given_steady : Fits receiver.role out inp → IsSteadyNode (given out sender l inp receiver)
   given_steady fits =
       steady_node (given out sender l inp receiver) (filled receiver.role l out.length holding) refl
-      (filled_bytes holding held_bytes receiver.role l out.length)
+      (filled_bytes holding held_bytes receiver.role l out.length) second.copied
       (filled_firm holding receiver.role l out.length out.length (held_firm fits))
 
 -- what a processor is
@@ -204,7 +209,7 @@ steps_keep_steady c c' (Local n) l all =
     subst AreSteady (sym l.after) (put_keeps c n (record l.node { machine = hidden l.machine }) all
     (steady_node (record l.node { machine = hidden l.machine }) l.machine refl
     (step-leaves HoldsBytes l.node.machine old.bytes (stays l.node.machine old.bytes) l.machine l.ran l.steps)
-    (λ h. (
+    old.copied (λ h. (
       step_keeps_placed l.node.machine l.machine l.ran (old.steady h).placed l.steps,
       (sizes_stay l.node.machine (old.steady h).placed (old.steady h).sized).steps l.machine l.ran l.steps,
     ))))
@@ -214,7 +219,7 @@ steps_keep_steady c c' (Notice e) l all =
     (record l.node { machine = hidden (notice e.link l.node.machine) })
     all (steady_node (record l.node { machine = hidden (notice e.link l.node.machine) })
     (notice e.link l.node.machine) refl
-    (noticed_bytes l.node.machine old.bytes e.link)
+    (noticed_bytes l.node.machine old.bytes e.link) old.copied
     (λ h. noticed_firm l.node.machine e.link (firm_of l.node old h))))
 steps_keep_steady c c' (Copy f e) l all =
     subst AreSteady (sym l.after) (marks_keep (put_node e.node (given l.out l.sender e.link l.inp l.receiver) c) f.node
@@ -235,12 +240,13 @@ steps_keep_steady c c' (Wake f) l all =
       machine = hidden (woken l.node.role f.link
           l.node.machine);
     })) (woken l.node.role f.link l.node.machine) refl
-    (woken_bytes l.node.machine old.bytes l.node.role f.link)
+    (woken_bytes l.node.machine old.bytes l.node.role f.link) (still_four l.node f.link false old.copied)
     (woken_firm l.node.machine l.node.role f.link (firm_of l.node old))))
 steps_keep_steady c c' (Freeze_at n b) l all =
     let old : IsSteadyNode l.node = all n l.node l.here in
     subst AreSteady (sym l.after) (put_keeps c n (record l.node { broken = Some b }) all (record {
       bytes = old.bytes;
+      copied = old.copied;
       hides = old.hides;
       steady = λ h. record {
         placed = (old.steady h).placed;

@@ -1,7 +1,7 @@
 -- The step of a current process whose instruction is local leads where its node's own step leads.
-use Rattle.std.proofs.Common.{◌≡◌, ◌≢◌, ℕ, ◌+◌, ◌<◌, ◌/◌, refl, sym, ap, subst, ◌∙◌, Bool, true}
-use Rattle.std.proofs.Common.{[], false, true≢false, cond, get_or, Ok, Option, Some, None, arith}
-use Rattle.std.specs.Prelude.{◌==◌, IfSome, is_some}
+use Rattle.std.proofs.Common.{◌≡◌, ◌≢◌, ℕ, ◌+◌, ◌<◌, ◌/◌, refl, sym, ap, subst, ◌∙◌, Bool, true, [], false, true≢false}
+use Rattle.std.proofs.Common.{cond, get_or, Ok, Option, Some, None, arith}
+use Rattle.std.specs.Prelude.{◌==◌, is_some}
 use Rattle.std.proofs.lemmas.Bool.{ne_eqb}
 use Rattle.std.proofs.lemmas.List.{ext_get_or}
 use Rattle.tword.specs.Words.{most_neg}
@@ -18,6 +18,7 @@ use Rattle.tcpu.specs.declared.registers.Next.{Next}
 use Rattle.tcpu.specs.declared.registers.Next.TheVariants.{Go, Jumped, Schedule}
 use Rattle.tcpu.specs.Outcomes.{Outcome}
 use Rattle.tcpu.specs.Effects.{effect}
+use Rattle.tproc.specs.declared.ran.Ran.{Ran}
 use Rattle.tproc.specs.declared.ran.Ran.TheVariants as ran
 use Rattle.tproc.specs.Machine.{Control, Machine, claims_of}
 use Rattle.tproc.specs.Hidden.{hidden}
@@ -28,20 +29,18 @@ use Rattle.treduction.proofs.PlainSteps.{follows, running}
 use Rattle.treduction.proofs.Effects.{decode-plain, effect-plain}
 use Rattle.tplan.specs.declared.plan.Plan.{Plan}
 use Rattle.tnet.specs.Rendezvous.{Node, Configuration}
-use Rattle.tprocesses.specs.Places.{Place, Name, WordAt, Standing, Error, HaltOnError, Life}
-use Rattle.tprocesses.specs.Places.{HasRun, FlagChanged}
-use Rattle.tprocesses.specs.Values.{Value, Context, Stand, Absent, Rests, Runs, Waits, Ended, IsFlag, Free, stand_in}
+use Rattle.tprocesses.specs.Places.{Place, Name, WordAt, Standing, Error, HaltOnError, Life, FlagChanged, same_name}
+use Rattle.tprocesses.specs.Values.{Value, Context, Runs, Free, stand_in}
 use Rattle.tprocesses.specs.Parts.{require, SawTheScheduler}
 use Rattle.tprocesses.specs.Touching.{Site}
 use Rattle.tprocesses.specs.Performing.{Performed, perform}
 use Rattle.tprocesses.specs.Machine.{Process, site_of, step_of, at_site, process_step}
 use Rattle.tprocesses.specs.Instructions.{runs}
 use Rattle.tseen.specs.Known.{HasRegisters}
-use Rattle.tseen.specs.Seats.{Seat, Current}
+use Rattle.tseen.specs.Seats.{Seat, Interrupted}
 use Rattle.tseen.specs.Outputs.{Pending}
-use Rattle.tseen.specs.Processes.{Fits, IsSeated, context_in}
 use Rattle.tseen.specs.Shown.{ShowsNode}
-use Rattle.tseen.specs.Steps.{IsCurrent, LeadsTo, next_in, next_after, next_of}
+use Rattle.tseen.specs.Steps.{IsCurrent, LeadsTo, is_dispatching, next_in, next_after, next_of}
 use Rattle.tseen.specs.Steps.{LocalInstructionsAreSeen}
 use Rattle.tseen.proofs.After.{State, After, after_bind, after_require, after_step}
 use Rattle.tseen.proofs.Spans.{claim_parts, word_of_number}
@@ -55,7 +54,7 @@ use Rattle.tseen.proofs.Completed.{is_own, WentOn, Follows, completed_then, left
 use Rattle.tseen.proofs.Frames.{node_at}
 use Rattle.tseen.proofs.Nets.{leads_by}
 use Rattle.tseen.proofs.Own.{own_shown}
-use Rattle.tseen.proofs.Running.{RunsThere, runs_there}
+use Rattle.tseen.proofs.Running.{RunsThere, runs_there, interrupted_apart}
 
 -- pending inputs that were hidden are hidden still, where their bytes stay
 pub hidden_if : (m : Control) (store store' : Store)
@@ -145,25 +144,19 @@ module _ (p : Plan) (c : Configuration) (s : State) (n : ℕ) (x : Name) (k : Is
   pub there : RunsThere s n k.plan k.node x
   there = by m.current refl
     where
-      ran_of : (level : ℕ) → m.current ≡ Some level → (stand : Stand) → Fits k.node Current stand
-          → IfSome (context_in stand) (λ d. s (HasRun n d.priority) ≡ IsFlag true) → s (HasRun n level) ≡ IsFlag true
-      ran_of level e (Runs d) f h =
-          let g : HasRegisters level m.registers d = rw e at f in
-          ap (λ q. s (HasRun n q)) (sym g.priority) ∙ h
-      ran_of level e Absent f h = absurd f
-      ran_of level e (Rests d) f h = absurd f
-      ran_of level e (Waits d) f h = absurd f
-      ran_of level e Ended f h = absurd f
-
       by : (o : Option ℕ) → m.current ≡ o → RunsThere s n k.plan k.node x
-      by None e = let h : is_some m.current ≡ true = k.runs in let f : false ≡ true = rw e at h in
-          absurd (true≢false (sym f))
+      by None e =
+          let f : true ≡ false = subst (λ (o : Option ℕ). is_dispatching o m.high ≡ false) e k.runs in
+          absurd (true≢false f)
       by (Some level) e =
-          let seat : IsSeated s n k.node Current (k.shows.named n Current) =
-          shown_node.processes.seated Current k.runs in
           let small : level < 2 = rw e at k.steady.placed.priority in
-          runs_there s n k.plan (k.shows.named n) (k.shows.sent n) k.node shown_node k.steady k.alone level e small
-          (ran_of level e seat.stand seat.fits seat.has_run) x k.name
+          runs_there s n k.plan (k.shows.named n) (k.shows.sent n) k.node shown_node k.steady k.kept level e small
+          k.runs x k.name
+
+  -- an interrupted process is another one
+  pub apart : is_some m.interrupted ≡ true → same_name x (k.shows.named n Interrupted) ≡ false
+  apart =
+      interrupted_apart s n k.plan (k.shows.named n) (k.shows.sent n) k.node shown_node k.steady p x there
 
   abbrev claims : Claims
   claims = claims_of m
@@ -254,7 +247,7 @@ module _ (p : Plan) (c : Configuration) (s : State) (n : ℕ) (x : Name) (k : Is
           (record k.node { machine = made after store' count })
       own =
           own_shown p k.plan n s u s' (k.shows.named n) (k.shows.sent n) k.node shown_node k.steady.placed there.whole
-          x there.home there.level there.current k.name there.none after count store' there.context c' there.stood
+          x there.home there.level there.current k.name apart k.kept after count store' there.context c' there.stood
           there.registers.priority knows on
           (subst (λ w. WentOn site x w after c' u s') there.registers.wptr went) ran.Instruction stepped
 
@@ -265,14 +258,14 @@ module _ (p : Plan) (c : Configuration) (s : State) (n : ℕ) (x : Name) (k : Is
           (ap (λ (z : Machine). z.store) k.steady.hides))
 
   -- the step of the processor: what follows its instruction
-  pub step_is : (i : Instruction) (pp : Performed Outcome) (t : State) (d : Executed i pp t) (control : Control)
-      (last : Store)
+  pub step_does : (i : Instruction) (pp : Performed Outcome) (t : State) (d : Executed i pp t) (control : Control)
+      (did : Ran) (last : Store)
       → run (decode m.kind m.registers.iptr) k.node.machine.store claims ≡ Ok (i, k.node.machine.store)
       → run_from (after i.length (rank there.level) m d.after d.next) k.node.machine.store claims d.store'
-      ≡ Ok ((control, ran.Instruction), last)
-      → step k.node.machine ≡ Ok (record { control = control; store = last }, ran.Instruction)
+      ≡ Ok ((control, did), last)
+      → step k.node.machine ≡ Ok (record { control = control; store = last }, did)
   unfolding step instruction_step
-  step_is i pp t d control last decodes e =
+  step_does i pp t d control did last decodes e =
       ap (acted k.node.machine.store)
       (running there.level m k.node.machine.store k.node.machine.store claims
       shown_node.runs_on there.current there.first
@@ -282,6 +275,14 @@ module _ (p : Plan) (c : Configuration) (s : State) (n : ℕ) (x : Name) (k : Is
       ∙ follows (effect m.kind i m.registers) _ k.node.machine.store k.node.machine.store claims (d.after, d.next)
       d.store' (effect-plain m.kind i m.registers) (does i pp t d)
       ∙ e)
+
+  pub step_is : (i : Instruction) (pp : Performed Outcome) (t : State) (d : Executed i pp t) (control : Control)
+      (last : Store)
+      → run (decode m.kind m.registers.iptr) k.node.machine.store claims ≡ Ok (i, k.node.machine.store)
+      → run_from (after i.length (rank there.level) m d.after d.next) k.node.machine.store claims d.store'
+      ≡ Ok ((control, ran.Instruction), last)
+      → step k.node.machine ≡ Ok (record { control = control; store = last }, ran.Instruction)
+  step_is i pp t d control last decodes e = step_does i pp t d control ran.Instruction last decodes e
 
   -- the context that an instruction leaves
   abbrev pub left : Instruction → Performed Outcome → Context

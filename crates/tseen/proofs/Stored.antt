@@ -1,6 +1,7 @@
 -- The store beside a state that tells of it, where both are read and written.
 use Rattle.std.proofs.Common.{◌≡◌, ℕ, zero, suc, ◌+◌, ◌-◌, ◌*◌, ◌<◌, ◌≤◌, ◌/◌, refl, sym, ap, subst, ◌∙◌, List, []}
-use Rattle.std.proofs.Common.{◌∷◌, ◌++◌, length, get_or, take, drop, Bool, true, false, true≢false, Option, Some, None}
+use Rattle.std.proofs.Common.{◌∷◌, ◌++◌, length, get_or, take, drop, Bool, true, false, true≢false, Option, Some}
+use Rattle.std.proofs.Common.{None}
 use Rattle.std.proofs.Common.{arith, ◌⊎◌, inl, inr, unwrap_or, add-zero, append-nil}
 use Rattle.std.specs.Int.{w32, from_le_bytes}
 use Rattle.std.proofs.lemmas.Bool.{cases_lt, le-ltb}
@@ -131,7 +132,7 @@ set_both n size s t store a known [] tells keeps set same each free (inl z) =
 set_both n size s t store a known (x ∷ there) tells keeps set same each free (inl z) = absurd (omega (arith, z))
 
 -- bytes that are known or not
-knows_same : (x : Option ℕ) → Knows x x
+pub knows_same : (x : Option ℕ) → Knows x x
 knows_same None = tt
 knows_same (Some b) = refl
 

@@ -21,7 +21,7 @@ use Rattle.tseen.proofs.Nets.{chosen}
 abbrev pub within : (first count j : ℕ) → Bool
 within first count j = nat_le first j && nat_lt j (first + count)
 
-within_from : (first count j : ℕ) → first ≤ j → j < first + count → within first count j ≡ true
+pub within_from : (first count j : ℕ) → first ≤ j → j < first + count → within first count j ≡ true
 within_from first count j a b = and_from _ _ (le-leb first j a) (lt-ltb j (first + count) b)
 
 not_within : (first count j : ℕ) → (first ≤ j → j < first + count → ⊥) → within first count j ≡ false
@@ -159,10 +159,10 @@ pub one_less : (a : ℕ) (b : Bool) → (if b then apply (Add (negsuc 0)) (IsAmo
 one_less a true = ap IsAmount (omega (arith, ints))
 one_less a false = ap (λ z. IsAmount (pos z)) (omega arith)
 
-abbrev without : ℕ → (ℕ → Option Pending) → ℕ → Option Pending
+abbrev pub without : ℕ → (ℕ → Option Pending) → ℕ → Option Pending
 without link sent l = chosen (link == l) None (sent l)
 
-fewer_at : (link : ℕ) (sent : ℕ → Option Pending) (j : ℕ) → link < 4
+pub fewer_at : (link : ℕ) (sent : ℕ → Option Pending) (j : ℕ) → link < 4
     → sendings sent j ≡ sendings (without link sent) j + cond (is_sending j (sent link)) 1 0
 fewer_at zero sent j m = omega arith
 fewer_at (suc zero) sent j m = omega arith

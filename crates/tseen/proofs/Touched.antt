@@ -1,7 +1,6 @@
 -- What a touch of the memory tells that went through, and what a write leaves.
-use Rattle.std.proofs.Common.{◌≡◌, ℕ, zero, suc, ◌+◌, ◌-◌, ◌*◌, ◌<◌, ◌≤◌, ◌/◌, ◌%◌, refl, ap, subst, ◌∙◌, []}
-use Rattle.std.proofs.Common.{◌++◌, length, get_or, Bool, true, false, cond, None, arith}
-use Rattle.std.proofs.Common.{◌⊎◌, inl, inr, length-append}
+use Rattle.std.proofs.Common.{◌≡◌, ℕ, zero, suc, ◌+◌, ◌-◌, ◌*◌, ◌<◌, ◌≤◌, ◌/◌, ◌%◌, refl, ap, subst, ◌∙◌, [], ◌++◌}
+use Rattle.std.proofs.Common.{length, get_or, Bool, true, false, cond, None, arith, ◌⊎◌, inl, inr, length-append}
 use Rattle.std.specs.Prelude.{ℤ, pos, negsuc}
 use Rattle.std.proofs.lemmas.Bool.{eqb-true, cases_eq, cases_lt}
 use Rattle.std.proofs.lemmas.List.{get_or_append_left, get_or-append_right}
@@ -9,12 +8,10 @@ use Rattle.tword.specs.Stores.{Store}
 use Rattle.tword.specs.Claims.{Claims}
 use Rattle.tword.specs.Touches.{Mode, Reads, Writes, claim_break}
 use Rattle.tprocesses.specs.Places.{WordAt, Sending}
-use Rattle.tprocesses.specs.Values.{Use, Free, Saved, Receiving, Engaged, Last, Spoilt}
-use Rattle.tprocesses.specs.Values.{amount_in}
+use Rattle.tprocesses.specs.Values.{Use, Free, Saved, Receiving, Engaged, Last, Spoilt, amount_in}
 use Rattle.tword.specs.declared.breaks.Break.TheVariants.{InTransit}
 use Rattle.tprocesses.specs.Parts.{Breaks, gives, stopping, done, ◌>>=◌}
-use Rattle.tprocesses.specs.Touching.{Site, free_cells, settled, touch_word, touch_words}
-use Rattle.tprocesses.specs.Touching.{is_zero}
+use Rattle.tprocesses.specs.Touching.{Site, free_cells, settled, touch_word, touch_words, is_zero}
 use Rattle.tseen.proofs.After.{State, After, after_bind}
 use Rattle.tseen.proofs.Spans.{word_of_number}
 use Rattle.tseen.proofs.Cells.{word_of, use_of, cell, IsWhole, four_of}
@@ -41,7 +38,7 @@ pub record AreTouched (s : State) (n : ℕ) (mode : Mode) (first count : ℕ) (w
   pub size : length words ≡ 4 * count
   pub cells : (j : ℕ) → j < 4 * count → get_or words j None ≡ cell s n (4 * first + j)
 
-zero_is : (z : ℤ) → is_zero z ≡ true → z ≡ pos 0
+pub zero_is : (z : ℤ) → is_zero z ≡ true → z ≡ pos 0
 zero_is (pos m) h = ap pos (eqb-true m 0 h)
 zero_is (negsuc m) h = cc
 

@@ -1,7 +1,6 @@
 -- A word that is free in the process machine has no byte of a saved word or of a pending input.
-use Rattle.std.proofs.Common.{◌≡◌, ℕ, ◌+◌, ◌-◌, ◌*◌, ◌/◌, ◌%◌, ◌<◌, ◌≤◌, refl, sym, ap, ◌∙◌, subst, length, map}
-use Rattle.std.proofs.Common.{Bool, true, false, cond, Option, Some, None}
-use Rattle.std.proofs.Common.{◌⊎◌, inl, inr, arith, Contains, option_map, All}
+use Rattle.std.proofs.Common.{◌≡◌, ℕ, ◌+◌, ◌-◌, ◌*◌, ◌/◌, ◌%◌, ◌<◌, ◌≤◌, refl, sym, ap, ◌∙◌, subst, length, map, Bool}
+use Rattle.std.proofs.Common.{true, false, cond, Option, Some, None, ◌⊎◌, inl, inr, arith, Contains, option_map, All}
 use Rattle.std.proofs.Common.{zero, suc, pos, [], ◌∷◌, IfSome}
 use Rattle.std.proofs.lemmas.Bool.{cases_eq, ne_eqb, and_from, le-leb, lt-ltb, both_ways}
 use Rattle.std.proofs.lemmas.List.{length-map, get_or-map}
@@ -30,6 +29,11 @@ use Rattle.tseen.specs.Halves.{request_of}
 use Rattle.tnet.specs.Rendezvous.{was_copied}
 use Rattle.tseen.specs.Shown.{FreeWordsAreReadable, UnsentWordsAreWritable}
 use Rattle.tseen.proofs.Built.{lies_below}
+use Rattle.tplan.specs.declared.plan.NodePlan.{NodePlan}
+use Rattle.tnet.specs.Rendezvous.{Node}
+use Rattle.tprocesses.specs.Places.{Name, Sending}
+use Rattle.tseen.specs.Seats.{Seat}
+use Rattle.tseen.specs.Shown.{ShowsNode}
 
 not_saved : Saved ≡ Free → ⊥
 not_saved e = cc
@@ -38,7 +42,8 @@ not_receiving : Receiving ≡ Free → ⊥
 not_receiving e = cc
 
 module _ (s : Place → Value) (n : ℕ) (sent : ℕ → Option Pending) (m : Machine) (placed : IsPlaced m)
-    (marks : AreMarked s n sent m.control) (k : ℕ) (free : (word_in (s (WordAt n k))).used ≡ Free) where
+    (marks : AreMarked s n sent m.control) (k : ℕ) (not_in_saved : (word_in (s (WordAt n k))).used ≡ Saved → ⊥)
+    (not_in_input : (word_in (s (WordAt n k))).used ≡ Receiving → ⊥) where
   abbrev span : Span
   span = word_span (most_neg + 4 * k)
 
@@ -47,7 +52,7 @@ module _ (s : Place → Value) (n : ℕ) (sent : ℕ → Option Pending) (m : Ma
       → word_below w j ≡ most_neg + 4 * k → ⊥
   other_below w j used l e =
       let same : word_number (word_below w j) ≡ k = omega (arith, e) in
-      not_saved (sym used ∙ ap (λ i. (word_in (s (WordAt n i))).used) same ∙ free)
+      not_in_saved (sym (ap (λ i. (word_in (s (WordAt n i))).used) same) ∙ used)
 
   unsaved_by : (w : ℕ) → Contains (descheduled m.control) w → overlap span (saved_words w) ≡ true → ⊥
   unsaved_by w c o =
@@ -129,9 +134,9 @@ module _ (s : Place → Value) (n : ℕ) (sent : ℕ → Option Pending) (m : Ma
           let within : k - word_number o.buffer < word_count (buffer_of o) =
           omega (arith, many, low, high, b.0, some) in
           let same : word_number o.buffer + (k - word_number o.buffer) ≡ k = omega (arith, low, high, b.0) in
-          not_receiving
-          (sym (marks.inputs l o is (k - word_number o.buffer) within)
-          ∙ ap (λ i. (word_in (s (WordAt n i))).used) same ∙ free)
+          not_in_input
+          (sym (ap (λ i. (word_in (s (WordAt n i))).used) same)
+          ∙ marks.inputs l o is (k - word_number o.buffer) within)
 
   abbrev claim : LinkEnd → Option Span
   claim e = option_map buffer_of e.input
@@ -232,20 +237,35 @@ module _ (s : Place → Value) (n : ℕ) (sent : ℕ → Option Pending) (m : Ma
     writable : claim_break (claims_of m.control) Writes span ≡ None
     writable = rw (still, unsent, unsaved) refl
 
--- so it is of each node that is shown
+-- so it is of each node that is shown, with a word that is no saved word and not of a pending input
+module _ (s : Place → Value) (n : ℕ) (plan : NodePlan) (named : Seat → Name) (sent : ℕ → Option Pending) (node : Node)
+    (shown : ShowsNode s n plan named sent node) (placed : IsPlaced node.machine) (k : ℕ)
+    (not_in_saved : (word_in (s (WordAt n k))).used ≡ Saved → ⊥)
+    (not_in_input : (word_in (s (WordAt n k))).used ≡ Receiving → ⊥) where
+  same_number : (a b : ℕ) → pos a ≡ pos b → a ≡ b
+  same_number a b e = cc
+
+  pub unclaimed_readable : claim_break (claims_of node.machine.control) Reads (word_span (most_neg + 4 * k)) ≡ None
+  unclaimed_readable = readable s n sent node.machine placed shown.marks k not_in_saved not_in_input
+
+  pub unclaimed_writable : amount_in (s (Sending n k)) ≡ pos 0
+      → claim_break (claims_of node.machine.control) Writes (word_span (most_neg + 4 * k)) ≡ None
+  unclaimed_writable none =
+      writable s n sent node.machine placed shown.marks k not_in_saved not_in_input
+      (λ l small o is. (
+        record { request = request_of named o; copied = was_copied node l },
+        (shown.links l small).offered o is,
+        refl,
+      ))
+      (same_number (sendings sent k) 0 (sym (ap amount_in (shown.marks.outputs k)) ∙ none))
+
+-- a word that is free is one
 pub free_words_are_readable : FreeWordsAreReadable
 free_words_are_readable s n plan named sent node shown placed k free =
-    readable s n sent node.machine placed shown.marks k free
-
-same_number : (a b : ℕ) → pos a ≡ pos b → a ≡ b
-same_number a b e = cc
+    unclaimed_readable s n plan named sent node shown placed k (λ e. not_saved (sym e ∙ free))
+    (λ e. not_receiving (sym e ∙ free))
 
 pub unsent_words_are_writable : UnsentWordsAreWritable
 unsent_words_are_writable s n plan named sent node shown placed k free none =
-    writable s n sent node.machine placed shown.marks k free
-    (λ l small o is. (
-      record { request = request_of named o; copied = was_copied node l },
-      (shown.links l small).offered o is,
-      refl,
-    ))
-    (same_number (sendings sent k) 0 (sym (ap amount_in (shown.marks.outputs k)) ∙ none))
+    unclaimed_writable s n plan named sent node shown placed k (λ e. not_saved (sym e ∙ free))
+    (λ e. not_receiving (sym e ∙ free)) none

@@ -10,18 +10,18 @@ use Rattle.tword.specs.Touches.{Mode, Reads, Writes, is_aligned, place_break, wo
 use Rattle.tword.proofs.Passing.{inside_bounds}
 use Rattle.tword.proofs.Copying.{with_cells-below, with_cells-in, with_cells-above}
 use Rattle.tprocesses.specs.Places.{WordAt}
-use Rattle.tprocesses.specs.Values.{Free, IsWord}
+use Rattle.tprocesses.specs.Values.{Use, Free, IsWord}
 use Rattle.tprocesses.specs.Changes.{Change, Put}
-use Rattle.tprocesses.specs.Touching.{Site, word_number, word_count, touch, part_of}
-use Rattle.tprocesses.specs.Touching.{replaced, write, write_word_at, touch_word_at}
+use Rattle.tprocesses.specs.Touching.{Site, word_number, word_count, touch, part_of, replaced, write, write_word_at}
+use Rattle.tprocesses.specs.Touching.{touch_word_at}
 use Rattle.tprocesses.specs.Performing.{copied}
 use Rattle.tprocesses.specs.Parts.{unless}
 use Rattle.tseen.proofs.After.{State, changed, After, after_bind, after_unless}
 use Rattle.tseen.proofs.Spans.{IsWordOf, placed_span, word_placed}
 use Rattle.tseen.proofs.Cells.{word_of, use_of, cell, IsWhole, range-at, range-length}
 use Rattle.tseen.proofs.Touched.{IsTouched, AreTouched, touch_word_then, touch_words_then}
-use Rattle.tseen.proofs.Written.{Keeps, IsLaid, AreLaid, AreSet, put_words_then, laid_keeps, laid_cell, other_cell}
-use Rattle.tseen.proofs.Written.{changed_there, changed_word, changed_else}
+use Rattle.tseen.proofs.Written.{Keeps, IsLaid, AreLaid, AreLaidFor, AreSet, put_words_then, laid_keeps, laid_cell}
+use Rattle.tseen.proofs.Written.{other_cell, changed_there, changed_word, changed_else}
 
 -- where in its first word a span begins
 abbrev pub offset : Span → ℕ
@@ -49,14 +49,29 @@ reach size span whole placed = by (cases_eq span.size 0) (inside_bounds size spa
           fits = λ k l h. omega (arith, many, b.1, whole);
         }
 
+-- these are the cells of words in a row
+pub record AreRead (s : State) (n first count : ℕ) (words : Store) : Type 0 where
+  pub size : length words ≡ 4 * count
+  pub cells : (j : ℕ) → j < 4 * count → get_or words j None ≡ cell s n (4 * first + j)
+
 -- a span was touched, and these are the cells of its words
 pub record IsSpanTouched (s : State) (n size : ℕ) (mode : Mode) (span : Span) (words : Store) : Type 0 where
   pub placed : place_break size span ≡ None
   pub are : AreTouched s n mode (word_number span.start) (word_count span) words
 
+-- these are the cells of the words of a span
+pub record IsSpanRead (s : State) (n size : ℕ) (span : Span) (words : Store) : Type 0 where
+  pub placed : place_break size span ≡ None
+  pub are : AreRead s n (word_number span.start) (word_count span) words
+
+pub span_read : (s : State) (n size : ℕ) (mode : Mode) (span : Span) (words : Store)
+    → IsSpanTouched s n size mode span words → IsSpanRead s n size span words
+span_read s n size mode span words t =
+    record { placed = t.placed; are = record { size = t.are.size; cells = t.are.cells } }
+
 -- the cells of the span among them
-module _ (s : State) (n size : ℕ) (mode : Mode) (span : Span) (words : Store) (whole : size % 4 ≡ 0)
-    (t : IsSpanTouched s n size mode span words) where
+module _ (s : State) (n size : ℕ) (span : Span) (words : Store) (whole : size % 4 ≡ 0)
+    (t : IsSpanRead s n size span words) where
   pub part-length : length (part_of span words) ≡ span.size
   part-length = by (reach size span whole t.placed).covers
     where
@@ -128,9 +143,11 @@ module _ (s : State) (n size : ℕ) (mode : Mode) (span : Span) (words : Store) 
             (omega (arith, t.are.size, e)) size_new j (omega (arith, size_new)))
 
     -- so the cells of the span are set
-    pub span_set : (u : State) → AreLaid n (word_number span.start) (word_count span) (replaced span words new) s u
+    pub span_set : {used : Use} (u : State)
+        → AreLaidFor used n (word_number span.start) (word_count span) (replaced span words new) s u
         → AreSet n (place span.start) new s u
-    span_set u l = record { inside = inside; outside = λ i b. outside i b (cases_lt i first) (cases_lt i behind) }
+    span_set {used} u l =
+        record { inside = inside; outside = λ i b. outside i b (cases_lt i first) (cases_lt i behind) }
       where
         first : ℕ
         first = 4 * word_number span.start
@@ -196,14 +213,14 @@ module _ (site : Site) (whole : site.size % 4 ≡ 0) where
       → AreWhole s → ((t : State) → IsWritten s t span new → Q tt t) → After (write site span new) s Q
   write_then span new s Q size w h =
       after_bind (touch site Writes span) _ s Q (touch_then Writes span s _ w (λ words t.
-      put_words_then site (word_count span) (word_number span.start) (replaced span words new) s Q
-      (replaced-length s n site.size Writes span words whole t new size) (λ u l.
+      put_words_then site Free (word_count span) (word_number span.start) (replaced span words new) s Q
+      (replaced-length s n site.size span words whole (span_read s n site.size Writes span words t) new size) (λ u l.
       h u (record {
         placed = t.placed;
         touched = λ k i. t.are.touched k i.from i.to;
         keeps = laid_keeps n (word_number span.start) (word_count span) (replaced span words new) s u
             (λ k a b. (t.are.touched k a b).free) l;
-        set = span_set s n site.size Writes span words whole t new size u l;
+        set = span_set s n site.size span words whole (span_read s n site.size Writes span words t) new size u l;
       }))))
 
   -- a word
@@ -258,7 +275,7 @@ module _ (site : Site) (whole : site.size % 4 ≡ 0) where
           record {
             word = record { cells = new; used = Free };
             is = changed_there n k c s;
-            free = refl;
+            is_used = refl;
             four = size;
             cells = λ j b. ap (λ i. get_or new i None) (omega arith);
           }
@@ -267,32 +284,36 @@ module _ (site : Site) (whole : site.size % 4 ≡ 0) where
       apart l (inl b) e = omega (arith, e)
       apart l (inr b) e = omega (arith, e)
 
+  pub word_written : (a : ℕ) (new : Store) (s : State) → length new ≡ 4 → IsWordTouched s Writes a
+      → IsWordWritten s (changed (WordAt n (word_number a)) (Put (IsWord (record { cells = new; used = Free }))) s) a
+      new
+  word_written a new s size t =
+      let l : AreLaid n (word_number a) 1 new s made = word_laid (word_number a) new s size in
+      record {
+        touched = t;
+        keeps = laid_keeps n (word_number a) 1 new s made
+            (λ k b c. (let e : word_number a ≡ k = omega arith in
+            subst (λ i. use_of s n i ≡ Free) e t.touched.free)) l;
+        set = subst (λ p. AreSet n p new s made) (sym t.at) (record {
+          inside = λ j b. laid_cell n (word_number a) 1 new s made l j (omega (arith, size));
+          outside = λ i b. other_cell n (word_number a) 1 new s made l i (side i b);
+        });
+      }
+    where
+      made : State
+      made = changed (WordAt n (word_number a)) (Put (IsWord (record { cells = new; used = Free }))) s
+
+      side : (i : ℕ) → (i < 4 * word_number a) ⊎ (4 * word_number a + length new ≤ i)
+          → (i < 4 * word_number a) ⊎ (4 * word_number a + 4 * 1 ≤ i)
+      side i (inl b) = inl b
+      side i (inr b) = inr (omega (arith, size))
+
   pub write_word_at_then : (a : ℕ) (new : Store) (s : State) (Q : Unit {0} → State → Type 0) → length new ≡ 4
       → ((t : State) → IsWordWritten s t a new → Q tt t) → After (write_word_at site a new) s Q
   write_word_at_then a new s Q size h =
-      after_bind (touch_word_at site Writes a) _ s Q (touch_word_at_then Writes a s _ (λ t. h (made t) (more t)))
-    where
-      made : IsWordTouched s Writes a → State
-      made t = changed (WordAt n (word_number a)) (Put (IsWord (record { cells = new; used = Free }))) s
-
-      more : (t : IsWordTouched s Writes a) → IsWordWritten s (made t) a new
-      more t =
-          let l : AreLaid n (word_number a) 1 new s (made t) = word_laid (word_number a) new s size in
-          record {
-            touched = t;
-            keeps = laid_keeps n (word_number a) 1 new s (made t)
-                (λ k b c. (let e : word_number a ≡ k = omega arith in
-                subst (λ i. use_of s n i ≡ Free) e t.touched.free)) l;
-            set = subst (λ p. AreSet n p new s (made t)) (sym t.at) (record {
-              inside = λ j b. laid_cell n (word_number a) 1 new s (made t) l j (omega (arith, size));
-              outside = λ i b. other_cell n (word_number a) 1 new s (made t) l i (side i b);
-            });
-          }
-        where
-          side : (i : ℕ) → (i < 4 * word_number a) ⊎ (4 * word_number a + length new ≤ i)
-              → (i < 4 * word_number a) ⊎ (4 * word_number a + 4 * 1 ≤ i)
-          side i (inl b) = inl b
-          side i (inr b) = inr (omega (arith, size))
+      after_bind (touch_word_at site Writes a) _ s Q (touch_word_at_then Writes a s _ (λ t.
+      h (changed (WordAt n (word_number a)) (Put (IsWord (record { cells = new; used = Free }))) s)
+      (word_written a new s size t)))
 
   -- a span was copied to another
   pub record IsCopied (s t : State) (from to : Span) : Type 0 where
@@ -306,5 +327,5 @@ module _ (site : Site) (whole : site.size % 4 ≡ 0) where
   copied_then from to s Q same w h =
       after_bind (touch site Reads from) _ s Q (touch_then Reads from s _ w (λ words r.
       write_then to (part_of from words) s Q
-      (part-length s n site.size Reads from words whole r ∙ sym same) w (λ t k.
+      (part-length s n site.size from words whole (span_read s n site.size Reads from words r) ∙ sym same) w (λ t k.
       h t (record { new = part_of from words; words = words; read = r; written = k }))))

@@ -6,7 +6,7 @@ use Rattle.std.specs.Prelude.{◌==◌}
 use Rattle.std.proofs.lemmas.Bool.{eq-eqb, ne_eqb, cases_eq, cases_lt}
 use Rattle.tword.specs.Stores.{Store}
 use Rattle.tprocesses.specs.Places.{Place, WordAt}
-use Rattle.tprocesses.specs.Values.{Value, Word, Free, IsWord, word_in}
+use Rattle.tprocesses.specs.Values.{Value, Word, Use, Free, IsWord, word_in}
 use Rattle.tprocesses.specs.Changes.{Change, Put, apply}
 use Rattle.tprocesses.specs.Touching.{Site, put_words}
 use Rattle.tseen.proofs.After.{State, changed, After}
@@ -49,27 +49,34 @@ keeps_more n s t u a b =
       others = λ q h. b.others q h ∙ a.others q h;
     }
 
--- a word was laid down, for programs, with the cells from a place on
-pub record IsLaid (v : Value) (words : Store) (from : ℕ) : Type 0 where
+-- a word was laid down, for this use, with the cells from a place on
+pub record IsLaidFor (used : Use) (v : Value) (words : Store) (from : ℕ) : Type 0 where
   pub word : Word
   pub is : v ≡ IsWord word
-  pub free : word.used ≡ Free
+  pub is_used : word.used ≡ used
   pub four : length word.cells ≡ 4
   pub cells : (j : ℕ) → j < 4 → get_or word.cells j None ≡ get_or words (from + j) None
 
 -- words in a row were laid down
-pub record AreLaid (n first count : ℕ) (words : Store) (s t : State) : Type 0 where
-  pub inside : (k : ℕ) → first ≤ k → k < first + count → IsLaid (t (WordAt n k)) words (4 * (k - first))
+pub record AreLaidFor (used : Use) (n first count : ℕ) (words : Store) (s t : State) : Type 0 where
+  pub inside : (k : ℕ) → first ≤ k → k < first + count → IsLaidFor used (t (WordAt n k)) words (4 * (k - first))
   pub outside : (k : ℕ) → (k < first) ⊎ (first + count ≤ k) → t (WordAt n k) ≡ s (WordAt n k)
   pub others : (q : Place) → is_word_of n q ≡ false → t q ≡ s q
 
-module _ (site : Site) where
+-- for programs
+abbrev pub IsLaid : Value → Store → ℕ → Type 0
+IsLaid v words from = IsLaidFor Free v words from
+
+abbrev pub AreLaid : (n first count : ℕ) → Store → State → State → Type 0
+AreLaid n first count words s t = AreLaidFor Free n first count words s t
+
+module _ (site : Site) (used : Use) where
   abbrev n : ℕ
   n = site.number
 
   pub put_words_then : (count first : ℕ) (words : Store) (s : State) (Q : Unit {0} → State → Type 0)
-      → length words ≡ 4 * count → ((t : State) → AreLaid n first count words s t → Q tt t)
-      → After (put_words site Free first count words) s Q
+      → length words ≡ 4 * count → ((t : State) → AreLaidFor used n first count words s t → Q tt t)
+      → After (put_words site used first count words) s Q
   put_words_then zero first words s Q size h =
       h s (record { inside = λ k a b. absurd (omega arith); outside = λ k b. refl; others = λ q b. refl })
   put_words_then (suc count) first words s Q size h =
@@ -77,12 +84,13 @@ module _ (site : Site) where
       h t (more t l))
     where
       new : Value
-      new = IsWord (record { cells = take 4 words; used = Free })
+      new = IsWord (record { cells = take 4 words; used = used })
 
       mid : State
       mid = changed (WordAt n first) (Put new) s
 
-      more : (t : State) → AreLaid n (suc first) count (drop 4 words) mid t → AreLaid n first (suc count) words s t
+      more : (t : State) → AreLaidFor used n (suc first) count (drop 4 words) mid t
+          → AreLaidFor used n first (suc count) words s t
       more t l =
           record {
             inside = λ k a b. inside k a b (cases_eq first k);
@@ -90,34 +98,34 @@ module _ (site : Site) where
             others = λ q b. l.others q b ∙ changed_else n first (Put new) s q b;
           }
         where
-          here : IsLaid (t (WordAt n first)) words (4 * (first - first))
+          here : IsLaidFor used (t (WordAt n first)) words (4 * (first - first))
           here =
               let none : 4 * (first - first) ≡ 0 = omega arith in
               record {
-                word = record { cells = take 4 words; used = Free };
+                word = record { cells = take 4 words; used = used };
                 is = l.outside first (inl (omega arith)) ∙ changed_there n first (Put new) s;
-                free = refl;
+                is_used = refl;
                 four = length-take 4 words ∙ omega (arith, size);
                 cells = λ j b. get_or-take 4 words j None b ∙ ap (λ i. get_or words i None) (omega arith);
               }
 
           there : (k : ℕ) → first ≤ k → k < first + suc count → (first ≡ k → ⊥)
-              → IsLaid (t (WordAt n k)) words (4 * (k - first))
+              → IsLaidFor used (t (WordAt n k)) words (4 * (k - first))
           there k a b e =
-              let d : IsLaid (t (WordAt n k)) (drop 4 words) (4 * (k - suc first)) =
+              let d : IsLaidFor used (t (WordAt n k)) (drop 4 words) (4 * (k - suc first)) =
               l.inside k (omega (arith, e)) (omega arith) in
               record {
                 word = d.word;
                 is = d.is;
-                free = d.free;
+                is_used = d.is_used;
                 four = d.four;
                 cells = λ j c. d.cells j c ∙ get_or-drop 4 words (4 * (k - suc first) + j) None
                     ∙ ap (λ i. get_or words i None) (omega (arith, e));
               }
 
           inside : (k : ℕ) → first ≤ k → k < first + suc count → (first ≡ k) ⊎ (first ≡ k → ⊥)
-              → IsLaid (t (WordAt n k)) words (4 * (k - first))
-          inside k a b (inl e) = subst (λ i. IsLaid (t (WordAt n i)) words (4 * (i - first))) e here
+              → IsLaidFor used (t (WordAt n k)) words (4 * (k - first))
+          inside k a b (inl e) = subst (λ i. IsLaidFor used (t (WordAt n i)) words (4 * (i - first))) e here
           inside k a b (inr e) = there k a b e
 
           outside : (k : ℕ) → (k < first) ⊎ (first + suc count ≤ k) → t (WordAt n k) ≡ s (WordAt n k)
@@ -147,7 +155,7 @@ laid_keeps n first count words s t free l =
     uses k (inr a) (inr b) = ap (λ (v : Value). (word_in v).used) (l.outside k (inr b))
     uses k (inr a) (inl b) =
         let d : IsLaid (t (WordAt n k)) words (4 * (k - first)) = l.inside k a b in
-        ap (λ (v : Value). (word_in v).used) d.is ∙ d.free ∙ sym (free k a b)
+        ap (λ (v : Value). (word_in v).used) d.is ∙ d.is_used ∙ sym (free k a b)
 
     whole : (k : ℕ) → IsWhole (s (WordAt n k)) → (k < first) ⊎ (first ≤ k) → (k < first + count) ⊎ (first + count ≤ k)
         → IsWhole (t (WordAt n k))
@@ -164,21 +172,22 @@ laid_keeps n first count words s t free l =
     kept k h (inr a) (inl b) = absurd (h (free k a b))
 
 -- a cell of words that are laid down, and of the others
-pub laid_cell : (n first count : ℕ) (words : Store) (s t : State) → AreLaid n first count words s t → (j : ℕ)
-    → j < 4 * count → cell t n (4 * first + j) ≡ get_or words j None
-laid_cell n first count words s t l j b =
+pub laid_cell : {used : Use} (n first count : ℕ) (words : Store) (s t : State)
+    → AreLaidFor used n first count words s t → (j : ℕ) → j < 4 * count → cell t n (4 * first + j) ≡ get_or words j None
+laid_cell {used} n first count words s t l j b =
     let word : (4 * first + j) / 4 ≡ first + j / 4 = omega arith in
     let byte : (4 * first + j) % 4 ≡ j % 4 = omega arith in
-    let d : IsLaid (t (WordAt n (first + j / 4))) words (4 * (first + j / 4 - first)) =
+    let d : IsLaidFor used (t (WordAt n (first + j / 4))) words (4 * (first + j / 4 - first)) =
     l.inside (first + j / 4) (omega arith) (omega arith) in
     ap (λ k. get_or (word_of t n k).cells ((4 * first + j) % 4) None) word
     ∙ ap (λ i. get_or (word_of t n (first + j / 4)).cells i None) byte
     ∙ ap (λ (v : Value). get_or (word_in v).cells (j % 4) None) d.is
     ∙ d.cells (j % 4) (omega arith) ∙ ap (λ i. get_or words i None) (omega arith)
 
-pub other_cell : (n first count : ℕ) (words : Store) (s t : State) → AreLaid n first count words s t → (i : ℕ)
+pub other_cell : {used : Use} (n first count : ℕ) (words : Store) (s t : State)
+    → AreLaidFor used n first count words s t → (i : ℕ)
     → (i < 4 * first) ⊎ (4 * first + 4 * count ≤ i) → cell t n i ≡ cell s n i
-other_cell n first count words s t l i (inl b) =
+other_cell {used} n first count words s t l i (inl b) =
     ap (λ (v : Value). get_or (word_in v).cells (i % 4) None) (l.outside (i / 4) (inl (omega arith)))
-other_cell n first count words s t l i (inr b) =
+other_cell {used} n first count words s t l i (inr b) =
     ap (λ (v : Value). get_or (word_in v).cells (i % 4) None) (l.outside (i / 4) (inr (omega arith)))

@@ -24,8 +24,8 @@ use Rattle.tproc.proofs.SavedWords.{saved_words_stand}
 use Rattle.tplan.specs.declared.plan.Plan.{Plan}
 use Rattle.tnet.specs.Wires.{end_at}
 use Rattle.tnet.specs.Rendezvous.{Node, Configuration}
-use Rattle.tprocesses.specs.Places.{Place, Name, Standing, Half, LinkHalf, Error, HaltOnError, Life}
-use Rattle.tprocesses.specs.Places.{Population, HasRun, same_name}
+use Rattle.tprocesses.specs.Places.{Place, Name, Standing, Half, LinkHalf, Error, HaltOnError, Life, Population, HasRun}
+use Rattle.tprocesses.specs.Places.{same_name}
 use Rattle.tprocesses.specs.Values.{Value, Use, Free, Saved, Engaged, Context, Lent, Stand, Rests, Runs, IsStand}
 use Rattle.tprocesses.specs.Values.{IsAmount, word_in}
 use Rattle.tprocesses.specs.Performing.{Performed}
@@ -43,11 +43,11 @@ use Rattle.tseen.proofs.Written.{is_word_of}
 use Rattle.tseen.proofs.Finished.{is_stand_of, IsFlagged, HasMoved, StandsNow, moved, stands_then, place_itself}
 use Rattle.tseen.proofs.Finished.{one_name}
 use Rattle.tseen.proofs.Completed.{is_own}
-use Rattle.tseen.proofs.Running.{RunsThere}
+use Rattle.tseen.proofs.Running.{RunsThere, low_alone}
 use Rattle.tseen.proofs.Nets.{chosen}
 use Rattle.tseen.proofs.Staying.{channels_stay, link_stays}
-use Rattle.tseen.proofs.Counted.{count_at, live_is, live_idle, lives_are, moved_count, waits_descheduled}
-use Rattle.tseen.proofs.Counted.{queued_descheduled}
+use Rattle.tseen.proofs.Counted.{count_at, live_long, live_idle, lives_are, settled_alone, moved_count}
+use Rattle.tseen.proofs.Counted.{waits_descheduled, queued_descheduled}
 use Rattle.tseen.proofs.Stepped.{shown_node, there, step_then, Executed, left, next_is, one_next, leads_there}
 use Rattle.tseen.proofs.Stepped.{elsewhere_if}
 use Rattle.tseen.proofs.Saving.{no_word, IsSaved, save_then}
@@ -55,7 +55,7 @@ use Rattle.tseen.proofs.Jumps.{resting, go_not_jumped, scheduled_not_jumped, sam
 use Rattle.tseen.proofs.Others.{other_name, queued_seated, waiting_seated, is_running, queued_not_running}
 use Rattle.tseen.proofs.Others.{waiting_not_running}
 use Rattle.tseen.proofs.Yielding.{made, stepped, aligned, iptr_there, hidden_still, size_after}
-use Rattle.tseen.proofs.YieldWords.{at, used_now, unfree_stays, tells_now, channel_stays, marks_now, is_new}
+use Rattle.tseen.proofs.YieldWords.{at, used, unfree, tells_now, channel_stays, marks_now, new_there}
 
 -- names where a process has another seat
 abbrev pub renamed : (process : ℕ) → Name → (Seat → Name) → Seat → Name
@@ -82,6 +82,9 @@ module _ (p : Plan) (c : Configuration) (s : State) (n : ℕ) (x : Name) (k : Is
 
   abbrev running : RunsThere s n k.plan k.node x
   running = there p c s n x k
+
+  none : m.interrupted ≡ None
+  none = low_alone k.node.machine k.steady.placed (running.current ∙ ap Some low)
 
   abbrev rest : Context
   rest = resting p c s n x k i decodes pp t d jumps low
@@ -184,7 +187,7 @@ module _ (p : Plan) (c : Configuration) (s : State) (n : ℕ) (x : Name) (k : Is
 
   seated : (q : Seat) → is_taken now.control q ≡ true → IsSeated s' n node' q (named' q)
   seated Current h = absurd (true≢false (sym h))
-  seated Interrupted h = let f : false ≡ true = rw running.none at h in absurd (true≢false (sym f))
+  seated Interrupted h = let f : false ≡ true = rw none at h in absurd (true≢false (sym f))
   seated (Queued process) h = by (cases_eq process (w + 1))
     where
       by : (process ≡ w + 1) ⊎ (process ≡ w + 1 → ⊥) → IsSeated s' n node' (Queued process) (named' (Queued process))
@@ -223,15 +226,15 @@ module _ (p : Plan) (c : Configuration) (s : State) (n : ℕ) (x : Name) (k : Is
       of other (inr (Current, taken, e)) =
           absurd (true≢false (sym (itself x) ∙ ap (same_name x) (sym k.name ∙ e) ∙ other))
       of other (inr (Interrupted, taken, e)) =
-          let f : false ≡ true = rw running.none at taken in absurd (true≢false (sym f))
+          let f : false ≡ true = rw none at taken in absurd (true≢false (sym f))
       of other (inr (Waiting process, taken, e)) = inr (Waiting process, taken, e)
       of other (inr (Queued process, taken, e)) =
           inr (
             Queued process,
             still_queued process taken,
-            rw (ne_eqb process (w + 1) (λ f. is_new p c s n x k i decodes pp t d jumps low yields_now u v moved_on saved
-                rest s' rests (workspace_of process) (queued_descheduled m process taken)
-                (ap workspace_of f ∙ own_workspace))) e,
+            rw (ne_eqb process (w + 1)
+                (λ f. new_there p c s n x k i decodes pp t d jumps low yields_now u v moved_on saved rest s' rests
+                (workspace_of process) (queued_descheduled m process taken) (ap workspace_of f ∙ own_workspace))) e,
           )
 
       by : (b : Bool) → same_name x y ≡ b → HasPlace y
@@ -256,15 +259,17 @@ module _ (p : Plan) (c : Configuration) (s : State) (n : ℕ) (x : Name) (k : Is
       waiting = map (λ y. workspace_of y.process) m.waiting
 
       live_now : live now.control ≡ (m.high ++ (m.low ++ w ∷ [])) ++ waiting
-      live_now = live_idle now.control refl running.none
+      live_now = live_idle now.control refl ∙ settled_alone now.control none
 
   lives : (a : ℕ) → s' (Life n a) ≡ IsAmount (pos (count_at a (live now.control)))
   lives a =
       rests.others (Life n a) refl ∙ saved.set.rest (Life n a) (no_word n w (Life n a) refl) ∙ moved_on.lives a
       ∙ ap (moved site running.context.wptr w a)
       (d.on.keeps.others (Life n a) refl ∙ (shown_node p c s n x k).processes.lives a
-      ∙ ap (λ z. IsAmount (pos z)) (lives_are m running.level a running.current running.none aligned_before
-      running.small ∙ ap (λ z. count_at a (descheduled m) + cond (z == a) 1 0) (sym running.registers.wptr)))
+      ∙ ap (λ z. IsAmount (pos z)) (lives_are m running.level a running.current aligned_before
+      running.small
+      ∙ ap (λ (ws : List ℕ). count_at a ws + cond (m.registers.wptr == a) 1 0) (settled_alone m none)
+      ∙ ap (λ z. count_at a (descheduled m) + cond (z == a) 1 0) (sym running.registers.wptr)))
       ∙ moved_count site running.context.wptr w a (count_at a (descheduled m))
       ∙ ap (λ z. IsAmount (pos z)) (sym (counted_now a))
     where
@@ -273,13 +278,12 @@ module _ (p : Plan) (c : Configuration) (s : State) (n : ℕ) (x : Name) (k : Is
 
   many : length (live now.control) ≡ length (live m)
   many =
-      ap length (live_idle now.control refl running.none)
+      ap length (live_idle now.control refl ∙ settled_alone now.control none)
       ∙ length-append (m.high ++ (m.low ++ w ∷ [])) waiting
       ∙ ap (λ z. z + length waiting) (length-append m.high (m.low ++ w ∷ [])
       ∙ ap (λ z. length m.high + z) (length-append m.low (w ∷ [])))
-      ∙ sym (ap length (live_is m running.level running.current running.none)
-      ∙ length-append (descheduled m) (workspace_of (m.registers.wptr + running.level) ∷ [])
-      ∙ ap (λ z. z + 1) (length-append (m.high ++ m.low) waiting
+      ∙ sym (live_long m running.level running.current ∙ ap (λ (ws : List ℕ). suc (length ws)) (settled_alone m none)
+      ∙ ap suc (length-append (m.high ++ m.low) waiting
       ∙ ap (λ z. z + length waiting) (length-append m.high m.low)) ∙ omega arith)
     where
       waiting : List ℕ
@@ -305,12 +309,12 @@ module _ (p : Plan) (c : Configuration) (s : State) (n : ℕ) (x : Name) (k : Is
           subst (λ z. z ≤ (shown_node p c s n x k).processes.population.0) (sym many)
               (shown_node p c s n x k).processes.population.2,
         );
-        interrupting = rw running.none tt;
+        interrupting = rw none tt;
         flags = λ h. record {
           error = to_jump (Error n) refl refl ∙ moved_on.others (Error n) refl ∙ flagged.error;
           halting = to_jump (HaltOnError n) refl refl ∙ moved_on.others (HaltOnError n) refl ∙ flagged.halting;
         };
-        kept_flags = λ h. rw running.none tt;
+        kept_flags = λ h. rw none tt;
       }
     where
       to_jump : (q : Place) → is_stand_of x q ≡ false → is_word_of n q ≡ false → s' q ≡ u q
@@ -366,10 +370,10 @@ module _ (p : Plan) (c : Configuration) (s : State) (n : ℕ) (x : Name) (k : Is
         marks = marks_now p c s n x k i decodes pp t d jumps low yields_now u v moved_on saved rest s' rests;
         channels = channels_stay s s' n named named' k.node.machine now (λ a. refl)
             (λ j e. ap (λ (z : Value). (word_in z).used)
-            (unfree_stays p c s n x k i decodes pp t d jumps low yields_now u v moved_on saved rest s' rests j
+            (unfree p c s n x k i decodes pp t d jumps low yields_now u v moved_on saved rest s' rests j
             (engaged_free e)) ∙ e)
             (λ j e. engaged_back j e
-            (used_now p c s n x k i decodes pp t d jumps low yields_now u v moved_on saved rest s' rests j))
+            (used p c s n x k i decodes pp t d jumps low yields_now u v moved_on saved rest s' rests j))
             (λ a side. stay (Half n a side) refl refl) (λ q. refl)
             (size_after p c s n x k i decodes pp t d jumps low yields_now u v moved_on saved
             ∙ sym (shown_node p c s n x k).size)

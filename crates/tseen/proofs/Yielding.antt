@@ -1,7 +1,6 @@
 -- A jump at which a process yields is seen as the jump alone: the machine after it.
-use Rattle.std.proofs.Common.{◌≡◌, ◌≢◌, ℕ, ◌+◌, ◌<◌, ◌≤◌, ◌/◌, ◌%◌, ◌^◌, refl, sym, ap, subst, ◌∙◌}
-use Rattle.std.proofs.Common.{◌++◌, true, false, true≢false, length, get_or, Contains, Ok}
-use Rattle.std.proofs.Common.{None, arith, ◌⊎◌, inl, inr}
+use Rattle.std.proofs.Common.{◌≡◌, ◌≢◌, ℕ, ◌+◌, ◌<◌, ◌≤◌, ◌/◌, ◌%◌, ◌^◌, refl, sym, ap, subst, ◌∙◌, ◌++◌, true, false}
+use Rattle.std.proofs.Common.{true≢false, length, get_or, Contains, Ok, None, arith, ◌⊎◌, inl, inr}
 use Rattle.std.specs.Int.{w32, to_le_bytes}
 use Rattle.std.proofs.lemmas.Bool.{eqb-true, cases_lt}
 use Rattle.std.proofs.lemmas.List.Elements.{All-contains, Contains-append_left, Contains-append_right}
@@ -20,10 +19,9 @@ use Rattle.tcpu.specs.Outcomes.{Outcome}
 use Rattle.tcpu.specs.Effects.{effect}
 use Rattle.tproc.specs.declared.ran.Ran.TheVariants as ran
 use Rattle.tproc.specs.Machine.{Control, Machine, claims_of, descheduled}
-use Rattle.tproc.specs.Placement.{IsWord, AreWords, IsPlaced, IsWorkspace}
+use Rattle.tproc.specs.Placement.{IsWord, AreWords, IsWorkspace}
 use Rattle.tproc.specs.Steps.{step, after}
 use Rattle.tproc.proofs.PlaceWords.{decode-word, effect-words, HasWord, Words}
-use Rattle.tproc.proofs.Placed.{step_keeps_placed}
 use Rattle.tproc.proofs.WordsApart.{LiesWord, length-with_word, other_word, word_set}
 use Rattle.tplan.specs.declared.plan.Plan.{Plan}
 use Rattle.tnet.specs.Rendezvous.{Configuration}
@@ -150,9 +148,6 @@ module _ (p : Plan) (c : Configuration) (s : State) (n : ℕ) (x : Name) (k : Is
       (subst (λ z. run_from (after i.length 1 m d.after z) store claims d.store'
       ≡ Ok ((yielded m d.after, ran.Instruction), yielded_store d.store' d.after behind)) (sym jumps)
       (yield_runs i.length m d.after store d.store' claims aligned saves passes yields_now)))
-
-  pub placed_after : IsPlaced made
-  placed_after = step_keeps_placed k.node.machine made ran.Instruction k.steady.placed stepped
 
   -- the words that are set
   lies_own : LiesWord k.plan.memory (word_below w 1)

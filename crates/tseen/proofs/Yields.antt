@@ -34,7 +34,7 @@ low_yields [] m h = absurd (true≢false (sym h))
 low_yields (w ∷ ws) m h = refl
 
 -- a process is put behind the low ones
-abbrev put_behind : Control → (priority workspace : ℕ) → Action Control
+abbrev pub put_behind : Control → (priority workspace : ℕ) → Action Control
 put_behind m priority w = link_from (last_of (queue m priority)) w >> answer (appended w priority m)
 
 enqueued : (m : Control) (w : ℕ) → w % 4 ≡ 0 → enqueue (w + 1) m ≡ put_behind m 1 w

@@ -69,6 +69,8 @@ module _ (s : Place → Value) (n : ℕ) (named : Seat → Name) where
     -- an output that is pending is not over
     pub offered : (o : Offer) → (link_end node.machine.control l).output ≡ Some o
         → sent l ≡ Some (record { request = request_of named o; copied = was_copied node l })
+    -- an output that was copied is pending
+    pub fresh : (link_end node.machine.control l).output ≡ None → was_copied node l ≡ false
     -- no alternative has enabled the link
     pub forgotten : (link_end node.machine.control l).remembered ≡ None
     -- one whose message has not gone over is pending

@@ -17,3 +17,25 @@ pub mod Scripts
 pub mod Shown
 -- own steps of a node, and steps of its current process
 pub mod Steps
+-- steps of any agent
+pub mod AgentSteps
+-- processes that end together, and their successor
+pub mod Ended
+-- nets at rest
+pub mod Rest
+-- operations that begin a process
+pub mod Begun
+-- own steps that break no rule
+pub mod Freezes
+-- what holds all along a run
+pub mod Throughout
+-- low processes that high ones interrupt
+pub mod Interrupting
+-- messages on internal channels
+pub mod Messages
+-- messages on links
+pub mod Linked
+-- messages that wires have carried
+pub mod Carried
+-- all runs of a net
+pub mod Whole

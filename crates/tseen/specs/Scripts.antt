@@ -1,7 +1,8 @@
 -- Sources and sinks: the messages still to come, and those kept.
 -- Source: own choice.
-use Rattle.std.specs.Prelude.{ℕ, ◌≡◌, ◌+◌, Bool, true, false, List, [], ◌∷◌, drop, map, sum, Some, None}
-use Rattle.tword.specs.Stores.{Store, cells, shown}
+use Rattle.std.specs.Prelude.{ℕ, suc, ◌≡◌, ◌+◌, ◌≤◌, Bool, true, false, List, [], ◌∷◌, drop, map, sum, length, Some}
+use Rattle.std.specs.Prelude.{None}
+use Rattle.tword.specs.Stores.{Store, place, cells, shown, as_cells}
 use Rattle.tword.specs.Words.{most_neg}
 use Rattle.tlink.specs.Roles.{Source, Sink, first_offer}
 use Rattle.tplan.specs.declared.plan.End.{End}
@@ -29,8 +30,14 @@ module _ (s : Place → Value) (e : End) where
     pub over : List ℕ
     pub rest : List ℕ
     pub role : node.role ≡ Source over rest
+    -- no byte of its memory is hidden
+    pub seen : as_cells (shown node.machine.store) ≡ node.machine.store
+    -- its messages lie in its memory
     pub address : ℕ
+    pub above : most_neg ≤ address
+    pub lies : place address + sum rest ≤ length node.machine.store
     pub output : (link_end node.machine.control 0).output ≡ first_offer address rest
+    pub input : (link_end node.machine.control 0).input ≡ None
     pub messages : s (Messages e)
         ≡ AreMessages (to_come (was_copied node 0) (messages_from node.machine.store address rest))
 
@@ -42,6 +49,11 @@ module _ (s : Place → Value) (e : End) where
     pub room : ℕ
     pub input : (link_end node.machine.control 0).input
         ≡ Some (record { wdesc = 0; buffer = most_neg + sum kept; length = room })
+    pub output : (link_end node.machine.control 0).output ≡ None
+    -- its other links ask for nothing
+    pub alone : (l : ℕ) → (link_end node.machine.control (suc l)).input ≡ None
+    -- what it asks for lies in its memory
+    pub lies : sum kept + room ≤ length node.machine.store
     pub messages : List Store
     pub stands : s (Kept e) ≡ AreKept room messages
     pub knows : KnowsMessages messages (messages_from node.machine.store most_neg kept)

@@ -1,8 +1,8 @@
 -- Which own steps of a node are seen as which steps of its processes. Each case has the premise that the steps of the
 -- process do not stop, as none of a certified run does.
 -- Source: own choice.
-use Rattle.std.specs.Prelude.{ℕ, ◌+◌, ◌≡◌, ◌≢◌, ◌&&◌, List, [], ◌∷◌, Bool, true, false, Option, Some, None, Result, Ok}
-use Rattle.std.specs.Prelude.{Err, slice_get, is_some, nat_le, nat_lt, length}
+use Rattle.std.specs.Prelude.{ℕ, zero, suc, ◌+◌, ◌≡◌, ◌≢◌, ◌&&◌, List, [], ◌∷◌, Bool, true, false, Option, Some, None}
+use Rattle.std.specs.Prelude.{Ok, Result, Err, slice_get, nat_le, nat_lt, length}
 use Rattle.tword.specs.declared.breaks.Break.{Break}
 use Rattle.tword.specs.Stores.{Store, HoldsBytes}
 use Rattle.tword.specs.Actions.{run}
@@ -20,6 +20,7 @@ use Rattle.tproc.specs.Hidden.{hidden}
 use Rattle.tproc.specs.Kinds.{IsSized}
 use Rattle.tproc.specs.Placement.{IsPlaced}
 use Rattle.tproc.specs.Scheduler.{raised}
+use Rattle.tproc.specs.declared.waiter.Suspended.{Suspended}
 use Rattle.tplan.specs.declared.event.Note.{Note}
 use Rattle.tplan.specs.declared.plan.End.{End}
 use Rattle.tplan.specs.declared.plan.NodePlan.{NodePlan}
@@ -27,15 +28,14 @@ use Rattle.tplan.specs.declared.plan.Plan.{Plan}
 use Rattle.tplan.specs.declared.plan.SourcePlan.{SourcePlan}
 use Rattle.tlink.specs.Roles.{Processor}
 use Rattle.tnet.specs.Building.{fault_of, opening_configuration, ArePlanWords}
-use Rattle.tnet.specs.Rendezvous.{Node, Configuration, Step, Lawful, node_of, IsLocal, IsNotice, IsRun}
-use Rattle.tnet.specs.Rendezvous.{IsWake}
+use Rattle.tnet.specs.Rendezvous.{Node, Configuration, Step, Lawful, node_of, IsLocal, IsNotice, IsRun, IsWake}
 use Rattle.tnet.specs.Wires.{end_at}
-use Rattle.tagents.specs.Agents.{Does}
-use Rattle.tprocesses.specs.Places.{Place, Name, HasRun}
-use Rattle.tprocesses.specs.Values.{Value, flag_in}
+use Rattle.tprocesses.specs.Places.{Place, Name}
+use Rattle.tprocesses.specs.Values.{Value}
 use Rattle.tprocesses.specs.Machine.{Process}
-use Rattle.tprocesses.specs.Certified.{ProcessStep, machine_of}
+use Rattle.tseen.specs.AgentSteps.{AgentMakes}
 use Rattle.tseen.specs.Seats.{Current, Queued}
+use Rattle.tseen.specs.Processes.{KeepsFlags}
 use Rattle.tseen.specs.Shown.{Shows}
 
 -- a processor that is placed, whose memory has a size of its kind, and whose pending inputs are hidden
@@ -44,11 +44,15 @@ pub record IsSteady (node : Node) : Type 0 where
   pub sized : IsSized node.machine
   pub hides : hidden node.machine ≡ node.machine
 
--- processes of one priority alone have run at a node
-abbrev pub HasOnePriority : (Place → Value) → ℕ → Type 0
-HasOnePriority s n = (flag_in (s (HasRun n 0)) && flag_in (s (HasRun n 1))) ≡ false
+-- the next step is a dispatch, or there is none: no process runs, or a high one is queued while a low one runs
+abbrev pub is_dispatching : Option ℕ → (high : List ℕ) → Bool
+is_dispatching None high = true
+is_dispatching (Some zero) high = false
+is_dispatching (Some (suc level)) [] = false
+is_dispatching (Some (suc level)) (w ∷ ws) = true
 
--- a process is the current one of a node, where processes of one priority alone have run
+-- a process is the current one of a node, and the next step of the node is its instruction. No schedule can change the
+-- flags of the node
 pub record IsCurrent (p : Plan) (c : Configuration) (s : Place → Value) (n : ℕ) (x : Name) : Type 0 where
   pub shows : Shows p c s
   pub plan : NodePlan
@@ -56,16 +60,13 @@ pub record IsCurrent (p : Plan) (c : Configuration) (s : Place → Value) (n : �
   pub node : Node
   pub here : node_of c n ≡ Some node
   pub steady : IsSteady node
-  pub runs : is_some node.machine.control.current ≡ true
+  pub runs : is_dispatching node.machine.control.current node.machine.control.high ≡ false
   pub name : shows.named n Current ≡ x
-  pub alone : HasOnePriority s n
+  pub kept : KeepsFlags s n
 
 -- a process makes a step that does not stop
-pub record Makes (p : Plan) (x : Name) (s s' : Place → Value) : Type 0 where
-  pub label : ProcessStep
-  pub agent : label.agent ≡ Process x
-  pub step : Does (machine_of p) s label s'
-  pub goes_on : (machine_of p).stops label ≡ false
+abbrev pub Makes : Plan → Name → (s s' : Place → Value) → Type 0
+Makes p x s s' = AgentMakes p (Process x) s s'
 
 -- the node's own step leads to a configuration that a state shows
 pub record LeadsTo (p : Plan) (c : Configuration) (n : ℕ) (s : Place → Value) : Type 0 where
@@ -125,13 +126,13 @@ YieldsAreSeen =
     → next_of k.node.machine ≡ Some Jumped → k.node.machine.control.current ≡ Some 1
     → yields k.node.machine.control ≡ true → Makes p x s s' → LeadsTo p c n s'
 
--- the process that is dispatched next: the first high one, or else the first low one
-abbrev pub next_queued : (high low : List ℕ) → Option ℕ
-next_queued (w ∷ ws) low = Some w
-next_queued [] (w ∷ ws) = Some (w + 1)
-next_queued [] [] = None
+-- the process that is dispatched next: the first high one, or else the first low one, where none was interrupted
+abbrev pub next_queued : Option Suspended → (high low : List ℕ) → Option ℕ
+next_queued interrupted (w ∷ ws) low = Some w
+next_queued None [] (w ∷ ws) = Some (w + 1)
+next_queued _ [] _ = None
 
--- a process is the next one of a node at which none runs, where processes of one priority alone have run
+-- a process is the next one of a node at which none runs. No schedule can change the flags of the node
 pub record IsNext (p : Plan) (c : Configuration) (s : Place → Value) (n : ℕ) (x : Name) : Type 0 where
   pub shows : Shows p c s
   pub plan : NodePlan
@@ -141,9 +142,10 @@ pub record IsNext (p : Plan) (c : Configuration) (s : Place → Value) (n : ℕ)
   pub steady : IsSteady node
   pub idle : node.machine.control.current ≡ None
   pub process : ℕ
-  pub next : next_queued node.machine.control.high node.machine.control.low ≡ Some process
+  pub next : next_queued node.machine.control.interrupted node.machine.control.high node.machine.control.low
+      ≡ Some process
   pub name : shows.named n (Queued process) ≡ x
-  pub alone : HasOnePriority s n
+  pub kept : KeepsFlags s n
 
 -- a dispatch is seen as that the process goes on from its rest
 abbrev pub DispatchesAreSeen : Type 0
@@ -189,9 +191,11 @@ OwnStepsKeepSteady =
     (c c' : Configuration) (n : ℕ) (node : Node) → IsLocal c n c' → node_of c n ≡ Some node → IsSteady node
     → (node' : Node) × (node_of c' n ≡ Some node') × IsSteady node'
 
--- a node whose memory holds bytes, whose pending inputs are hidden, and which is steady where it is a processor
+-- a node whose memory holds bytes, whose pending inputs are hidden, which tells of each of four links whether its
+-- output was copied, and which is steady where it is a processor
 pub record IsSteadyNode (node : Node) : Type 0 where
   pub bytes : HoldsBytes node.machine.store
+  pub copied : length node.copied ≡ 4
   pub hides : hidden node.machine ≡ node.machine
   pub steady : node.role ≡ Processor → IsSteady node
 

@@ -1,6 +1,6 @@
 -- The words of a node: their bytes, and that what a processor claims is marked in the process machine.
 -- Source: own choice.
-use Rattle.std.specs.Prelude.{false, ℕ, ◌≡◌, ◌+◌, ◌*◌, ◌<◌, ◌≤◌, pos, All, [], ◌∷◌, Option, Some, slice_range}
+use Rattle.std.specs.Prelude.{true, false, ℕ, ◌≡◌, ◌+◌, ◌*◌, ◌<◌, ◌≤◌, pos, All, [], ◌∷◌, Option, Some, slice_range}
 use Rattle.tword.specs.Stores.{Store}
 use Rattle.tword.specs.declared.span.Span.{Span}
 use Rattle.tword.specs.Words.{word_below}
@@ -12,7 +12,7 @@ use Rattle.tprocesses.specs.Values.{Value, Word, Use, Saved, Receiving, IsWord, 
 use Rattle.tprocesses.specs.Machine.{awaits_successor}
 use Rattle.tprocesses.specs.Touching.{word_number, word_count}
 use Rattle.tseen.specs.Known.{KnowsCells}
-use Rattle.tseen.specs.Outputs.{Pending, sendings}
+use Rattle.tseen.specs.Outputs.{Pending, covers, sendings}
 
 -- a word of the process machine tells of the word of the store
 pub record ShowsWord (store : Store) (k : ℕ) (v : Value) : Type 0 where
@@ -45,6 +45,9 @@ module _ (s : Place → Value) (n : ℕ) where
     pub saved : All AreSavedWords (descheduled m)
     -- the buffers of pending inputs
     pub inputs : (l : ℕ) (o : Offer) → (link_end m l).input ≡ Some o → IsUsed Receiving (buffer_of o)
+    -- a word has bytes of one of them alone
+    pub inputs_apart : (j k l : ℕ) (o q : Offer) → (link_end m k).input ≡ Some o → (link_end m l).input ≡ Some q
+        → covers j (buffer_of o) ≡ true → covers j (buffer_of q) ≡ true → k ≡ l
     -- the buffers of the outputs that are not over
     pub outputs : (k : ℕ) → s (Sending n k) ≡ IsAmount (pos (sendings sent k))
     -- no successor is due: one goes on in the step in which the last of the processes before it ends

@@ -1,7 +1,14 @@
 //! Laws of what the process machine shows of the rendezvous machine, each as the contract of a function that does
 //! nothing.
 
+ghost use Rattle.tseen.specs.Begun.{BeginningsAreSeen};
+ghost use Rattle.tseen.specs.Freezes.{DispatchesBreakNothing, InstructionsBreakNothing, StepsThatLeadBreakNothing};
+ghost use Rattle.tseen.specs.Ended.{EndsAreSeen, LastEndsAreSeen, SuccessorsAreDue};
+ghost use Rattle.tseen.specs.AgentSteps.{CertifiedRunsNeverStop};
+ghost use Rattle.tseen.specs.Rest.{RestsAreSeen};
 ghost use Rattle.tseen.specs.Shown.{FreeWordsAreReadable, KnownWordsAreThere, OpeningIsShown, UnsentWordsAreWritable};
+ghost use Rattle.tseen.specs.Interrupting.{InterruptionsAreSeen, ResumptionsAreSeen};
+ghost use Rattle.tseen.specs.Throughout.{FewThroughout, KeptFlagsThroughout, RunsAreTold};
 ghost use Rattle.tseen.specs.Steps.{DispatchesAreSeen, HighJumpsAreSeen, InstructionsAreDone, LoadedPrioritiesAreSeen};
 ghost use Rattle.tseen.specs.Steps.{LocalInstructionsAreSeen, LowJumpsAreSeen, OpeningIsSteady, OwnStepsKeepSteady};
 ghost use Rattle.tseen.specs.Steps.{NoticesAreSeen, OpeningNodesAreSteady, RunsStaySteady, StepsKeepSteady};
@@ -76,6 +83,34 @@ pub fn stops_are_seen()
     ensures { StopsAreSeen }
 {}
 
+/// So is what `endp` leads to where other processes have still to end at its count, if the step of their successor does
+/// not stop.
+pub fn ends_are_seen()
+    ensures { EndsAreSeen }
+{}
+
+/// What the last `endp` at its count leads to is shown by the state after the step of its process and the step of the
+/// successor.
+pub fn last_ends_are_seen()
+    ensures { LastEndsAreSeen }
+{}
+
+/// After the step of the process that does the last `endp` the successor has its step.
+pub fn successors_are_due()
+    ensures { SuccessorsAreDue }
+{}
+
+/// Where no step of the rendezvous machine is lawful, no agent of a state that shows it has a step, if no step would
+/// stop.
+pub fn rests_are_seen()
+    ensures { RestsAreSeen }
+{}
+
+/// Wherever a run of a plan with a certificate leads, no agent has a step that stops.
+pub fn certified_runs_never_stop()
+    ensures { CertifiedRunsNeverStop }
+{}
+
 /// The processors of a plan without a fault are steady before the first step.
 pub fn the_opening_is_steady()
     ensures { OpeningIsSteady }
@@ -110,4 +145,51 @@ pub fn notices_are_seen()
 /// So it is where a message of a source is over, and the source offers its next one.
 pub fn source_wakes_are_seen()
     ensures { SourceWakesAreSeen }
+{}
+
+/// What `startp` and `runp` lead to is shown by the state after the step of their process, where no node has had more
+/// processes than it may.
+pub fn beginnings_are_seen()
+    ensures { BeginningsAreSeen }
+{}
+
+/// Where the own step of a node leads on, no break of it freezes the node.
+pub fn steps_that_lead_break_nothing()
+    ensures { StepsThatLeadBreakNothing }
+{}
+
+/// Nor does a break of a dispatch.
+pub fn dispatches_break_nothing()
+    ensures { DispatchesBreakNothing }
+{}
+
+/// Nor does a break of any other instruction than `endp` and communications, if the step of its process does not stop.
+pub fn instructions_break_nothing()
+    ensures { InstructionsBreakNothing }
+{}
+
+/// If no node has had more processes than it may at the end of a run of the process machine, none had before.
+pub fn nodes_had_few_throughout()
+    ensures { FewThroughout }
+{}
+
+/// Wherever a run from the opening leads, the flags are there that tell which priorities have run.
+pub fn runs_are_told()
+    ensures { RunsAreTold }
+{}
+
+/// If no flag was changed at the end where processes of both priorities have run, none was before.
+pub fn flags_were_kept_throughout()
+    ensures { KeptFlagsThroughout }
+{}
+
+/// Where a process that was interrupted goes on, the state that showed the net before shows it after.
+pub fn resumptions_are_seen()
+    ensures { ResumptionsAreSeen }
+{}
+
+/// If a high process interrupts a low one, the state after the high one has gone on from its rest shows what this leads
+/// to.
+pub fn interruptions_are_seen()
+    ensures { InterruptionsAreSeen }
 {}

@@ -2,3 +2,6 @@
 #![tactic(auto)]
 
 pub mod laws;
+pub mod links;
+pub mod messages;
+pub mod whole;

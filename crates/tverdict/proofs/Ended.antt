@@ -22,11 +22,11 @@ use Rattle.tverdict.specs.Verdicts.{EndsCertified, HadMany, ChangedFlags, had_ma
 use Rattle.tverdict.proofs.Frames.{chosen}
 
 -- what holds of all holds of each
-all_at : {X : Type 0} (P : X → Type 0) (xs : List X) → All P xs → (k : ℕ) (x : X) → slice_get xs k ≡ Some x → P x
+pub all_at : {X : Type 0} (P : X → Type 0) (xs : List X) → All P xs → (k : ℕ) (x : X) → slice_get xs k ≡ Some x → P x
 all_at P xs h k x e = subst P (get_or_from_slice_get xs k x x e) (h k x (slice_get_within xs k x e))
 
 -- the first one that passes
-first_at : {X : Type 0} (test : X → Bool) (xs : List X) (k : ℕ) → position test xs ≡ Some k
+pub first_at : {X : Type 0} (test : X → Bool) (xs : List X) (k : ℕ) → position test xs ≡ Some k
     → (x : X) × (slice_get xs k ≡ Some x) × (test x ≡ true)
 first_at test [] k e = cc
 first_at test (y ∷ ys) k e =

@@ -91,7 +91,7 @@ pub chosen : {A : Type 0} (t : Bool) (u v : A) → t ≡ true → (if t then u e
 chosen true u v e = refl
 chosen false u v e = absurd (false≢true e)
 
-not_chosen : {A : Type 0} (t : Bool) (u v : A) → t ≡ false → (if t then u else v) ≡ v
+pub not_chosen : {A : Type 0} (t : Bool) (u v : A) → t ≡ false → (if t then u else v) ≡ v
 not_chosen true u v e = absurd (false≢true (sym e))
 not_chosen false u v e = refl
 

@@ -6,3 +6,37 @@ pub mod Opens
 pub mod Numbered
 -- Runs that are over.
 pub mod Ended
+-- What stays where a node grows.
+pub mod Staying
+-- What stays of the machine then.
+pub mod Grown
+-- Agents that are apart.
+pub mod Distinct
+-- Steps that are told.
+pub mod Told
+pub mod Keeping
+-- Steps that end.
+pub mod Over
+-- A call on a node has done a step.
+pub mod Called
+-- Agents that leads name.
+pub mod Leads
+-- Halves of a wire's step.
+pub mod Half
+pub mod Passed
+-- The step of a wire.
+pub mod Wiring
+-- Wires that have a step.
+pub mod Wired
+-- Agents that were not found.
+pub mod Unlisted
+-- Machines that are looked at.
+pub mod Looked
+-- The machine before the first step.
+pub mod ImageWorkspaces
+pub mod FoundAgents
+pub mod Starting
+-- Sources and sinks as places.
+pub mod Scripted
+-- Steps that were made.
+pub mod Turned

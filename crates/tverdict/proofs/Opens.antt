@@ -1,11 +1,14 @@
 -- Who has a step, by what the nodes have.
-use Rattle.std.proofs.Common.{◌≡◌, ℕ, refl, sym, ap, ◌∙◌, Bool, true, false, List, [], Option, Some, None}
-use Rattle.std.proofs.lemmas.Option.{slice_get-map}
-use Rattle.std.specs.Prelude.{◌==◌, ◌&&◌, find, is_some, slice_get, unwrap_or, option_map}
+use Rattle.std.proofs.Common.{◌≡◌, ◌<◌, ℕ, refl, sym, ap, ◌∙◌, subst, Bool, true, false, List, [], Option, Some}
+use Rattle.std.proofs.Common.{None, IsTrue, length}
+use Rattle.std.proofs.lemmas.List.{length-map}
+use Rattle.std.proofs.lemmas.Option.{same_Some, slice_get-map, slice_get_within}
+use Rattle.std.specs.Prelude.{◌==◌, ◌&&◌, ◌↔◌, find, is_some, slice_get, unwrap_or, option_map}
 use Rattle.std.proofs.lemmas.Bool.{eq-eqb, eqb-true, false≢true}
 use Rattle.tagents.specs.Walks.{are_open}
 use Rattle.tplan.specs.declared.plan.Plan.{Plan}
 use Rattle.tproc.specs.declared.channels.Side.TheVariants as machineside
+use Rattle.tprocesses.specs.Machine as machine
 use Rattle.tprocesses.specs.Machine.{Process, Channel, Successor, process_machine, is_ready, awaits_successor}
 use Rattle.tprocesses.specs.Places.{Name, Image, Standing, Half, WordAt}
 use Rattle.tprocesses.specs.Values.{Value, half_in, stand_in}
@@ -24,9 +27,12 @@ use Rattle.tcertify.proofs.Found.{find_apart}
 use Rattle.tcertify.proofs.NodeStands.{stand_seen}
 use Rattle.tfollow.proofs.Opened.{agents_are_open_by}
 use Rattle.tcertify.specs.declared.sink.Sink.{Sink}
-use Rattle.tverdict.specs.Agents.{name_there, address_there}
+use Rattle.tfollow.specs.Numbering.{HasNumber}
+use Rattle.tverdict.specs.declared.agent.Agent.{Agent}
+use Rattle.tverdict.specs.declared.machine.Machine.{Machine}
+use Rattle.tverdict.specs.Agents.{agent_of, name_there, address_there}
 use Rattle.tverdict.specs.Apart.{IsApart}
-use Rattle.tverdict.specs.Machines.{state_of}
+use Rattle.tverdict.specs.Machines.{HasStep, agents, machine_at, state_of}
 use Rattle.tverdict.proofs.Frames.{nodes_are_apart, chosen}
 
 module _ (plan : Plan) (nodes : List Node) (sent : List ℕ) (sinks : List Sink) (n : ℕ) (node : Node)
@@ -37,7 +43,7 @@ module _ (plan : Plan) (nodes : List Node) (sent : List ℕ) (sinks : List Sink)
   apart : IsApart plan nodes sent sinks n node
   apart = nodes_are_apart plan nodes sent sinks n node there numbered
 
-  name_known : (k : ℕ) → name_there nodes n k ≡ name_at node k
+  pub name_known : (k : ℕ) → name_there nodes n k ≡ name_at node k
   name_known k =
       ap (λ (o : Option Node). unwrap_or (option_map (λ a. name_at a k) o)
       (record { node = n; root = Image 0; path = [] })) there
@@ -58,7 +64,7 @@ module _ (plan : Plan) (nodes : List Node) (sent : List ℕ) (sinks : List Sink)
       ∙ chosen (node.words.number == n) _ _ (eq-eqb node.words.number n numbered)
       ∙ ap (λ (o : Option StoredWord). word_or o (apart.rest (WordAt n k))) at)
 
-  address_known : (k : ℕ) (c : stored.Channel) → slice_get node.channels.items.items k ≡ Some c
+  pub address_known : (k : ℕ) (c : stored.Channel) → slice_get node.channels.items.items k ≡ Some c
       → address_there nodes n k ≡ c.address
   address_known k c at =
       ap (λ (o : Option Node). unwrap_or (option_map (λ a. address_at a k) o) 0) there
@@ -105,3 +111,23 @@ module _ (plan : Plan) (nodes : List Node) (sent : List ℕ) (sinks : List Sink)
 pub first_false : (b c : Bool) → b ≡ false → b ≡ (b && c)
 first_false true c e = absurd (false≢true (sym e))
 first_false false c e = refl
+
+-- an agent that has a step is in the list
+pub has_number : (plan : Plan) (m : Machine) (number : ℕ) → HasStep plan m number → number < length m.agents.items
+has_number plan m number h =
+    subst (λ (k : ℕ). number < k) (length-map m.agents.items (agent_of m.nodes.items))
+    (slice_get_within (agents m) number h.agent h.numbered)
+
+-- the agent of a number has a step exactly if it is open
+pub open_by : (plan : Plan) (m : Machine) (number : ℕ) (a : Agent) → slice_get m.agents.items number ≡ Some a
+    → (b : Bool) → b ≡ are_open (process_machine plan) (agent_of m.nodes.items a) (machine_at plan m)
+    → IsTrue b ↔ HasStep plan m number
+open_by plan m number a at b e =
+    let numbered : HasNumber (agents m) (agent_of m.nodes.items a) number =
+    slice_get-map (agent_of m.nodes.items) m.agents.items number ∙ ap (option_map (agent_of m.nodes.items)) at in (
+      λ t. record { agent = agent_of m.nodes.items a; numbered = numbered; opened = sym e ∙ t },
+      λ h. e
+          ∙ ap (λ (x : machine.Agent). are_open (process_machine plan) x (machine_at plan m))
+          (same_Some (agent_of m.nodes.items a) h.agent (sym numbered ∙ h.numbered))
+          ∙ h.opened,
+    )

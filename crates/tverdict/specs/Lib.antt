@@ -7,5 +7,25 @@ pub mod Numbers
 pub mod Machines
 -- a step at a node as one of the whole machine
 pub mod Apart
+-- the machine before the first step
+pub mod Opening
 -- what the program says
 pub mod Verdicts
+-- agents that come
+pub mod Coming
+-- steps that are told to the check
+pub mod Told
+-- a step as a call on one node
+pub mod Calls
+-- the step of an agent, from the call on
+pub mod Stepping
+-- the halves of a wire's step
+pub mod Passing
+-- the step of a wire
+pub mod Wired
+-- when a wire has a step
+pub mod Wires
+-- which agent makes the next step
+pub mod Next
+-- one step of the run
+pub mod Turns

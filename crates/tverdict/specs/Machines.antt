@@ -1,6 +1,6 @@
 -- What stands at the places of the whole machine, and what holds of it while it follows a run.
 -- Source: own choice, the state of `tprocesses` as the program keeps it.
-use Rattle.std.specs.Prelude.{ℕ, ◌≡◌, ◌+◌, ◌-◌, ◌<◌, List, [], map, length, Option, Some, None, slice_get, slice_index}
+use Rattle.std.specs.Prelude.{ℕ, ◌≡◌, ◌+◌, ◌-◌, ◌<◌, ◌^◌, List, [], map, length, Option, Some, None, slice_get, slice_index}
 use Rattle.std.specs.Prelude.{All, Contains, true}
 use Rattle.std.proofs.Math.ListN.{drop}
 use Rattle.tplan.specs.declared.plan.End.{End}
@@ -87,6 +87,10 @@ pub record IsSound (plan : Plan) (m : Machine) : Type 0 where
   pub found : AreFound plan m.nodes.items m.agents.items
   pub there : All (IsThere m.nodes.items) m.agents.items
   pub candidates : All (λ number. number < length m.agents.items) m.candidates.items
+  pub places : length m.check.places ≡ m.fresh_place
+  pub few : m.fresh_place < 2 ^ 32
+  pub kept_places : (k : ℕ) (s : Sink) → slice_get m.sinks.items k ≡ Some s
+      → s.place ≡ m.first_script + (length plan.nodes + length plan.sources + k)
 
 -- it has done these steps of a run, the last one first, and stands where they lead
 pub record HasDone (plan : Plan) (m : Machine) (steps : List ProcessStep) : Type 0 where

@@ -1,6 +1,6 @@
 -- What the program says of a plan.
 -- Source: own choice.
-use Rattle.std.specs.Prelude.{ℕ, ◌≡◌, ◌≢◌, ◌≤◌, ◌&&◌, true, List, length}
+use Rattle.std.specs.Prelude.{ℕ, ◌≡◌, ◌≢◌, ◌≤◌, ◌&&◌, true, All, List, Some, length, slice_get}
 use Rattle.std.specs.Prelude.{Bool, nat_le, not, int_le, pos, ◌+◌, Result, Ok, Err}
 use Rattle.tword.specs.Limits.{most_processes}
 use Rattle.tplan.specs.declared.plan.Plan.{Plan}
@@ -23,7 +23,8 @@ use Rattle.tverdict.specs.declared.verdict.Refusal.{Refusal}
 use Rattle.tverdict.specs.declared.verdict.Refusal.TheVariants as refusal
 use Rattle.tverdict.specs.declared.verdict.Verdict.{Verdict}
 use Rattle.tverdict.specs.declared.verdict.Verdict.TheVariants as verdict
-use Rattle.tverdict.specs.Machines.{machine_at, agents, Follows}
+use Rattle.tverdict.specs.Agents.{IsThere}
+use Rattle.tverdict.specs.Machines.{machine_at, agents, Follows, HasStep}
 
 -- there is a run of so many steps that is a certificate of the plan, so it is the only run, and the machine stands at
 -- its end
@@ -31,6 +32,11 @@ pub record EndsCertified (plan : Plan) (m : Machine) : Type 0 where
   pub steps : List ProcessStep
   pub count : length steps ≡ m.done
   pub certified : IsCertified plan steps (machine_at plan m)
+
+-- what its agents are named by is there, so they can be told of
+pub record AreTellable (m : Machine) : Type 0 where
+  pub there : All (IsThere m.nodes.items) m.agents.items
+  pub numbers : (k : ℕ) (n : Node) → slice_get m.nodes.items k ≡ Some n → n.words.number ≡ k
 
 -- there is a run, and the next step of an agent stops for this reason
 pub record EndsStopped (plan : Plan) (m : Machine) (number : ℕ) (why : Reason) : Type 0 where
@@ -40,6 +46,7 @@ pub record EndsStopped (plan : Plan) (m : Machine) (number : ℕ) (why : Reason)
   pub numbered : HasNumber (agents m) agent number
   pub state : State
   pub stopped : HasStopped plan steps agent why state (machine_at plan m)
+  pub tellable : AreTellable m
 
 -- there is a run of which no step stops, and its last step and an earlier one of another agent were told with accesses
 -- to one place, in modes of which the order matters; the last step's clock has not counted the earlier one
@@ -52,6 +59,7 @@ pub record EndsInRace (plan : Plan) (m : Machine) (race : Race) : Type 0 where
   pub state : State
   pub found : HasRace plan (agents m) steps race.step.agent agent
       (record { place = race.place; mode = race.mode }) race.earlier check state (machine_at plan m)
+  pub tellable : AreTellable m
 
 -- what the step of an agent leaves: one more step is done, or it stops or has a race; nothing is told where memory is
 -- out
@@ -88,4 +96,4 @@ abbrev pub IsTold : Plan → (most_steps : ℕ) → Machine → Verdict → Type
 IsTold plan most m verdict.Certified = EndsCertified plan m
 IsTold plan most m (verdict.Race race) = EndsInRace plan m race
 IsTold plan most m (verdict.Refused why) = IsRefusedBy plan m why
-IsTold plan most m verdict.Cut = Follows plan m × (most ≤ m.done)
+IsTold plan most m verdict.Cut = Follows plan m × (most ≤ m.done) × ((number : ℕ) × HasStep plan m number)

@@ -1,21 +1,26 @@
 //! Which agents have a step.
 
-ghost use Rattle.std.specs.Prelude.{◌≡◌, ◌<◌, ◌&&◌, ℕ, length, is_some, List, Some, slice_get};
+ghost use Rattle.std.specs.Prelude.{◌≡◌, ◌<◌, ◌↔◌, ◌&&◌, ℕ, length, is_some, nat_lt, IsTrue, List, Some};
+ghost use Rattle.std.specs.Prelude.{slice_get, slice_index};
 ghost use Rattle.tplan.specs.declared.plan.Plan.{Plan};
 ghost use Rattle.tagents.specs.Walks.{are_open};
-ghost use Rattle.tprocesses.specs.Machine.{awaits_successor, is_offered, is_ready, process_machine, sender_to};
+ghost use Rattle.tprocesses.specs.Machine.{awaits_successor, is_offered, is_ready, process_machine, role_at};
+ghost use Rattle.tprocesses.specs.Machine.{sender_to};
 ghost use Rattle.tnet.specs.Building.{all_wires};
-ghost use Rattle.tcertify.specs.Channels.{link_of};
+ghost use Rattle.tcertify.specs.Channels.{link_of, link_or_empty};
 ghost use Rattle.tcertify.specs.Standing.{stand_of};
 ghost use Rattle.tcertify.specs.Words.{use_of};
-ghost use Rattle.tverdict.specs.Agents.{HasChannel, HasProcess, HasWord, agent_of};
-ghost use Rattle.tverdict.specs.Machines.{AreNodesOf, machine_at};
+ghost use Rattle.tverdict.specs.Agents.{HasChannel, HasProcess, HasWord, IsThere, agent_of};
+ghost use Rattle.tverdict.specs.Machines.{AreNodesOf, HasStep, IsSound, machine_at};
+ghost use Rattle.tverdict.specs.Wires.{has_message, has_taker, is_sink, messages_at};
 ghost use Rattle.tverdict.specs.declared.agent.Agent.TheVariants as agents;
 
+use crate::agent::Agent;
 use crate::machine::Machine;
+use crate::scripts::messages_at;
 use tcertify::{LinkHalf, Stand, WordUse};
 use tnet::Wires;
-use tplan::End;
+use tplan::{End, Plan};
 
 /// Whether a process that stands so has a step.
 #[inline(always)]
@@ -39,9 +44,31 @@ fn is_offered_at(half: &LinkHalf) -> bool
     }
 }
 
+/// Whether a message is offered or asked for at the half of the link of this number, if there is one.
+#[inline(always)]
+fn is_offered_among(halves: &[LinkHalf; 4], link: u32) -> bool
+    ensures { (names : _) → result ≡ is_offered (link_or_empty names (slice_get halves.now link)) }
+{
+    match halves.get(link as usize) {
+        Some(half) => is_offered_at(half),
+        None => false,
+    }
+}
+
+/// Whether a sink has this number, among those of nodes, sources and sinks.
+#[inline(always)]
+fn is_sink(plan: &Plan, number: usize) -> bool
+    ensures { result ≡ is_sink (role_at plan.now number) }
+{
+    let nodes = plan.nodes.as_slice().len();
+    let sources = plan.sources.as_slice().len();
+    let sinks = plan.sinks.as_slice().len();
+    number >= nodes && number - nodes >= sources && number - nodes - sources < sinks
+}
+
 /// Whether the successor has a step that waits at a word of this use.
 #[inline(always)]
-fn awaits(used: WordUse) -> bool
+pub(crate) fn awaits(used: WordUse) -> bool
     ensures { result ≡ awaits_successor (use_of used) }
 {
     match used {
@@ -52,7 +79,7 @@ fn awaits(used: WordUse) -> bool
 
 /// The end that sends to an end, over a wire that joins the two.
 #[inline(always)]
-fn sender_to(wires: &Wires, end: End) -> Option<End>
+pub(crate) fn sender_to(wires: &Wires, end: End) -> Option<End>
     ensures { (plan : Plan) → wires.now ≡ all_wires plan → result ≡ sender_to plan end }
 {
     let sender = wires.far_end(end)?;
@@ -87,6 +114,51 @@ impl Machine {
         channel.input.request.is_some() && channel.output.request.is_some()
     }
 
+    /// Whether a message is there to be sent at an end.
+    #[inline(always)]
+    fn has_message(&self, plan: &Plan, end: End) -> bool
+        ensures { IsSound plan.now self.now → result ≡ has_message plan.now self.now end }
+    {
+        let number = end.node as usize;
+        match self.nodes.get(number) {
+            Some(node) => is_offered_among(&node.links.outputs, end.link),
+            None => self.has_message_left(plan, number - self.nodes.len(), end.link),
+        }
+    }
+
+    /// Whether the source of this number has a message left, if its end is at this link.
+    #[inline(always)]
+    fn has_message_left(&self, plan: &Plan, number: usize, link: u32) -> bool
+        ensures { result ≡ nat_lt (slice_index self.now.sent.items number) (length (messages_at plan.now number link)) }
+    {
+        let sent = self.sent.get(number).copied().unwrap_or(0);
+        (sent as usize) < messages_at(plan, number, link).len()
+    }
+
+    /// Whether a message may be received at an end.
+    #[inline(always)]
+    fn has_taker(&self, plan: &Plan, end: End) -> bool
+        ensures { IsSound plan.now self.now → result ≡ has_taker plan.now self.now end }
+    {
+        let number = end.node as usize;
+        match self.nodes.get(number) {
+            Some(node) => is_offered_among(&node.links.inputs, end.link),
+            None => is_sink(plan, number),
+        }
+    }
+
+    /// Whether a wire has a step, by the end that receives.
+    #[inline(always)]
+    pub fn is_wire_open(&self, plan: &Plan, end: End) -> bool
+        ensures { IsSound plan.now self.now → result ≡ are_open (process_machine plan.now)
+            (agent_of self.now.nodes.items (agents.Wire end)) (machine_at plan.now self.now) }
+    {
+        match sender_to(&self.wires, end) {
+            Some(sender) => self.has_message(plan, sender) && self.has_taker(plan, end),
+            None => false,
+        }
+    }
+
     /// Whether a successor has a step, which waits at this word of a node.
     #[inline(always)]
     pub fn is_successor_open(&self, node: u32, word: u32) -> bool
@@ -96,5 +168,33 @@ impl Machine {
     {
         let word = &self.nodes[node as usize].words.items[word as usize];
         awaits(word.used)
+    }
+
+    /// Whether the agent of this number has a step.
+    #[inline(always)]
+    pub fn is_open(&self, plan: &Plan, number: u32) -> bool
+        requires { IsSound plan.now self.now }
+        ensures { IsTrue result ↔ HasStep plan.now self.now number }
+    {
+        match self.agents.get(number as usize) {
+            Some(agent) => self.is_agent_open(plan, *agent),
+            None => false,
+        }
+    }
+
+    /// Whether an agent has a step.
+    #[inline(always)]
+    fn is_agent_open(&self, plan: &Plan, agent: Agent) -> bool
+        requires sound { IsSound plan.now self.now }
+        requires there { IsThere self.now.nodes.items agent }
+        ensures { result ≡ are_open (process_machine plan.now) (agent_of self.now.nodes.items agent)
+            (machine_at plan.now self.now) }
+    {
+        match agent {
+            Agent::Process { node, process } => self.is_process_open(node, process),
+            Agent::Channel { node, channel } => self.is_channel_open(node, channel),
+            Agent::Wire(end) => self.is_wire_open(plan, end),
+            Agent::Successor { node, word } => self.is_successor_open(node, word),
+        }
     }
 }

@@ -1,6 +1,8 @@
 //! The whole machine.
 
 use crate::agent::Agent;
+use crate::hints::AgentHints;
+use crate::idle::Idle;
 use tcertify::{Node, Sink};
 use tclocks::RaceCheck;
 use tnet::Wires;
@@ -16,6 +18,8 @@ pub struct Machine {
     pub wires: Wires,
     /// The agents that were found, each under its number in the check.
     pub agents: Vec<Agent>,
+    /// Where an agent may be in the list.
+    pub hints: AgentHints,
     pub check: RaceCheck,
     /// Numbers of agents that may have a step. Each may stand there more than once.
     pub candidates: Vec<u32>,
@@ -25,4 +29,6 @@ pub struct Machine {
     pub fresh_place: u32,
     /// How many steps were done.
     pub done: u64,
+    /// Memories that instructions may have at hand.
+    pub idle: Idle,
 }

@@ -37,6 +37,6 @@ pub enum Verdict {
     Race(Race),
     /// The run is no certificate, for this reason.
     Refused(Refusal),
-    /// The run was given up after as many steps as were permitted.
+    /// The run was given up after as many steps as were permitted, though an agent has one more.
     Cut,
 }

@@ -28,6 +28,7 @@ use Rattle.twords.specs.declared.table.Printing.{Printing}
 use Rattle.twords.specs.declared.table.Printing.TheVariants as printing
 use Rattle.twords.specs.declared.table.Running.{Running}
 use Rattle.twords.specs.declared.table.Exploring.{Exploring}
+use Rattle.twords.specs.declared.certifying.Certifying.{Certifying}
 use Rattle.twords.specs.declared.histories.Stepping.{Stepping}
 use Rattle.twords.specs.declared.histories.Watching.{Watching}
 use Rattle.twords.specs.declared.names_files.NamesFile.{NamesFile}
@@ -192,6 +193,9 @@ abbrev exploring : Text → (states steps : ℕ) → Option Text → Show → Ex
 exploring named states steps log what =
     record { wiring = named; states = states; steps = steps; log = log; show = what }
 
+abbrev certifying : Text → (steps : ℕ) → List NamesFile → Certifying
+certifying named steps files = record { wiring = named; steps = steps; names = files }
+
 abbrev stepping : (node from to last : ℕ) → List NamesFile → Stepping
 stepping node from to last named =
     record {
@@ -308,6 +312,18 @@ example_explore_log : command_of (codes "temu" ∷ codes "explore" ∷ codes "--
     ≡ Some (command.Explore (exploring (codes "pair.toml") 1000000 9223372036854775807 (Some (codes "found")) show.Nothing))
 unfolding clap_on_literals
 example_explore_log = refl
+
+-- a certificate by all steps, or by so many
+example_certify : command_of (codes "temu" ∷ codes "certify" ∷ codes "pair.toml" ∷ [])
+    ≡ Some (command.Certify (certifying (codes "pair.toml") 9223372036854775807 []))
+unfolding clap_on_literals
+example_certify = refl
+
+example_certify_some : command_of (codes "temu" ∷ codes "certify" ∷ codes "pair.toml" ∷ codes "--steps" ∷ codes "100"
+    ∷ codes "--names" ∷ codes "pair.names" ∷ [])
+    ≡ Some (command.Certify (certifying (codes "pair.toml") 100 (names_file_of (codes "pair.names") ∷ [])))
+unfolding clap_on_literals
+example_certify_some = refl
 
 example_replay : command_of (codes "temu" ∷ codes "replay" ∷ codes "pair.toml" ∷ codes "pair.log" ∷ [])
     ≡ Some (command.Replay (codes "pair.toml") (codes "pair.log") (pos 4294967295) (printing.Lines show.Dump))

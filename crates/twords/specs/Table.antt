@@ -18,13 +18,15 @@ use Rattle.twords.specs.declared.table.Printing.{Printing}
 use Rattle.twords.specs.declared.table.Printing.TheVariants as printing
 use Rattle.twords.specs.declared.table.Running.{Running}
 use Rattle.twords.specs.declared.table.Exploring.{Exploring}
+use Rattle.twords.specs.declared.certifying.Certifying.{Certifying}
 use Rattle.twords.specs.declared.histories.Stepping.{Stepping}
 use Rattle.twords.specs.declared.names_files.NamesFile.{NamesFile}
 use Rattle.twords.specs.declared.histories.Watching.{Watching}
 use Rattle.twords.specs.declared.table.Command.{Command}
 use Rattle.twords.specs.declared.table.Command.TheVariants as command
 use Rattle.twords.specs.declared.table.Which.{Which}
-use Rattle.twords.specs.declared.table.Which.TheVariants.{Run, Free, Explore, Replay, Where, Steps, Watch, Chart, Check, Dis}
+use Rattle.twords.specs.declared.table.Which.TheVariants.{Run, Free, Explore, Certify, Replay, Where, Steps, Watch}
+use Rattle.twords.specs.declared.table.Which.TheVariants.{Chart, Check, Dis}
 
 -- ---- the words that are taken
 
@@ -61,6 +63,17 @@ exploring_rules = file_rule (codes "wiring")
     ∷ show_rule
     ∷ []
 
+-- `[--names [N=]FILE]..`: files of names, of one node or of each
+abbrev pub names_rule : Rule
+names_rule = texts_rule (codes "names")
+
+-- `WIRING [--steps N] [--names [N=]FILE]..`
+abbrev pub certifying_rules : List Rule
+certifying_rules = file_rule (codes "wiring")
+    ∷ number_rule (codes "steps") (between 0 9223372036854775807) (codes "9223372036854775807")
+    ∷ names_rule
+    ∷ []
+
 -- `WIRING LOG [--events N]`
 abbrev pub replaying_rules : List Rule
 replaying_rules = file_rule (codes "wiring") ∷ file_rule (codes "log") ∷ events_rule ∷ []
@@ -68,10 +81,6 @@ replaying_rules = file_rule (codes "wiring") ∷ file_rule (codes "log") ∷ eve
 -- `--node N`: the number of a node, a source or a sink
 abbrev pub node_rule : Rule
 node_rule = wanted_number_rule (codes "node") (between 0 255)
-
--- `[--names [N=]FILE]..`: files of names, of one node or of each
-abbrev pub names_rule : Rule
-names_rule = texts_rule (codes "names")
 
 -- `WIRING LOG --node N [--from EVENT] [--to EVENT] [--last K] [--names [N=]FILE]..`
 abbrev pub stepping_rules : List Rule
@@ -99,6 +108,7 @@ abbrev pub rules_of : Which → List Rule
 rules_of Run = running_rules (codes "rounds")
 rules_of Free = running_rules (codes "turns")
 rules_of Explore = exploring_rules
+rules_of Certify = certifying_rules
 rules_of Replay = replaying_rules ++ show_rule ∷ json_rule ∷ []
 rules_of Where = replaying_rules ++ names_rule ∷ []
 rules_of Steps = stepping_rules
@@ -112,13 +122,14 @@ rules_of Dis = file_rule (codes "image")
 
 -- all commands, in the order of help
 abbrev pub commands : List Which
-commands = Run ∷ Free ∷ Explore ∷ Replay ∷ Where ∷ Steps ∷ Watch ∷ Chart ∷ Check ∷ Dis ∷ []
+commands = Run ∷ Free ∷ Explore ∷ Certify ∷ Replay ∷ Where ∷ Steps ∷ Watch ∷ Chart ∷ Check ∷ Dis ∷ []
 
 -- the name of a command
 abbrev pub name_of : Which → Text
 name_of Run = codes "run"
 name_of Free = codes "free"
 name_of Explore = codes "explore"
+name_of Certify = codes "certify"
 name_of Replay = codes "replay"
 name_of Where = codes "where"
 name_of Steps = codes "steps"
@@ -195,6 +206,15 @@ exploring_in rows what =
       show = what;
     }
 
+-- the certificate that the arguments of `certify` ask for
+abbrev pub certifying_in : List Row → Certifying
+certifying_in rows =
+    record {
+      wiring = text_at (codes "wiring") rows;
+      steps = number_at (codes "steps") rows;
+      names = names_in rows;
+    }
+
 -- the history of a node that the arguments of `steps` ask for
 abbrev pub stepping_in : List Row → Stepping
 stepping_in rows =
@@ -225,6 +245,7 @@ abbrev pub asked_in : Which → List Row → Option Command
 asked_in Run rows = option_map (λ what. command.Run (running_in (codes "rounds") rows what)) (printing_in rows)
 asked_in Free rows = option_map (λ what. command.Free (running_in (codes "turns") rows what)) (printing_in rows)
 asked_in Explore rows = option_map (λ what. command.Explore (exploring_in rows what)) (show_in rows)
+asked_in Certify rows = Some (command.Certify (certifying_in rows))
 asked_in Replay rows =
     option_map
     (command.Replay (text_at (codes "wiring") rows) (text_at (codes "log") rows) (signed_at (codes "events") rows))
@@ -251,6 +272,7 @@ abbrev pub IsInRange : Command → Type 0
 IsInRange (command.Run asked) = AreOptions asked.options
 IsInRange (command.Free asked) = AreOptions asked.options
 IsInRange (command.Explore asked) = (asked.states ≤ 4294967295) × (asked.steps ≤ 9223372036854775807)
+IsInRange (command.Certify asked) = asked.steps ≤ 9223372036854775807
 IsInRange (command.Replay wiring log events what) = IsWithin 4294967295 events
 IsInRange (command.Where wiring log events names) = IsWithin 4294967295 events
 IsInRange (command.Steps asked) =

@@ -236,7 +236,7 @@ its first byte was sent, which has a dot, to where its last byte was taken; besi
 length and its first bytes. A square is a halt, or a red one the break that froze a node. Point at
 any of them to read more, such as the numbers of its events in the log.
 
-At most 1300 rows are drawn; if there are more, a line above and below the columns says so. With
+At most 2000 rows are drawn; if there are more, a line above and below the columns says so. With
 `--events 40` the first 40 events are drawn, or all if there are fewer; with `--events -3` all but
 the last 3.
 

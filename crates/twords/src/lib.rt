@@ -3,14 +3,16 @@
 
 mod addresses;
 mod arguments;
+pub mod certifying;
 mod help_words;
-pub mod histories;
+mod histories;
 mod joined_words;
 pub mod names_files;
 mod parsers;
 pub mod table;
 pub mod words;
 
+pub use certifying::Certifying;
 pub use histories::{Stepping, Watching};
 pub use names_files::{NamesFile, NamesFiles};
 pub use table::{Command, Exploring, Printing, Running, Show};

@@ -8,6 +8,7 @@ ghost use Rattle.twords.specs.CommandLines.{shape_of, shape_of_row};
 ghost use Rattle.twords.specs.Table as spec;
 
 use crate::arguments::{file, is_given, long_number, number, optional_file, signed_number};
+use crate::certifying::{CERTIFY, Certifying, certify_asked};
 use crate::histories::{
     CHART, STEPS, Stepping, WATCH, Watching, chart_asked, steps_asked, watch_asked,
 };
@@ -27,6 +28,8 @@ pub enum Which {
     Free,
     /// `explore`.
     Explore,
+    /// `certify`.
+    Certify,
     /// `replay`.
     Replay,
     /// `where`.
@@ -98,6 +101,8 @@ pub enum Command {
     Free(Running),
     /// Finds every way in which the runs of the net of a wiring file may end, whatever their timing.
     Explore(Exploring),
+    /// Runs the processes of a wiring file once, and tells whether each of their runs ends in the same way.
+    Certify(Certifying),
     /// Does the first events of a log file on the net of a wiring file.
     Replay {
         wiring: FileName,
@@ -154,6 +159,7 @@ impl Which {
             Which::Run => "temu run",
             Which::Free => "temu free",
             Which::Explore => "temu explore",
+            Which::Certify => "temu certify",
             Which::Replay => "temu replay",
             Which::Where => "temu where",
             Which::Steps => "temu steps",
@@ -172,6 +178,7 @@ impl Which {
             Which::Run => RUN,
             Which::Free => FREE,
             Which::Explore => EXPLORE,
+            Which::Certify => CERTIFY,
             Which::Replay => REPLAY,
             Which::Where => WHERE,
             Which::Steps => STEPS,
@@ -196,6 +203,7 @@ impl Which {
             Which::Run => run_asked(alloc, given),
             Which::Free => free_asked(alloc, given),
             Which::Explore => explore_asked(alloc, given),
+            Which::Certify => certify_asked(alloc, given),
             Which::Replay => replay_asked(alloc, given),
             Which::Where => where_asked(alloc, given),
             Which::Steps => steps_asked(alloc, given),
@@ -435,10 +443,11 @@ pub enum Form {
 }
 
 /// All commands, in the order of help.
-pub(crate) const COMMANDS: [Which; 10] = [
+pub(crate) const COMMANDS: [Which; 11] = [
     Which::Run,
     Which::Free,
     Which::Explore,
+    Which::Certify,
     Which::Replay,
     Which::Where,
     Which::Steps,
@@ -888,8 +897,8 @@ Examples:
   temu dis first.img --names first.names",
 };
 
-/// What `--version` tells behind the program's name: the version, and the kit that the program is proved with.
-pub(crate) const VERSION: &str = "0.1.0 (rattle-kit-13f, proved)";
+/// What `--version` tells behind the program's name: the version, and the logic by which the program is proved.
+pub(crate) const VERSION: &str = "0.1.0 (proved, logic dac8208d650f15bf)";
 
 /// What stands below the help of the program.
 pub(crate) const PROGRAM: &str = "\
@@ -898,6 +907,7 @@ Examples:
   temu run pair.toml --workers 4 --log pair.log
   temu free pair.toml --workers 4
   temu explore pair.toml
+  temu certify pair.toml
   temu replay pair.toml pair.log
   temu where pair.toml pair.log --events -3
   temu steps pair.toml pair.log --node 1 --last 20
@@ -910,5 +920,6 @@ Examples:
 out.
 
 Exit status: 0 done; 1 done, and a node is frozen, since it broke a usage rule, or an exploration
-found a freeze, or another number of outcomes than one; 2 bad input, which standard error names; 3
-the output failed, or no log of an outcome was found; 4 no memory; 5 an exploration was cut.";
+found a freeze, or another number of outcomes than one, or a run has a race; 2 bad input, which
+standard error names; 3 the output failed, or no log of an outcome was found; 4 no memory; 5 an
+exploration was cut, or a certificate refused.";

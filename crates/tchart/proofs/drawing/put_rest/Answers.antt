@@ -6,10 +6,10 @@ use Rattle.tchart.proofs.drawing.put_rest.Goals as goal
 
 pub returns-then-rows-gt-MOST_ROWS : goal.returns-then-rows-gt-MOST_ROWS
 returns-then-rows-gt-MOST_ROWS g c =
-    let more : nat_lt 1300 c.args.rows ≡ true = lt-ltb 1300 c.args.rows c.if-rows-gt-MOST_ROWS.true in
+    let more : nat_lt 2000 c.args.rows ≡ true = lt-ltb 2000 c.args.rows c.if-rows-gt-MOST_ROWS.true in
     rw more (tells_then c.put_text.ensures (tells_then c.put.ensures c.put-then-rows-gt-MOST_ROWS.ensures))
 
 pub returns-else-rows-gt-MOST_ROWS : goal.returns-else-rows-gt-MOST_ROWS
 returns-else-rows-gt-MOST_ROWS g c =
-    let few : nat_lt 1300 c.args.rows ≡ false = le-ltb 1300 c.args.rows c.if-rows-gt-MOST_ROWS.false in
+    let few : nat_lt 2000 c.args.rows ≡ false = le-ltb 2000 c.args.rows c.if-rows-gt-MOST_ROWS.false in
     rw few (tells_none c.args.out.now)

@@ -9,4 +9,6 @@ returns c =
       items = refl;
       number = refl;
       kind = refl;
+      first = refl;
+      notes = refl;
     }

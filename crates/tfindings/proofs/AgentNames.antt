@@ -1,0 +1,61 @@
+-- The agents that the program has, by the names of the machine.
+use Rattle.std.proofs.Common.{◌≡◌, ℕ, refl, sym, ap, ◌∙◌, List, [], get_or, subst, Option, Some}
+use Rattle.std.specs.Prelude.{option_map, slice_get, unwrap_or}
+use Rattle.std.proofs.lemmas.Option.{slice_get-map, get_or_from_slice_get, slice_get-get_or}
+use Rattle.tprocesses.specs.Places.{Name, Image}
+use Rattle.tcertify.specs.declared.channel.Channel.{Channel}
+use Rattle.tcertify.specs.declared.node.Node.{Node}
+use Rattle.tcertify.specs.declared.process.Process.{Process}
+use Rattle.tcertify.specs.Nodes.{name_at, address_at}
+use Rattle.tcertify.specs.Processes.{name_of}
+use Rattle.tverdict.specs.declared.agent.Agent.{Agent}
+use Rattle.tverdict.specs.declared.agent.Agent.TheVariants as agent
+use Rattle.tverdict.specs.Agents.{HasChannel, HasProcess, IsThere, name_there, address_there}
+use Rattle.tfindings.specs.Agents.{AreNumbered}
+
+abbrev no_name : ℕ → Name
+no_name n = record { node = n; root = Image 0; path = [] }
+
+-- a process, by its name
+pub process_named : (nodes : List Node) (n k : ℕ) (node : Node) (p : Process) → slice_get nodes n ≡ Some node
+    → slice_get node.processes.items.items k ≡ Some p → name_there nodes n k ≡ name_of node.words.number p
+process_named nodes n k node p h i =
+    ap (λ (o : Option Node). unwrap_or (option_map (λ m. name_at m k) o) (no_name n)) h
+    ∙ ap (λ (o : Option Name). unwrap_or o (no_name 0))
+    (slice_get-map (name_of node.words.number) node.processes.items.items k)
+    ∙ ap (λ (o : Option Process). unwrap_or (option_map (name_of node.words.number) o) (no_name 0)) i
+
+-- a channel, by its address
+pub channel_named : (nodes : List Node) (n k : ℕ) (node : Node) (c : Channel) → slice_get nodes n ≡ Some node
+    → slice_get node.channels.items.items k ≡ Some c → address_there nodes n k ≡ c.address
+channel_named nodes n k node c h i =
+    ap (λ (o : Option Node). unwrap_or (option_map (λ m. address_at m k) o) 0) h
+    ∙ ap (λ (o : Option ℕ). unwrap_or o 0) (slice_get-map (λ d. d.address) node.channels.items.items k)
+    ∙ ap (λ (o : Option Channel). unwrap_or (option_map (λ d. d.address) o) 0) i
+
+-- the same as the code finds them: by the numbers of the node and of the process or channel
+pub process_there : (nodes : List Node) (n k : ℕ) (d : Node) (e : Process) → AreNumbered nodes → HasProcess nodes n k
+    → name_of n (get_or (get_or nodes n d).processes.items.items k e) ≡ name_there nodes n k
+process_there nodes n k d e numbered (node, there, within) =
+    let found : get_or nodes n d ≡ node = get_or_from_slice_get nodes n node d there in
+    ap (λ (m : Node). name_of n (get_or m.processes.items.items k e)) found
+    ∙ ap (λ (m : ℕ). name_of m (get_or node.processes.items.items k e)) (sym (numbered n node there))
+    ∙ sym (process_named nodes n k node (get_or node.processes.items.items k e) there
+    (slice_get-get_or node.processes.items.items k e within))
+
+pub channel_there : (nodes : List Node) (n k : ℕ) (d : Node) (e : Channel) → HasChannel nodes n k
+    → (get_or (get_or nodes n d).channels.items.items k e).address ≡ address_there nodes n k
+channel_there nodes n k d e (node, there, within) =
+    let found : get_or nodes n d ≡ node = get_or_from_slice_get nodes n node d there in
+    ap (λ (m : Node). (get_or m.channels.items.items k e).address) found
+    ∙ sym (channel_named nodes n k node (get_or node.channels.items.items k e) there
+    (slice_get-get_or node.channels.items.items k e within))
+
+-- what tells that there is one, of an agent that is told by its kind
+pub as_process : (nodes : List Node) (a : Agent) (n k : ℕ) → a ≡ agent.Process n k → IsThere nodes a
+    → HasProcess nodes n k
+as_process nodes a n k e there = subst (IsThere nodes) e there
+
+pub as_channel : (nodes : List Node) (a : Agent) (n k : ℕ) → a ≡ agent.Channel n k → IsThere nodes a
+    → HasChannel nodes n k
+as_channel nodes a n k e there = subst (IsThere nodes) e there

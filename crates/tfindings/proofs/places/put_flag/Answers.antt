@@ -1,0 +1,5 @@
+use Rattle.tfiles.proofs.Told.{tells_then, tells_as}
+use Rattle.tfindings.proofs.places.put_flag.Goals as goal
+
+pub returns : goal.returns
+returns g c = tells_then c.put_node.ensures c.put.ensures

@@ -1,0 +1,6 @@
+use Rattle.std.proofs.Common.{ap, decimal}
+use Rattle.tfiles.proofs.Told.{tells_then, tells_as}
+use Rattle.tfindings.proofs.places.put_script.Goals as goal
+
+pub returns : goal.returns
+returns g c = tells_then c.put.ensures (tells_as c.put_decimal.ensures (ap decimal c.from.ensures))

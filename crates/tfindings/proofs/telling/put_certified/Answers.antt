@@ -1,0 +1,5 @@
+use Rattle.tfiles.proofs.Told.{tells_then, tells_as, tells_none}
+use Rattle.tfindings.proofs.telling.put_certified.Goals as goal
+
+pub returns : goal.returns
+returns g c = tells_then c.put.ensures (tells_then c.put_end.ensures c.put_last.ensures)

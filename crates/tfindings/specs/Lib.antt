@@ -1,0 +1,15 @@
+-- What is printed of a run of the process machine.
+-- agents
+pub mod Agents
+-- memories
+pub mod Cells
+-- the end of a run
+pub mod Ends
+-- places, and how they are accessed
+pub mod Places
+-- why a step stops
+pub mod Refusals
+-- what is printed of a run
+pub mod Telling
+-- what is told of a verdict
+pub mod Findings

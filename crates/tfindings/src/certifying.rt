@@ -1,0 +1,201 @@
+//! The call of `temu certify`.
+
+ghost use Rattle.std.specs.Prelude.{◌≡◌, ◌≢◌, ◌≤◌, IfErr, IfOk, IsOk, None, OnOk, length};
+ghost use Rattle.tword.specs.Limits.{most_nodes};
+ghost use Rattle.tnet.specs.Building.{IsFaultOf as IsPlanFault, built, fault_of, node_count};
+ghost use Rattle.tfiles.specs.Failures.{HasRisen, HasStayed};
+ghost use Rattle.ttext.specs.Outcomes.{HasOutputCause, IsDue, IsFaultOf, as_opened, opened_of};
+ghost use Rattle.ttext.specs.declared.verdict.Verdict.TheVariants.{Wrong};
+ghost use Rattle.tfindings.specs.Findings as spec;
+ghost use Rattle.tfindings.specs.Findings.{HasFound, HasRun, IsFindingLeft, IsFindingOf, IsRunOf};
+
+use crate::finding::{Finding, Touch};
+use crate::steps::made_by;
+use crate::telling::{body_of, write_finding};
+use std::alloc::{AllocError, Global};
+use tclocks::{Mode, Step};
+use tfiles::CountedWrite;
+use tnames::NodeNames;
+use tplan::{BuildFault, Plan, Wiring};
+use ttext::opening::plan;
+use ttext::{Fault, Verdict as Outcome};
+use tverdict::{Machine, Race, Refusal, Verdict};
+use tword::Items;
+
+/// `temu certify`: runs the process machine of the net of a wiring and the files of its images, one file a node, once,
+/// for at most so many steps, and writes what was found: that all its runs end in one way, and this end; or two steps
+/// that have a race; or why there is no certificate; behind each address of a race or a refusal its name, where it has
+/// one. The wiring's holds are ignored. Nothing is written before the run has ended. Returns `Clear` if it is
+/// certified, `Marked` if there is a race, else `Cut`.
+///
+/// # Errors
+/// The first of these: `Image` for the first file that is no image, `Net` for the lowest fault of the plan, `Output`
+/// where the writer failed. `Memory` where the allocator refused, or a number would not fit. But for `Output` nothing
+/// was written.
+#[tactic(auto, using(crate::proofs::Runs::has_found, crate::proofs::Runs::finding_cut))]
+pub fn certify_files<W: CountedWrite>(
+    alloc: Global,
+    wiring: &Wiring,
+    files: Items<Items<u8>>,
+    most_steps: u64,
+    names: &[NodeNames],
+    out: &mut W,
+) -> Result<Outcome, Fault>
+    requires { length files ≡ length wiring.now.nodes }
+    // what is written is true of the plan, and the verdict is that of what was found
+    ensures found { IfOk result (HasFound wiring.now files most_steps names.now (W.contents out.old) (W.contents out.new)) }
+
+    // each fault is the first that is due
+    ensures due { IfErr result (IsDue (opened_of wiring.now files)) }
+
+    // and nothing is written, or the beginning of such a text
+    ensures left { IfErr result
+        (IsFindingLeft W.contents wiring.now files most_steps names.now out.old out.new) }
+
+    // and the output failed just where a write did
+    ensures cause { IfErr result (HasOutputCause (W.failures out.old) (W.failures out.new)) }
+    ensures stayed { OnOk result (HasStayed (W.failures out.old) (W.failures out.new)) }
+{
+    let found = find(alloc, wiring, files, most_steps)?;
+    let Ok(body) = body_of(alloc, &found.machine, &found.finding) else {
+        return Err(Fault::Memory);
+    };
+    match write_finding(
+        out,
+        names,
+        &found.plan,
+        &found.machine,
+        &found.finding,
+        body.as_slice(),
+    ) {
+        Ok(()) => Ok(outcome_of(&found.finding)),
+        Err(cut) => Err(Fault::Output(cut)),
+    }
+}
+
+/// A plan, its machine as its run left it, and what was found.
+#[derive(Drop)]
+struct FoundRun {
+    plan: Plan,
+    machine: Machine,
+    finding: Finding,
+}
+
+/// What is found of a wiring and the files of its images.
+///
+/// # Errors
+/// `Image` for the first file that is no image, `Net` for the lowest fault of the plan, `Memory`.
+#[tactic(auto, using(crate::proofs::Runs::opened_files, crate::proofs::Runs::due_of_files))]
+fn find(
+    alloc: Global,
+    wiring: &Wiring,
+    files: Items<Items<u8>>,
+    most_steps: u64,
+) -> Result<FoundRun, Fault>
+    requires { length files ≡ length wiring.now.nodes }
+    ensures found { IfOk result (λ x. IsRunOf wiring.now files most_steps x.plan x.machine x.finding) }
+    ensures few { IfOk result (λ x. node_count x.plan ≤ most_nodes) }
+    ensures opened { OnOk result (IsOk (opened_of wiring.now files)) }
+    ensures due { IfErr result (IsFaultOf (opened_of wiring.now files)) }
+{
+    let plan = plan(alloc, wiring, files)?;
+    let Ran { machine, finding } = run_plan(alloc, &plan, most_steps)?;
+    Ok(FoundRun {
+        plan,
+        machine,
+        finding,
+    })
+}
+
+/// The run of a plan, and what is found.
+///
+/// # Errors
+/// `Net` for the lowest fault of the plan; `Memory`.
+#[tactic(auto, using(crate::proofs::Runs::few_nodes, crate::proofs::Runs::opened_plan, crate::proofs::Runs::fault_due))]
+fn run_plan(alloc: Global, plan: &Plan, most_steps: u64) -> Result<Ran, Fault>
+    ensures ran { IfOk result (λ ran. HasRun plan.now most_steps ran.machine ran.finding) }
+    ensures few { OnOk result (node_count plan.now ≤ most_nodes) }
+    ensures opened { OnOk result (IsOk (as_opened (built plan.now))) }
+    ensures due { IfErr result (IsFaultOf (as_opened (built plan.now))) }
+{
+    Ok(run(alloc, plan, most_steps)?)
+}
+
+/// What the command comes to.
+fn outcome_of(finding: &Finding) -> Outcome
+    ensures { result ≡ spec.outcome_of finding.now }
+{
+    match finding {
+        Finding::Certified => Outcome::Clear,
+        Finding::Race { .. } => Outcome::Marked,
+        Finding::Stopped { .. }
+        | Finding::TooManyProcesses { .. }
+        | Finding::FlagsChanged { .. }
+        | Finding::Cut => Outcome::Cut,
+    }
+}
+
+/// A machine as its run left it, and what was found.
+#[derive(Drop)]
+struct Ran {
+    machine: Machine,
+    finding: Finding,
+}
+
+/// Runs the process machine of a plan.
+///
+/// # Errors
+/// The lowest fault of the plan; `OutOfMemory`.
+fn run(alloc: Global, plan: &Plan, most_steps: u64) -> Result<Ran, BuildFault>
+    ensures ran { IfOk result (λ ran. HasRun plan.now most_steps ran.machine ran.finding) }
+    ensures planned { OnOk result (fault_of plan.now ≡ None) }
+    ensures due { IfErr result (IsPlanFault (fault_of plan.now)) }
+{
+    let mut machine = Machine::open(alloc, plan)?;
+    let verdict = machine.certify(alloc, plan, most_steps)?;
+    let finding = finding_of(alloc, plan, &verdict)?;
+    Ok(Ran { machine, finding })
+}
+
+/// What is told of a verdict.
+///
+/// # Errors
+/// Where the allocator refuses, or a number would not fit.
+fn finding_of(alloc: Global, plan: &Plan, verdict: &Verdict) -> Result<Finding, AllocError>
+    ensures { IfOk result (IsFindingOf plan.now verdict.now) }
+{
+    match *verdict {
+        Verdict::Certified => Ok(Finding::Certified),
+        Verdict::Race(race) => race_of(alloc, plan, race),
+        Verdict::Refused(Refusal::Stops { agent, why }) => Ok(Finding::Stopped {
+            made: made_by(alloc, plan, agent, None)?,
+            why,
+        }),
+        Verdict::Refused(Refusal::TooManyProcesses { node }) => {
+            Ok(Finding::TooManyProcesses { node })
+        }
+        Verdict::Refused(Refusal::FlagsChanged { node }) => Ok(Finding::FlagsChanged { node }),
+        Verdict::Cut => Ok(Finding::Cut),
+    }
+}
+
+/// What is told of a race.
+fn race_of(alloc: Global, plan: &Plan, race: Race) -> Result<Finding, AllocError>
+    ensures { IfOk result (spec.IsRaceOf plan.now race) }
+{
+    let earlier = touch_of(alloc, plan, race.earlier.mode, race.earlier.step)?;
+    let last = touch_of(alloc, plan, race.mode, race.step)?;
+    Ok(Finding::Race {
+        place: race.place,
+        earlier,
+        last,
+    })
+}
+
+/// What is told of an access of a step.
+fn touch_of(alloc: Global, plan: &Plan, mode: Mode, step: Step) -> Result<Touch, AllocError>
+    ensures { IfOk result (spec.IsTouchOf plan.now mode step) }
+{
+    let made = made_by(alloc, plan, step.agent, Some(step.number))?;
+    Ok(Touch { mode, made })
+}

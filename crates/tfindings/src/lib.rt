@@ -1,0 +1,24 @@
+//! What is printed of a run of the process machine: its end with the bytes that are known, or why there is no
+//! certificate.
+//!
+//! - `agents`: the names of agents
+//! - `cells`: the memory of a node, with `~~` for each byte that is not known
+//! - `ends`: the end of a certified run: nodes, sources and sinks
+//! - `places`: places, and how they are accessed
+//! - `refusals`: why a step stops
+//! - `finding`, `telling`: what was found, and how it is printed
+//! - `steps`: where a step was made, by a second run
+//! - `certifying`: the call of the command
+#![tactic(auto)]
+
+mod agents;
+mod cells;
+mod certifying;
+mod ends;
+pub mod finding;
+mod places;
+mod refusals;
+mod steps;
+mod telling;
+
+pub use certifying::certify_files;

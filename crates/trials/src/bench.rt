@@ -1,0 +1,170 @@
+//! Benchmarks, each by its name: so much work of it is done, and its name, how many operations it did, and their answer
+//! are printed. `bench/run` times them against plain Rust.
+
+mod answer;
+mod crew;
+mod free;
+mod idle;
+mod local_loop;
+mod mixed_code;
+mod nets;
+mod pipeline;
+mod programs;
+mod rounds;
+mod scheduling;
+
+use self::answer::{Answer, Fault};
+use self::crew::{Crew, Load, Manner};
+use self::local_loop::Claims;
+use self::nets::Ring;
+use self::scheduling::{Job, Others};
+use std::alloc::Global;
+use std::io;
+use std::thread::Threads;
+
+/// A benchmark.
+#[derive(Clone, Copy)]
+enum Benchmark {
+    Decode,
+    Local(Claims),
+    Processor(Job),
+    /// A ring of so many nodes, with messages of so many bytes.
+    Ring(u8, u32),
+    Pipeline,
+    /// So many workers that go on in rounds, with slices of so many runs.
+    Rounds(Load, u32, usize),
+    /// So many free workers, with slices of so many runs.
+    Turns(Load, u32, usize),
+    /// Turns over so many nodes that wait for ever.
+    Idle(u8),
+}
+
+/// The benchmarks, by name.
+const BENCHMARKS: &[(&str, Benchmark)] = &[
+    ("decode", Benchmark::Decode),
+    ("local", Benchmark::Local(Claims::Nothing)),
+    ("local-links", Benchmark::Local(Claims::LinkBuffers)),
+    ("local-saved", Benchmark::Local(Claims::SavedWords)),
+    ("processor", Benchmark::Processor(Job::Loop(Others::Nobody))),
+    (
+        "processor-queued",
+        Benchmark::Processor(Job::Loop(Others::Queued(500))),
+    ),
+    (
+        "processor-waiting",
+        Benchmark::Processor(Job::Loop(Others::Waiting(500))),
+    ),
+    ("switch", Benchmark::Processor(Job::Switch(2))),
+    ("switch-500", Benchmark::Processor(Job::Switch(500))),
+    (
+        "message",
+        Benchmark::Processor(Job::Message(4, Others::Nobody)),
+    ),
+    (
+        "message-500",
+        Benchmark::Processor(Job::Message(4, Others::Waiting(498))),
+    ),
+    (
+        "message-1024",
+        Benchmark::Processor(Job::Message(1_024, Others::Nobody)),
+    ),
+    (
+        "message-1024-500",
+        Benchmark::Processor(Job::Message(1_024, Others::Waiting(498))),
+    ),
+    ("net-byte", Benchmark::Ring(2, 1)),
+    ("net-kilobyte", Benchmark::Ring(2, 1_024)),
+    ("net-ring", Benchmark::Ring(64, 4)),
+    ("net-pipeline", Benchmark::Pipeline),
+    ("rounds-1024", Benchmark::Rounds(Load::Computing, 1_024, 1)),
+    (
+        "rounds-1024-2",
+        Benchmark::Rounds(Load::Computing, 1_024, 2),
+    ),
+    (
+        "rounds-1024-4",
+        Benchmark::Rounds(Load::Computing, 1_024, 4),
+    ),
+    (
+        "rounds-65536",
+        Benchmark::Rounds(Load::Computing, 65_536, 1),
+    ),
+    (
+        "rounds-65536-2",
+        Benchmark::Rounds(Load::Computing, 65_536, 2),
+    ),
+    (
+        "rounds-65536-4",
+        Benchmark::Rounds(Load::Computing, 65_536, 4),
+    ),
+    ("rounds-idle", Benchmark::Rounds(Load::Waiting, 1_024, 1)),
+    ("run-ring", Benchmark::Rounds(Load::Exchanging, 64, 1)),
+    ("free-compute", Benchmark::Turns(Load::Computing, 1_024, 1)),
+    (
+        "free-compute-2",
+        Benchmark::Turns(Load::Computing, 1_024, 2),
+    ),
+    (
+        "free-compute-4",
+        Benchmark::Turns(Load::Computing, 1_024, 4),
+    ),
+    ("free-ring", Benchmark::Turns(Load::Exchanging, 64, 1)),
+    ("free-ring-2", Benchmark::Turns(Load::Exchanging, 64, 2)),
+    ("free-ring-4", Benchmark::Turns(Load::Exchanging, 64, 4)),
+    ("turn-idle", Benchmark::Idle(1)),
+    ("turn-idle-2", Benchmark::Idle(2)),
+    ("turn-idle-64", Benchmark::Idle(64)),
+];
+
+/// Does so much work of a benchmark.
+fn done<R: Threads + Sync>(
+    rt: &R,
+    alloc: Global,
+    benchmark: Benchmark,
+    amount: u32,
+) -> Result<Answer, Fault> {
+    match benchmark {
+        Benchmark::Decode => mixed_code::decoded(alloc, amount),
+        Benchmark::Local(claims) => local_loop::looped(alloc, amount, claims),
+        Benchmark::Processor(job) => scheduling::worked(alloc, amount, job),
+        Benchmark::Ring(nodes, length) => nets::went_round(alloc, amount, Ring { nodes, length }),
+        Benchmark::Pipeline => pipeline::went_through(alloc, amount),
+        Benchmark::Rounds(load, slice, workers) => {
+            let crew = Crew {
+                manner: Manner::Rounds,
+                load,
+                slice,
+                workers,
+            };
+            crew::worked(rt, alloc, amount, crew)
+        }
+        Benchmark::Turns(load, slice, workers) => {
+            let crew = Crew {
+                manner: Manner::Free,
+                load,
+                slice,
+                workers,
+            };
+            crew::worked(rt, alloc, amount, crew)
+        }
+        Benchmark::Idle(nodes) => idle::waited(alloc, amount, nodes),
+    }
+}
+
+/// Does so much work of the benchmark of a name, or of each by the name `all`, and prints what came of it.
+pub fn run<R: Threads + Sync>(
+    host: &HostRuntime,
+    rt: &R,
+    wanted: &str,
+    amount: u32,
+) -> io::Result<()> {
+    for (name, benchmark) in BENCHMARKS {
+        if wanted == "all" || wanted == *name {
+            match done(rt, host.alloc(), *benchmark, amount) {
+                Ok(answer) => println!(host; "{name} {} {}", answer.operations, answer.sum)?,
+                Err(fault) => println!(host; "{name}: {fault:?}")?,
+            }
+        }
+    }
+    Ok(())
+}

@@ -1,0 +1,148 @@
+//! Rounds that are refused memory, and go on with the holds that are left.
+
+ghost use Rattle.std.specs.Prelude.{◌≡◌, IfOk};
+ghost use Rattle.trounds.specs.GoingOn.{hold_after, holds_after};
+
+use crate::refusals::alike::are_alike;
+use crate::refusals::story::{Call, Fault, Story, require};
+use std::alloc::{AllocError, Global};
+use std::thread::Threads;
+use tnet::Net;
+use tplan::{Event, Hold, Note};
+use trounds::{Ending, NetFault, Open, Report, run_rounds};
+
+/// More rounds than any of the nets makes.
+const ROUNDS: u32 = 100_000;
+
+/// How many Runs a node makes in a round at most.
+const SLICE: u32 = 64;
+
+/// A hold, where the rounds are counted anew after so many that were done.
+fn later(hold: Hold, done: u32) -> Hold
+    ensures { result ≡ hold_after done hold }
+{
+    Hold {
+        from: hold.from.saturating_sub(done),
+        until: hold.until.saturating_sub(done),
+        ..hold
+    }
+}
+
+/// The holds that are left after so many rounds.
+fn holds_left(alloc: Global, holds: &[Hold], done: u32) -> Result<Vec<Hold>, AllocError>
+    ensures { IfOk result (λ left. left.items ≡ holds_after done holds.now) }
+{
+    holds.iter().map(|hold| later(*hold, done)).collect(alloc)
+}
+
+/// Rounds of a net that go on after so many that were done.
+fn more<R: Threads + Sync>(
+    rt: &R,
+    alloc: Global,
+    net: Net,
+    rounds: u32,
+    holds: &[Hold],
+    done: u32,
+    workers: usize,
+) -> Result<Report, Fault> {
+    let left = holds_left(alloc, holds, done)?;
+    match run_rounds(
+        rt,
+        alloc,
+        net,
+        rounds,
+        SLICE,
+        left.as_slice(),
+        workers,
+        &Open,
+    ) {
+        Ok(report) => Ok(report),
+        Err(_refused) => Err(Fault::Wrong("rounds are refused a second time")),
+    }
+}
+
+/// What rounds did, one run of them after another.
+#[derive(Drop)]
+struct Joined {
+    rounds: u32,
+    events: Vec<Event>,
+    notes: Vec<Note>,
+}
+
+impl Joined {
+    fn new(alloc: Global) -> Joined {
+        Joined {
+            rounds: 0,
+            events: Vec::new(alloc),
+            notes: Vec::new(alloc),
+        }
+    }
+
+    /// Adds what a report tells, and answers its net.
+    fn add(&mut self, report: Report) -> Result<Net, Fault> {
+        self.rounds = self.rounds.saturating_add(report.rounds);
+        self.events.extend_from_slice(report.events.as_slice())?;
+        for note in report.notes.into_vec() {
+            self.notes.push(note)?;
+        }
+        Ok(report.net)
+    }
+}
+
+/// The rounds, from the opening, after which a net is like the one that came back.
+fn rounds_until<R: Threads + Sync>(
+    rt: &R,
+    alloc: Global,
+    mut net: Net,
+    holds: &[Hold],
+    stopped: &Net,
+) -> Result<Joined, Fault> {
+    let mut first = Joined::new(alloc);
+    for _round in 0..ROUNDS {
+        if are_alike(&net, stopped) {
+            return Ok(first);
+        }
+        let done = first.rounds;
+        net = first.add(more(rt, alloc, net, 1, holds, done, 1)?)?;
+    }
+    Err(Fault::Wrong("the net that came back is not at the end of a round"))
+}
+
+/// A net runs in rounds until it is quiet. Where that is refused, the net that came back is as after whole rounds, and
+/// goes on from there.
+pub fn run<R: Threads + Sync>(
+    rt: &R,
+    alloc: Global,
+    net: Net,
+    holds: &[Hold],
+    workers: usize,
+    story: &mut Story,
+) -> Result<(), Fault> {
+    let Ok(opened) = net.try_copy(alloc) else {
+        return Err(Fault::Memory);
+    };
+    let (mut joined, report) = match run_rounds(
+        rt, alloc, net, ROUNDS, SLICE, holds, workers, &Open,
+    ) {
+        Ok(report) => (Joined::new(alloc), report),
+        Err((fault, stopped)) => {
+            require(fault == NetFault::OutOfMemory, "rounds have another fault")?;
+            let first = rounds_until(rt, alloc, opened, holds, &stopped)?;
+            let done = first.rounds;
+            story.refuse(Call::Rounds(done));
+            (
+                first,
+                more(rt, alloc, stopped, ROUNDS, holds, done, workers)?,
+            )
+        }
+    };
+    require(report.end == Ending::Quiet, "rounds do not end quiet")?;
+    let net = joined.add(report)?;
+    story.count(alloc, "rounds", joined.rounds as u64)?;
+    story.tell(
+        alloc,
+        joined.events.as_slice(),
+        joined.notes.as_slice(),
+        &net,
+    )
+}

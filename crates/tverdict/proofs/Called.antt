@@ -1,0 +1,320 @@
+-- A call on a node has done the step of an agent.
+use Rattle.std.proofs.Common.{◌≡◌, ◌<◌, ◌⊎◌, ℕ, inl, inr, refl, sym, ap, ◌∙◌, subst, List, [], Some}
+use Rattle.std.proofs.Common.{Ok, Err, Option, Contains, Result, arith, length}
+use Rattle.std.proofs.Common.{get_or}
+use Rattle.std.specs.Prelude.{option_map, slice_get, slice_set}
+use Rattle.std.proofs.lemmas.Bool.{cases_eq}
+use Rattle.std.proofs.lemmas.Option.{same_Some, slice_get_read, slice_get_within, slice_get-map}
+use Rattle.tplan.specs.declared.plan.NodePlan.{NodePlan}
+use Rattle.tplan.specs.declared.plan.Plan.{Plan}
+use Rattle.tprocesses.specs.ChannelMessages.{channel_step}
+use Rattle.tprocesses.specs.Machine as machine
+use Rattle.tprocesses.specs.Machine.{site_of, step_of}
+use Rattle.tprocesses.specs.Parts.{Doing, Reason}
+use Rattle.tprocesses.specs.Places.{Name}
+use Rattle.tprocesses.specs.Scheduling.{successor_step}
+use Rattle.tprocesses.specs.Touching.{Site}
+use Rattle.tprocesses.specs.Certified.{ProcessStep}
+use Rattle.tcertify.specs.declared.fault.Fault.{Fault}
+use Rattle.tcertify.specs.declared.fault.Fault.TheVariants as fault
+use Rattle.tcertify.specs.declared.lead.Lead.{Lead}
+use Rattle.tcertify.specs.declared.node.Node.{Node}
+use Rattle.tcertify.specs.Nodes.{Does, Grows, IsLed, NumbersNode, RunsAt, address_at, addresses, name_at, names, node_at}
+use Rattle.tcertify.specs.Nodes.{node_site, workspaces}
+use Rattle.tcertify.specs.Notes.{AreNoted, Numbering}
+use Rattle.tcertify.specs.Running.{State, run_part}
+use Rattle.tcertify.specs.Seeing.{sights}
+use Rattle.tcertify.specs.Steps.{step_of_process}
+use Rattle.tcertify.specs.Walked.{accesses, changes}
+use Rattle.tcertify.specs.Words.{reason_of}
+use Rattle.tcertify.proofs.NodeRunning.{grows_on}
+use Rattle.tcertify.proofs.NodeStands.{name_is}
+use Rattle.tcertify.proofs.Places.{set_elsewhere, set_here}
+use Rattle.tfollow.specs.Numbering.{HasNumber}
+use Rattle.tfollow.proofs.Sited.{steps_are_at_sites}
+use Rattle.tverdict.specs.declared.agent.Agent.{Agent}
+use Rattle.tverdict.specs.declared.agent.Agent.TheVariants as agent
+use Rattle.tverdict.specs.declared.machine.Machine.{Machine}
+use Rattle.tverdict.specs.Agents.{IsThere, agent_of}
+use Rattle.tverdict.specs.Apart.{IsApart}
+use Rattle.tverdict.specs.Calls.{DoesAfresh, IsAfresh}
+use Rattle.tverdict.specs.Machines.{Follows, HasDone, HasStep, agents, machine_at, places, state_of}
+use Rattle.tverdict.specs.Numbers.{numbering}
+use Rattle.tverdict.specs.Passing.{NodesGrow}
+use Rattle.tverdict.specs.Stepping.{AreFoundBefore, Fits, IsAnswered, IsDone, IsOutcome}
+use Rattle.tverdict.proofs.Distinct.{at_low}
+use Rattle.tverdict.proofs.Ended.{all_at}
+use Rattle.tverdict.proofs.Frames.{nodes_are_apart}
+use Rattle.tverdict.proofs.Numbered.{places_are_numbered}
+use Rattle.tverdict.proofs.Grown.{agents_same, fits_on, fits_sound, followed_on, tellable_fits}
+use Rattle.tverdict.proofs.Staying.{address_or, name_or, set_grows}
+
+-- a node of which other things were noted has grown, by nothing
+numbers_afresh : (old new : Node) → IsAfresh old new → (numbering : Numbering) → NumbersNode numbering new
+    → NumbersNode numbering old
+numbers_afresh old new is numbering nn =
+    let x = subst (NumbersNode numbering) is.same nn in
+    record {
+      words = x.words;
+      stand = x.stand;
+      input = x.input;
+      output = x.output;
+      life = x.life;
+      successions = x.successions;
+      error = x.error;
+      halt_on_error = x.halt_on_error;
+      flag_changed = x.flag_changed;
+      population = x.population;
+      has_run = x.has_run;
+      link_input = x.link_input;
+      link_output = x.link_output;
+    }
+
+pub grows_afresh : (old new : Node) → IsAfresh old new → Grows old new
+grows_afresh old new is =
+    let processes : length new.processes.items.items ≡ length old.processes.items.items =
+    ap (λ (a : Node). length a.processes.items.items) is.same in
+    let channels : length new.channels.items.items ≡ length old.channels.items.items =
+    ap (λ (a : Node). length a.channels.items.items) is.same in
+    let lives : length new.lives.items.items ≡ length old.lives.items.items =
+    ap (λ (a : Node). length a.lives.items.items) is.same in
+    record {
+      site = ap node_site is.same;
+      numbers = numbers_afresh old new is;
+      processes = omega (arith, processes);
+      channels = omega (arith, channels);
+      lives = omega (arith, lives);
+      names = λ k x e. ap (λ (a : Node). slice_get (names a) k) is.same ∙ e;
+      addresses = λ k x e. ap (λ (a : Node). slice_get (addresses a) k) is.same ∙ e;
+      workspaces = λ k x e. ap (λ (a : Node). slice_get (workspaces a) k) is.same ∙ e;
+    }
+
+-- the machine after a call on one of its nodes
+module _ (plan : Plan) (m m' : Machine) (number n : ℕ) (f : Follows plan m) (h : HasStep plan m number) (old new : Node)
+    (there : slice_get m.nodes.items n ≡ Some old) (set : m'.nodes.items ≡ slice_set m.nodes.items n new) (part : Doing)
+    (is_step : step_of plan h.agent ≡ part) (begun : Node) (afresh : IsAfresh old begun) where
+  abbrev it : Machine
+  it = record m { nodes = m'.nodes; idle = m'.idle }
+
+  abbrev steps : List ProcessStep
+  steps = f.0
+
+  done : HasDone plan m steps
+  done = f.1
+
+  number_old : old.words.number ≡ n
+  number_old = done.sound.nodes.numbers n old there
+
+  apart : IsApart plan m.nodes.items m.sent.items m.sinks.items n old
+  apart = nodes_are_apart plan m.nodes.items m.sent.items m.sinks.items n old there number_old
+
+  begun_at : node_at begun apart.rest ≡ machine_at plan m
+  begun_at = ap (λ (b : Node). node_at b apart.rest) afresh.same ∙ apart.before
+
+  module _ (answer : Result (Unit {0}) Reason) (runs : RunsAt part begun answer new) where
+    grows : Grows old new
+    grows = grows_on old begun new (grows_afresh old begun afresh) runs.grows
+
+    number_new : new.words.number ≡ n
+    number_new = ap (λ (s : Site). s.number) grows.site ∙ number_old
+
+    runs_it : run_part (step_of plan h.agent) (machine_at plan m) ≡ (answer, machine_at plan it)
+    runs_it =
+        ap (λ (p : Doing). run_part p (machine_at plan m)) is_step
+        ∙ ap (run_part part) (sym begun_at) ∙ runs.runs apart.rest
+        ∙ ap (λ (s : State). (answer, s)) (apart.after new number_new)
+        ∙ ap (λ (ns : List Node). (answer, state_of plan ns m.sent.items m.sinks.items)) (sym set)
+
+    growing : NodesGrow m.nodes.items m'.nodes.items
+    growing =
+        subst (λ (ns : List Node). NodesGrow m.nodes.items ns) (sym set) (set_grows m.nodes.items n old new there grows)
+
+    fits : Fits plan m
+    fits = fits_sound plan m done.sound
+
+    agents_are : agents it ≡ agents m
+    agents_are = agents_same plan m it growing fits refl refl done.sound.kept_places
+
+    abbrev answered : IsAnswered plan number answer it
+    answered =
+        record {
+          steps = steps;
+          count = done.count;
+          agent = h.agent;
+          state = machine_at plan m;
+          numbered = subst (λ (list : List machine.Agent). HasNumber list h.agent number) (sym agents_are) h.numbered;
+          opened = h.opened;
+          runs = runs_it;
+          followed = followed_on plan m it growing fits refl refl done.sound.kept_places steps (machine_at plan m)
+              done.followed;
+          tellable = tellable_fits plan it (fits_on plan m it growing fits refl refl done.sound.kept_places);
+        }
+
+    here_it : slice_get m'.nodes.items n ≡ Some new
+    here_it = ap (λ (ns : List Node). slice_get ns n) set ∙ set_here m.nodes.items n new old there
+
+    -- a node of the machine now
+    node_it : (j : ℕ) (x : Node) → slice_get m'.nodes.items j ≡ Some x
+        → ((n ≡ j) × (x ≡ new)) ⊎ (slice_get m.nodes.items j ≡ Some x)
+    node_it j x at = elim (cases_eq n j) [
+      | inl e ↦ inl (e, sym (same_Some new x (sym (ap (λ (i : ℕ). slice_get m'.nodes.items i) (sym e) ∙ here_it) ∙ at)))
+      | inr other ↦
+          inr (sym (ap (λ (ns : List Node). slice_get ns j) set ∙ set_elsewhere m.nodes.items n j new other) ∙ at)
+    ]
+
+    fits_it : Fits plan it
+    fits_it = fits_on plan m it growing fits refl refl done.sound.kept_places
+
+    found_it : AreFoundBefore plan n (length old.processes.items.items) (length old.channels.items.items) n
+        (length old.processes.items.items) (length old.channels.items.items) it
+    found_it =
+        record {
+          processes = λ j k has low low'. done.sound.found.processes j k (elim (node_it j has.0 has.1) [
+            | inl (same, is) ↦
+                (old, ap (λ (i : ℕ). slice_get m.nodes.items i) (sym same) ∙ there, low (sym same))
+            | inr before ↦ (has.0, before, has.2)
+          ]);
+          channels = λ j k has low low'. done.sound.found.channels j k (elim (node_it j has.0 has.1) [
+            | inl (same, is) ↦
+                (old, ap (λ (i : ℕ). slice_get m.nodes.items i) (sym same) ∙ there, low (sym same))
+            | inr before ↦ (has.0, before, has.2)
+          ]);
+          wires = done.sound.found.wires;
+        }
+
+    noted_it : AreNoted (places it) new.words.notes (accesses (step_of plan h.agent) (machine_at plan m))
+    noted_it =
+        subst (λ (p : Doing). AreNoted (places it) new.words.notes (accesses p (machine_at plan m))) (sym is_step)
+        (subst (λ (s : State). AreNoted (places it) new.words.notes (accesses part s)) begun_at
+        (runs.noted (places it)
+        (places_are_numbered m'.nodes.items m.first_script n new here_it number_new) apart.rest))
+
+    led_it : (l : Lead) → Contains new.leads.items l
+        → IsLed new (sights (step_of plan h.agent) (machine_at plan m)) (changes (step_of plan h.agent) (machine_at plan m)) l
+    led_it l has = elim (runs.led l has) [
+      | inl none ↦ absurd (nothing (subst (λ (ls : List Lead). Contains ls l) afresh.leads none))
+      | inr led ↦
+          subst (λ (p : Doing). IsLed new (sights p (machine_at plan m)) (changes p (machine_at plan m)) l) (sym is_step)
+          (subst (λ (s : State). IsLed new (sights part s) (changes part s) l) begun_at (led apart.rest))
+    ]
+      where
+        nothing : Contains [] l → ⊥
+        nothing none = absurd (omega (arith, none.1))
+
+  done_it : RunsAt part begun (Ok tt) new
+      → IsDone plan number n (length old.processes.items.items) (length old.channels.items.items) it
+  done_it runs =
+      record {
+        untold = record {
+          answered = answered (Ok tt) runs;
+          node = new;
+          there = here_it (Ok tt) runs;
+          noted = noted_it (Ok tt) runs;
+          led = led_it (Ok tt) runs;
+          fits = fits_it (Ok tt) runs;
+        };
+        found = found_it (Ok tt) runs;
+      }
+
+  outcome_it : (result : Result (Unit {0}) Fault) → Does part (λ x. tt) begun result new
+      → IsOutcome plan number n (length old.processes.items.items) (length old.channels.items.items) result it
+  outcome_it (Ok x) does = done_it does
+  outcome_it (Err (fault.Stops why)) does = answered (Err (reason_of why)) does
+  outcome_it (Err fault.OutOfMemory) does = tt
+
+  pub outcome : (result : Result (Unit {0}) Fault) → Does part (λ x. tt) begun result new → m' ≡ it
+      → IsOutcome plan number n (length old.processes.items.items) (length old.channels.items.items) result m'
+  outcome result does same =
+      subst (IsOutcome plan number n (length old.processes.items.items) (length old.channels.items.items) result)
+      (sym same) (outcome_it result does)
+
+-- the node of an agent that is there
+module _ (plan : Plan) (m : Machine) (number n k : ℕ) (f : Follows plan m) (h : HasStep plan m number) (old : Node)
+    (there : slice_get m.nodes.items n ≡ Some old) where
+  planned : (p : NodePlan) × (slice_get plan.nodes n ≡ Some p)
+  planned =
+      let within : n < length m.nodes.items = slice_get_within m.nodes.items n old there in
+      at_low plan.nodes n (omega (arith, within, (f.1).sound.nodes.many))
+
+  site : site_of n planned.0 ≡ node_site old
+  site = sym ((f.1).sound.nodes.sites n old planned.0 there planned.1)
+
+  agent_is : (a : Agent) → slice_get m.agents.items number ≡ Some a → h.agent ≡ agent_of m.nodes.items a
+  agent_is a at =
+      same_Some h.agent (agent_of m.nodes.items a)
+      (sym h.numbered ∙ slice_get-map (agent_of m.nodes.items) m.agents.items number
+      ∙ ap (option_map (agent_of m.nodes.items)) at)
+
+  pub process_is : slice_get m.agents.items number ≡ Some (agent.Process n k) → k < length old.processes.items.items
+      → step_of plan h.agent ≡ step_of_process (node_site old) (name_at old k)
+  process_is at low =
+      let (p, by) = at_low old.processes.items.items k low in
+      let x : Name = name_at old k in
+      let at_n : x.node ≡ n =
+      ap (λ (y : Name). y.node) (name_is old k p by) ∙ (f.1).sound.nodes.numbers n old there in
+      ap (step_of plan) (agent_is (agent.Process n k) at
+      ∙ ap (λ (o : Option Node). machine.Process (name_or n k o)) there)
+      ∙ (steps_are_at_sites plan).process x planned.0
+      (ap (λ (j : ℕ). slice_get plan.nodes j) at_n ∙ planned.1)
+      ∙ ap (λ (s : Site). step_of_process s x) (ap (λ (j : ℕ). site_of j planned.0) at_n ∙ site)
+
+  pub channel_is : slice_get m.agents.items number ≡ Some (agent.Channel n k)
+      → step_of plan h.agent ≡ channel_step (address_at old k) (node_site old)
+  channel_is at =
+      ap (step_of plan) (agent_is (agent.Channel n k) at
+      ∙ ap (λ (o : Option Node). machine.Channel n (address_or k o)) there)
+      ∙ (steps_are_at_sites plan).channel n (address_at old k) planned.0 planned.1
+      ∙ ap (channel_step (address_at old k)) site
+
+  pub successor_is : slice_get m.agents.items number ≡ Some (agent.Successor n k)
+      → step_of plan h.agent ≡ successor_step k (node_site old)
+  successor_is at =
+      ap (step_of plan) (agent_is (agent.Successor n k) at)
+      ∙ (steps_are_at_sites plan).successor n k planned.0 planned.1 ∙ ap (successor_step k) site
+
+-- what a call on the node of an agent answers, as the code has it: old is what was read at the number of the node
+module _ (plan : Plan) (m m' : Machine) (number n k : ℕ) (f : Follows plan m) (h : HasStep plan m number) (old new : Node)
+    (read : old ≡ get_or m.nodes.items n old) (result : Result (Unit {0}) Fault) (processes channels : ℕ)
+    (p : processes ≡ length old.processes.items.items) (q : channels ≡ length old.channels.items.items)
+    (set : m'.nodes.items ≡ slice_set m.nodes.items n new)
+    (same : m' ≡ record m { nodes = m'.nodes; idle = m'.idle }) where
+  named : (a : Agent) → slice_get m.agents.items number ≡ Some a → IsThere m.nodes.items a
+  named a at = all_at (IsThere m.nodes.items) m.agents.items (f.1).sound.there number a at
+
+  there_at : (x : Node) → slice_get m.nodes.items n ≡ Some x → slice_get m.nodes.items n ≡ Some old
+  there_at x at =
+      slice_get_read m.nodes.items (length m.nodes.items) n old refl (slice_get_within m.nodes.items n x at) read
+
+  by_part : (part : Doing) → slice_get m.nodes.items n ≡ Some old → step_of plan h.agent ≡ part
+      → DoesAfresh part old result new → IsOutcome plan number n processes channels result m'
+  by_part part there is does =
+      subst (λ (i : ℕ). IsOutcome plan number n i channels result m') (sym p)
+      (subst (λ (i : ℕ). IsOutcome plan number n (length old.processes.items.items) i result m') (sym q)
+      (outcome plan m m' number n f h old new there set part is does.begun does.afresh result does.does same))
+
+  pub process_done : slice_get m.agents.items number ≡ Some (agent.Process n k)
+      → DoesAfresh (step_of_process (node_site old) (name_at old k)) old result new
+      → IsOutcome plan number n processes channels result m'
+  process_done at does =
+      let (x, by, low) = named (agent.Process n k) at in
+      let there = there_at x by in
+      by_part (step_of_process (node_site old) (name_at old k)) there
+      (process_is plan m number n k f h old there at
+      (subst (λ (a : Node). k < length a.processes.items.items) (same_Some x old (sym by ∙ there)) low)) does
+
+  pub channel_done : slice_get m.agents.items number ≡ Some (agent.Channel n k)
+      → DoesAfresh (channel_step (address_at old k) (node_site old)) old result new
+      → IsOutcome plan number n processes channels result m'
+  channel_done at does =
+      let (x, by, low) = named (agent.Channel n k) at in
+      let there = there_at x by in
+      by_part (channel_step (address_at old k) (node_site old)) there
+      (channel_is plan m number n k f h old there at) does
+
+  pub successor_done : slice_get m.agents.items number ≡ Some (agent.Successor n k)
+      → DoesAfresh (successor_step k (node_site old)) old result new
+      → IsOutcome plan number n processes channels result m'
+  successor_done at does =
+      let (x, by, low) = named (agent.Successor n k) at in
+      let there = there_at x by in
+      by_part (successor_step k (node_site old)) there (successor_is plan m number n k f h old there at) does

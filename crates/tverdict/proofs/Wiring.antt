@@ -1,0 +1,363 @@
+-- The step of a wire from before its halves.
+use Rattle.std.proofs.Common.{◌≡◌, ◌≢◌, ◌<◌, ◌+◌, ◌⊎◌, ℕ, zero, suc, inl, inr, refl, sym, ap, ◌∙◌, subst, List}
+use Rattle.std.proofs.Common.{[], ◌∷◌, Some, None, Ok, Err, All, Contains, Result, arith, length}
+use Rattle.std.specs.Prelude.{option_map, slice_get}
+use Rattle.std.proofs.lemmas.Bool.{cases_eq, false≢true}
+use Rattle.std.proofs.lemmas.Option.{same_Some, slice_get_cases, slice_get-map}
+use Rattle.std.proofs.lemmas.Result.{on_ok_weaker}
+use Rattle.std.specs.Prelude.{OnOk}
+use Rattle.tplan.specs.declared.plan.End.{End}
+use Rattle.tplan.specs.declared.plan.Plan.{Plan}
+use Rattle.tagents.specs.Walks.{are_open}
+use Rattle.tprocesses.specs.Parts.{Doing, Reason}
+use Rattle.tprocesses.specs.Machine as machine
+use Rattle.tprocesses.specs.Machine.{passes, process_machine, sender_to, step_of}
+use Rattle.tcertify.specs.declared.fault.Fault.{Fault}
+use Rattle.tcertify.specs.declared.fault.Fault.TheVariants as fault
+use Rattle.tcertify.specs.declared.lead.Lead.{Lead}
+use Rattle.tcertify.specs.declared.node.Node.{Node}
+use Rattle.tcertify.specs.declared.notes.Notes.{Notes}
+use Rattle.tcertify.specs.declared.sink.Sink.{Sink}
+use Rattle.tcertify.specs.Nodes.{IsLed, node_at}
+use Rattle.tcertify.specs.Running.{State, run_part}
+use Rattle.tcertify.specs.Seeing.{sights}
+use Rattle.tcertify.specs.Walked.{accesses, changes}
+use Rattle.tcertify.specs.Words.{reason_of}
+use Rattle.tcertify.proofs.NodeRunning.{grows_not}
+use Rattle.tcertify.proofs.Places.{set_elsewhere, set_here}
+use Rattle.tfollow.specs.Numbering.{HasNumber}
+use Rattle.tfollow.proofs.Opened.{agents_are_open_by}
+use Rattle.tfollow.proofs.Sited.{steps_are_at_sites}
+use Rattle.tverdict.specs.declared.agent.Agent.TheVariants as agent
+use Rattle.tverdict.specs.declared.finishing.Counts.{Counts}
+use Rattle.tverdict.specs.declared.halt.Halt.{Halt}
+use Rattle.tverdict.specs.declared.halt.Halt.TheVariants as halt
+use Rattle.tverdict.specs.declared.machine.Machine.{Machine}
+use Rattle.tverdict.specs.Verdicts.{IsStepped}
+use Rattle.tverdict.specs.Agents.{HasChannel, HasProcess, agent_of}
+use Rattle.tverdict.specs.Apart.{IsApart}
+use Rattle.tverdict.specs.Machines.{Follows, HasStep, machine_at, places, state_of}
+use Rattle.tverdict.specs.Passing.{NodesGrow, NumbersMachine}
+use Rattle.tverdict.specs.Stepping.{AreFoundBefore, Fits, IsAnswered, KeepsAgents}
+use Rattle.tverdict.specs.Wired.{AreCounts, AreKeptAt, BeginsAt, DoesPass, IsDoneAt, IsNotedAt, IsOutcomeAt, RunsPass}
+use Rattle.tverdict.proofs.Called.{grows_afresh}
+use Rattle.tverdict.proofs.Frames.{nodes_are_apart}
+use Rattle.tverdict.proofs.Grown.{agents_same, fits_on, fits_sound, followed_on, tellable_fits}
+use Rattle.tverdict.proofs.Numbered.{places_are_numbered}
+use Rattle.tverdict.proofs.Staying.{grow_twice, set_grows, was_there}
+
+-- a node begins afresh, if there is one
+module _ (plan : Plan) (m m' : Machine) (n : ℕ) (b : BeginsAt m n m')
+    (numbers : (k : ℕ) (x : Node) → slice_get m.nodes.items k ≡ Some x → x.words.number ≡ k) where
+  abbrev Case : Type 0
+  Case =
+      ((a : Node) × (slice_get m.nodes.items n ≡ Some a)) ⊎ (slice_get m.nodes.items n ≡ None)
+
+  case : Case
+  case = elim (slice_get_cases m.nodes.items n).1 [
+    | inl (a, low, at, r) ↦ inl (a, at)
+    | inr (past, none) ↦ inr none
+  ]
+
+  begin_grows : NodesGrow m.nodes.items m'.nodes.items
+  begin_grows = elim case [
+    | inl (a, at) ↦
+        let (x, afresh, set) = b.node a at in
+        subst (λ (ns : List Node). NodesGrow m.nodes.items ns) (sym set)
+        (set_grows m.nodes.items n a x at (grows_afresh a x afresh))
+    | inr none ↦
+        subst (λ (ns : List Node). NodesGrow m.nodes.items ns) (sym (b.none none))
+        (record { many = refl; grow = λ k a at. (a, at, grows_not a) })
+  ]
+
+  begin_elsewhere : (k : ℕ) → k ≢ n → slice_get m'.nodes.items k ≡ slice_get m.nodes.items k
+  begin_elsewhere k other = elim case [
+    | inl (a, at) ↦
+        let (x, afresh, set) = b.node a at in
+        ap (λ (ns : List Node). slice_get ns k) set ∙ set_elsewhere m.nodes.items n k x (λ e. other (sym e))
+    | inr none ↦ ap (λ (ns : List Node). slice_get ns k) (b.none none)
+  ]
+
+  begin_empty : (x : Node) → slice_get m'.nodes.items n ≡ Some x → x.leads.items ≡ []
+  begin_empty x here = elim case [
+    | inl (a, at) ↦
+        let (y, afresh, set) = b.node a at in
+        let is : x ≡ y =
+        same_Some x y (sym here ∙ ap (λ (ns : List Node). slice_get ns n) set ∙ set_here m.nodes.items n y a at) in
+        ap (λ (z : Node). z.leads.items) is ∙ afresh.leads
+    | inr none ↦ absurd (some_none x (sym here ∙ ap (λ (ns : List Node). slice_get ns n) (b.none none) ∙ none))
+  ]
+    where
+      some_none : (x : Node) → Some x ≡ None → ⊥
+      some_none x e = cc
+
+  begin_state : machine_at plan m' ≡ machine_at plan m
+  begin_state =
+      ap (machine_at plan) b.same
+      ∙ elim case as (λ _. state_of plan m'.nodes.items m.sent.items m.sinks.items ≡ machine_at plan m) [
+        | inl (a, at) ↦
+            let (x, afresh, set) = b.node a at in
+            let apart : IsApart plan m.nodes.items m.sent.items m.sinks.items n a =
+            nodes_are_apart plan m.nodes.items m.sent.items m.sinks.items n a at (numbers n a at) in
+            let number : x.words.number ≡ n = ap (λ (y : Node). y.words.number) afresh.same ∙ numbers n a at in
+            ap (λ (ns : List Node). state_of plan ns m.sent.items m.sinks.items) set
+            ∙ sym (apart.after x number) ∙ ap (λ (y : Node). node_at y apart.rest) afresh.same ∙ apart.before
+        | inr none ↦ ap (λ (ns : List Node). state_of plan ns m.sent.items m.sinks.items) (b.none none)
+      ]
+
+-- what a step leaves is told by how many were done before
+stepped_as : (plan : Plan) (number : ℕ) (old old' new : Machine) → old.done ≡ old'.done
+    → (result : Result (Unit {0}) Halt) → IsStepped plan old number result new → IsStepped plan old' number result new
+stepped_as plan number old old' new e (Ok x) (follows, done) = (follows, done ∙ ap (λ (k : ℕ). k + 1) e)
+stepped_as plan number old old' new e (Err (halt.Stops why)) s = s
+stepped_as plan number old old' new e (Err (halt.Race race)) s = s
+stepped_as plan number old old' new e (Err halt.OutOfMemory) s = s
+
+module _ (plan : Plan) (m m1 m2 m3 : Machine) (number : ℕ) (from to : End) (n2 n3 : Notes) (f : Follows plan m)
+    (h : HasStep plan m number) (at : slice_get m.agents.items number ≡ Some (agent.Wire to))
+    (sender : sender_to plan to ≡ Some from) (one two : Counts) (counts : AreCounts m from.node one)
+    (counts' : AreCounts m to.node two) (b : BeginsAt m from.node m1) (b' : BeginsAt m1 to.node m2) where
+  fits : Fits plan m
+  fits = fits_sound plan m (f.1).sound
+
+  grow1 : NodesGrow m.nodes.items m1.nodes.items
+  grow1 = begin_grows plan m m1 from.node b fits.nodes.numbers
+
+  numbers1 : (k : ℕ) (x : Node) → slice_get m1.nodes.items k ≡ Some x → x.words.number ≡ k
+  numbers1 k x here =
+      let (y, by, grows) = was_there m.nodes.items m1.nodes.items grow1 k x here in
+      ap (λ s. s.number) grows.site ∙ fits.nodes.numbers k y by
+
+  grow2 : NodesGrow m.nodes.items m2.nodes.items
+  grow2 =
+      grow_twice m.nodes.items m1.nodes.items m2.nodes.items grow1
+      (begin_grows plan m1 m2 to.node b' numbers1)
+
+  state2 : machine_at plan m2 ≡ machine_at plan m
+  state2 =
+      begin_state plan m1 m2 to.node b' numbers1 ∙ begin_state plan m m1 from.node b fits.nodes.numbers
+
+  -- the machine is as it was but for its nodes
+  same2 : m2 ≡ record m { nodes = m2.nodes }
+  same2 = b'.same ∙ ap (λ (x : Machine). record x { nodes = m2.nodes }) b.same
+
+  pub fits2 : Fits plan m2
+  fits2 =
+      subst (Fits plan) (sym same2)
+      (fits_on plan m (record m { nodes = m2.nodes }) grow2 fits refl refl fits.kept_places)
+
+  agent_is : h.agent ≡ machine.Wire to
+  agent_is =
+      same_Some h.agent (machine.Wire to)
+      (sym h.numbered ∙ slice_get-map (agent_of m.nodes.items) m.agents.items number
+      ∙ ap (option_map (agent_of m.nodes.items)) at)
+
+  step_is : step_of plan h.agent ≡ passes plan (Some from) to
+  step_is = ap (step_of plan) agent_is ∙ (steps_are_at_sites plan).wire to from sender
+
+  -- nothing was noted before
+  empty : (k : ℕ) (x : Node) → Contains (from.node ∷ to.node ∷ []) k → slice_get m2.nodes.items k ≡ Some x
+      → x.leads.items ≡ []
+  empty k x among here = elim (cases_eq k to.node) [
+    | inl e ↦ begin_empty plan m1 m2 to.node b' numbers1 x (ap (λ (i : ℕ). slice_get m2.nodes.items i) (sym e) ∙ here)
+    | inr other ↦
+        begin_empty plan m m1 from.node b fits.nodes.numbers x
+        (ap (λ (i : ℕ). slice_get m1.nodes.items i) (sym (first among other))
+        ∙ sym (begin_elsewhere plan m1 m2 to.node b' numbers1 k other) ∙ here)
+  ]
+    where
+      first : {k : ℕ} → Contains (from.node ∷ to.node ∷ []) k → k ≢ to.node → k ≡ from.node
+      first (zero, low, e) other = sym e
+      first (suc zero, low, e) other = absurd (other (sym e))
+      first (suc (suc i), low, e) other = absurd (omega (arith, low))
+
+  module _ (answer : Result (Unit {0}) Reason) (p : RunsPass plan from to m2 n2 answer m3 n3) where
+    abbrev it : Machine
+    it = record m { nodes = m3.nodes; sent = m3.sent; sinks = m3.sinks; idle = m3.idle }
+
+    same3 : m3 ≡ it
+    same3 =
+        p.same
+        ∙ ap (λ (x : Machine). record x { nodes = m3.nodes; sent = m3.sent; sinks = m3.sinks }) same2
+        ∙ ap (λ (x : Machine). record m { nodes = m3.nodes; sent = m3.sent; sinks = m3.sinks; idle = x.idle })
+        (sym (p.same
+        ∙ ap (λ (x : Machine). record x { nodes = m3.nodes; sent = m3.sent; sinks = m3.sinks }) same2))
+
+    grow3 : NodesGrow m.nodes.items m3.nodes.items
+    grow3 = grow_twice m.nodes.items m2.nodes.items m3.nodes.items grow2 p.nodes
+
+    sent3 : length m3.sent.items ≡ length m.sent.items
+    sent3 = p.sent ∙ ap (λ (x : Machine). length x.sent.items) same2
+
+    sinks3 : length m3.sinks.items ≡ length m.sinks.items
+    sinks3 = p.sinks ∙ ap (λ (x : Machine). length x.sinks.items) same2
+
+    kept3 : (k : ℕ) (s : Sink) → slice_get m3.sinks.items k ≡ Some s
+        → s.place ≡ m.first_script + (length plan.nodes + length plan.sources + k)
+    kept3 k s here =
+        let (t, by, e) = p.places k s.place (s, here, refl) in
+        sym e ∙ fits.kept_places k t (ap (λ (x : Machine). slice_get x.sinks.items k) (sym same2) ∙ by)
+
+    abbrev answered : IsAnswered plan number answer it
+    answered =
+        record {
+          steps = f.0;
+          count = (f.1).count;
+          agent = h.agent;
+          state = machine_at plan m;
+          numbered = subst (λ (list : List machine.Agent). HasNumber list h.agent number)
+              (sym (agents_same plan m m3 grow3 fits sent3 sinks3 kept3)) h.numbered;
+          opened = h.opened;
+          runs = ap (λ (q : Doing). run_part q (machine_at plan m)) step_is
+              ∙ ap (run_part (passes plan (Some from) to)) (sym state2) ∙ p.runs
+              ∙ ap (λ (x : Machine). (answer, machine_at plan x)) same3;
+          followed = followed_on plan m m3 grow3 fits sent3 sinks3 kept3 f.0 (machine_at plan m) (f.1).followed;
+          tellable = tellable_fits plan it (fits_on plan m m3 grow3 fits sent3 sinks3 kept3);
+        }
+
+    numbered : NumbersMachine (places it) it
+    numbered =
+        record {
+          nodes = λ k x here. places_are_numbered m3.nodes.items m.first_script k x here
+              ((fits_on plan m m3 grow3 fits sent3 sinks3 kept3).nodes.numbers k x here);
+          messages = λ e. refl;
+          kept = λ e. refl;
+        }
+
+    noted3 : AreKeptAt it n3 from.node to.node
+        → All (IsNotedAt (places it) it n3 from.node to.node) (accesses (step_of plan h.agent) (machine_at plan m))
+    noted3 kept =
+        subst (λ (q : Doing). All (IsNotedAt (places it) it n3 from.node to.node) (accesses q (machine_at plan m)))
+        (sym step_is)
+        (subst (λ (s : State). All (IsNotedAt (places it) it n3 from.node to.node)
+        (accesses (passes plan (Some from) to) s)) state2
+        (subst (λ (x : Machine). All (IsNotedAt (places it) x n3 from.node to.node)
+        (accesses (passes plan (Some from) to) (machine_at plan m2))) same3
+        (p.noted (places it) (subst (NumbersMachine (places it)) (sym same3) numbered)
+        (subst (λ (x : Machine). AreKeptAt x n3 from.node to.node) (sym same3) kept))))
+
+    led3 : (k : ℕ) (l : Lead) (x : Node) → Contains (from.node ∷ to.node ∷ []) k → slice_get m3.nodes.items k ≡ Some x
+        → Contains x.leads.items l
+        → IsLed x (sights (step_of plan h.agent) (machine_at plan m)) (changes (step_of plan h.agent) (machine_at plan m)) l
+    led3 k l x among here has = elim (p.led k x l here has) [
+      | inl (y, by, before) ↦
+          absurd (nothing (subst (λ (ls : List Lead). Contains ls l) (empty k y among by) before))
+      | inr led ↦
+          subst (λ (q : Doing). IsLed x (sights q (machine_at plan m)) (changes q (machine_at plan m)) l) (sym step_is)
+          (subst (λ (s : State). IsLed x (sights (passes plan (Some from) to) s)
+          (changes (passes plan (Some from) to) s) l) state2 led)
+    ]
+      where
+        nothing : Contains [] l → ⊥
+        nothing none = absurd (omega (arith, none.1))
+
+    -- a node that is neither end is as it was
+    stays : (j : ℕ) → j ≢ from.node → j ≢ to.node → slice_get m3.nodes.items j ≡ slice_get m.nodes.items j
+    stays j differs other =
+        p.others j differs other ∙ begin_elsewhere plan m1 m2 to.node b' numbers1 j other
+        ∙ begin_elsewhere plan m m1 from.node b fits.nodes.numbers j differs
+
+    was_process : (j k : ℕ) → HasProcess m3.nodes.items j k → (j ≡ from.node → k < one.processes)
+        → (j ≡ to.node → k < two.processes) → HasProcess m.nodes.items j k
+    was_process j k (x, here, low) first second =
+        let (y, by, grows) = was_there m.nodes.items m3.nodes.items grow3 j x here in
+        elim (cases_eq j from.node) [
+          | inl e ↦
+              let count = counts.processes y (ap (λ (i : ℕ). slice_get m.nodes.items i) (sym e) ∙ by) in
+              let low' : k < one.processes = first e in (y, by, omega (arith, low', count))
+          | inr differs ↦ elim (cases_eq j to.node) [
+            | inl e ↦
+                let count = counts'.processes y (ap (λ (i : ℕ). slice_get m.nodes.items i) (sym e) ∙ by) in
+                let low' : k < two.processes = second e in (y, by, omega (arith, low', count))
+            | inr other ↦ (x, sym (stays j differs other) ∙ here, low)
+          ]
+        ]
+
+    was_channel : (j k : ℕ) → HasChannel m3.nodes.items j k → (j ≡ from.node → k < one.channels)
+        → (j ≡ to.node → k < two.channels) → HasChannel m.nodes.items j k
+    was_channel j k (x, here, low) first second =
+        let (y, by, grows) = was_there m.nodes.items m3.nodes.items grow3 j x here in
+        elim (cases_eq j from.node) [
+          | inl e ↦
+              let count = counts.channels y (ap (λ (i : ℕ). slice_get m.nodes.items i) (sym e) ∙ by) in
+              let low' : k < one.channels = first e in (y, by, omega (arith, low', count))
+          | inr differs ↦ elim (cases_eq j to.node) [
+            | inl e ↦
+                let count = counts'.channels y (ap (λ (i : ℕ). slice_get m.nodes.items i) (sym e) ∙ by) in
+                let low' : k < two.channels = second e in (y, by, omega (arith, low', count))
+            | inr other ↦ (x, sym (stays j differs other) ∙ here, low)
+          ]
+        ]
+
+    found3 : AreFoundBefore plan from.node one.processes one.channels to.node two.processes two.channels it
+    found3 =
+        record {
+          processes = λ j k has first second. (f.1).sound.found.processes j k (was_process j k has first second);
+          channels = λ j k has first second. (f.1).sound.found.channels j k (was_channel j k has first second);
+          wires = (f.1).sound.found.wires;
+        }
+
+  done3 : (p : RunsPass plan from to m2 n2 (Ok tt) m3 n3)
+      → IsDoneAt plan number from.node one.processes one.channels to.node two.processes two.channels n3 (it (Ok tt) p)
+  done3 p =
+      record {
+        untold = record {
+          answered = answered (Ok tt) p;
+          noted = noted3 (Ok tt) p;
+          led = led3 (Ok tt) p;
+          fits = fits_on plan m m3 (grow3 (Ok tt) p) fits (sent3 (Ok tt) p) (sinks3 (Ok tt) p) (kept3 (Ok tt) p);
+        };
+        found = found3 (Ok tt) p;
+      }
+
+  pub wire_outcome : (result : Result (Unit {0}) Fault) → DoesPass plan from to m2 n2 result m3 n3
+      → IsOutcomeAt plan number from.node one.processes one.channels to.node two.processes two.channels n3 result m3
+  wire_outcome (Ok x) p =
+      subst (IsDoneAt plan number from.node one.processes one.channels to.node two.processes two.channels n3)
+      (sym (same3 (Ok tt) p)) (done3 p)
+  wire_outcome (Err (fault.Stops why)) p =
+      subst (IsAnswered plan number (Err (reason_of why))) (sym (same3 (Err (reason_of why)) p))
+      (answered (Err (reason_of why)) p)
+  wire_outcome (Err fault.OutOfMemory) p = tt
+
+  kept_from : (answer : Result (Unit {0}) Reason) → RunsPass plan from to m2 n2 answer m3 n3
+      → (result : Result (Unit {0}) Halt) (new : Machine) → OnOk result (KeepsAgents m3 new)
+      → OnOk result (KeepsAgents m new)
+  kept_from answer p result new kept =
+      on_ok_weaker result
+      (λ keeps k a here. keeps k a (ap (λ (x : Machine). slice_get x.agents.items k) (same3 answer p) ∙ here)) kept
+
+  -- so the step of the wire is the one that its end says
+  pub wire_stepped : (outcome : Result (Unit {0}) Fault) → DoesPass plan from to m2 n2 outcome m3 n3
+      → (result : Result (Unit {0}) Halt) (new : Machine)
+      → (outcome ≡ Err fault.OutOfMemory → result ≡ Err halt.OutOfMemory)
+      → (IsOutcomeAt plan number from.node one.processes one.channels to.node two.processes two.channels n3 outcome m3
+      → IsStepped plan m3 number result new) → IsStepped plan m number result new
+  wire_stepped (Ok x) p result new memory stepped =
+      stepped_as plan number m3 m new (ap (λ (y : Machine). y.done) (same3 (Ok tt) p)) result (stepped (wire_outcome (Ok x) p))
+  wire_stepped (Err (fault.Stops why)) p result new memory stepped =
+      stepped_as plan number m3 m new (ap (λ (y : Machine). y.done) (same3 (Err (reason_of why)) p)) result
+      (stepped (wire_outcome (Err (fault.Stops why)) p))
+  wire_stepped (Err fault.OutOfMemory) p result new memory stepped =
+      subst (λ (r : Result (Unit {0}) Halt). IsStepped plan m number r new) (sym (memory refl)) tt
+
+  -- and each agent keeps its number, as it does at the end
+  pub wire_keeps : (outcome : Result (Unit {0}) Fault) → DoesPass plan from to m2 n2 outcome m3 n3
+      → (result : Result (Unit {0}) Halt) (new : Machine)
+      → (outcome ≡ Err fault.OutOfMemory → result ≡ Err halt.OutOfMemory) → OnOk result (KeepsAgents m3 new)
+      → OnOk result (KeepsAgents m new)
+  wire_keeps (Ok x) p result new memory kept = kept_from (Ok tt) p result new kept
+  wire_keeps (Err (fault.Stops why)) p result new memory kept = kept_from (Err (reason_of why)) p result new kept
+  wire_keeps (Err fault.OutOfMemory) p result new memory kept =
+      subst (λ (r : Result (Unit {0}) Halt). OnOk r (KeepsAgents m new)) (sym (memory refl)) tt
+
+-- a wire that joins no two ends has no step
+pub no_sender : (plan : Plan) (m : Machine) (number : ℕ) (to : End) → HasStep plan m number
+    → slice_get m.agents.items number ≡ Some (agent.Wire to) → sender_to plan to ≡ None → ⊥
+no_sender plan m number to h at none =
+    let is : h.agent ≡ machine.Wire to =
+    same_Some h.agent (machine.Wire to)
+    (sym h.numbered ∙ slice_get-map (agent_of m.nodes.items) m.agents.items number
+    ∙ ap (option_map (agent_of m.nodes.items)) at) in
+    false≢true (sym ((agents_are_open_by plan (machine_at plan m)).no_wire to none)
+    ∙ ap (λ (x : machine.Agent). are_open (process_machine plan) x (machine_at plan m)) (sym is) ∙ h.opened)

@@ -1,0 +1,15 @@
+use Rattle.std.proofs.Common.{◌≡◌, ◌∙◌, ap, subst, Err, Result}
+use Rattle.tcertify.specs.declared.fault.Fault.{Fault}
+use Rattle.tcertify.specs.declared.fault.Fault.TheVariants.{Stops}
+use Rattle.tcertify.specs.Words.{reason_of}
+use Rattle.tverdict.specs.Wired.{IsOutcomeAt}
+use Rattle.tverdict.proofs.Over.{answer_stops}
+use Rattle.tverdict.proofs.machine.Machine.end_pass.Goals as goal
+
+pub returns-in-Stops-clause-stepped : goal.returns-in-Stops-clause-stepped
+returns-in-Stops-clause-stepped c = λ plan o.
+    let m = c.args.self.now in let before = c.args.before in let why = c.in-Stops.why in
+    let e : c.args.outcome ≡ Err (Stops why) = c.in-Err.is ∙ ap Err c.in-Stops.is in
+    answer_stops plan c.args.number (reason_of why) m
+    (subst (λ (r : Result (Unit {0}) Fault). IsOutcomeAt plan c.args.number c.args.one before.0.processes
+    before.0.channels c.args.other before.1.processes before.1.channels c.args.others.now r m) e o)

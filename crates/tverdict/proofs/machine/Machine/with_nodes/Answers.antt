@@ -1,0 +1,32 @@
+use Rattle.std.proofs.Common.{◌≡◌, ◌∙◌, ℕ, List, ap, arith, length, refl, replicate, subst, vec_len}
+use Rattle.std.specs.List.{range_with_len}
+use Rattle.tplan.specs.declared.plan.SinkPlan.{SinkPlan}
+use Rattle.tplan.specs.declared.plan.SourcePlan.{SourcePlan}
+use Rattle.tplan.specs.declared.plan.Wire.{Wire}
+use Rattle.tcertify.specs.declared.node.Node.{Node}
+use Rattle.tverdict.specs.Opening.{AreAgents, AreEmpty, first_check, fresh_after}
+use Rattle.tverdict.proofs.Starting.{at_start}
+use Rattle.tverdict.proofs.machine.Machine.with_nodes.Goals as goal
+
+pub returns-clause-places : goal.returns-clause-places
+returns-clause-places c =
+    record {
+      nodes = c.requires.nodes;
+      scripts = c.next_place-first_script.ensures ∙ ap fresh_after c.as_slice.ensures.value;
+      sinks = subst (λ (f : ℕ). AreEmpty c.args.plan.now.sinks f c.in_ok-sinks.sinks.items) c.in-Some.ensures.sinks
+          (subst (λ (s : List SinkPlan). AreEmpty s c.in-Some.first_sink c.in_ok-sinks.sinks.items) c.as_slice-3.ensures
+          c.in_ok-sinks.ensures);
+      fresh = c.in-Some.ensures.fresh;
+    }
+
+pub returns-clause-start : goal.returns-clause-start
+returns-clause-start c =
+    let agents = c.in_ok-agents.agents in
+    let count : vec_len agents ≡ length agents.items = omega (arith, agents.ok.0) in
+    at_start c.args.plan.now _ (returns-clause-places c)
+    (c.in_ok-sent.ensures.items_if_clones_equal (λ y e. e)
+    ∙ ap (λ (s : List SourcePlan). replicate (length s) 0) c.as_slice-2.ensures) c.requires.wires
+    (subst (λ (w : List Wire). AreAgents w c.args.nodes.items agents.items) c.requires.wires
+    (subst (λ (n : List Node). AreAgents c.args.wires n agents.items) c.as_slice-4.ensures.value c.in_ok-agents.ensures))
+    (c.in_ok-check.ensures ∙ ap (first_check c.in-Some.fresh_place) (c.len.ensures ∙ count))
+    (c.in_ok-candidates.ensures ∙ ap (range_with_len 0) (c.len-2.ensures ∙ count)) c.in-Some.ensures.fits refl

@@ -1,0 +1,105 @@
+//! The steps of agents.
+
+ghost use Rattle.std.specs.Prelude.{◌≡◌, OnOk, Some, slice_get};
+ghost use Rattle.tplan.specs.declared.plan.Plan.{Plan};
+ghost use Rattle.tverdict.specs.Machines.{Follows, HasStep};
+ghost use Rattle.tverdict.specs.Stepping.{KeepsAgents};
+ghost use Rattle.tverdict.specs.Verdicts.{IsStepped};
+ghost use Rattle.tverdict.specs.declared.agent.Agent.TheVariants as agents;
+
+use crate::agent::Agent;
+use crate::calls::{do_channel, do_process, do_successor};
+use crate::finishing::Counts;
+use crate::halt::Halt;
+use crate::machine::Machine;
+use std::alloc::Global;
+use tplan::Plan;
+
+impl Machine {
+    /// The agent of this number, which has a step, makes it.
+    ///
+    /// # Errors
+    /// `Stops` where the step stops; `Race` with the first of its accesses that races with an earlier one;
+    /// `OutOfMemory` where the allocator refuses, or a number would not fit.
+    #[inline]
+    pub fn step(&mut self, alloc: Global, plan: &Plan, number: u32) -> Result<(), Halt>
+        requires follows { Follows plan.now self.old }
+        requires step { HasStep plan.now self.old number }
+        ensures stepped { IsStepped plan.now self.old number result self.new }
+
+        // each agent that was there has its number still
+        ensures kept { OnOk result (KeepsAgents self.old self.new) }
+    {
+        match self.agents[number as usize] {
+            Agent::Process { node, process } => self.process_step(alloc, number, node, process),
+            Agent::Channel { node, channel } => self.channel_step(number, node, channel),
+            Agent::Wire(end) => self.wire_step(alloc, plan, number, end),
+            Agent::Successor { node, word } => self.successor_step(alloc, number, node, word),
+        }
+    }
+
+    /// The step of a process, which is the agent of this number.
+    ///
+    /// # Errors
+    /// Those of `end_call`.
+    fn process_step(
+        &mut self,
+        alloc: Global,
+        number: u32,
+        node: u32,
+        process: u32,
+    ) -> Result<(), Halt>
+        requires open { (plan : Plan) × Follows plan self.old × HasStep plan self.old number }
+        requires agent { slice_get self.old.agents.items number ≡ Some (agents.Process node process) }
+        ensures stepped { (plan : Plan) → Follows plan self.old → HasStep plan self.old number
+            → IsStepped plan self.old number result self.new }
+        ensures kept { OnOk result (KeepsAgents self.old self.new) }
+    {
+        let fresh_place = self.fresh_place;
+        let at = &mut self.nodes[node as usize];
+        let counts = Counts::of(at);
+        let outcome = do_process(at, alloc, &mut self.idle, fresh_place, process);
+        self.end_call(number, node, counts, outcome)
+    }
+    /// The step of a channel, which is the agent of this number.
+    ///
+    /// # Errors
+    /// Those of `end_call`.
+    fn channel_step(&mut self, number: u32, node: u32, channel: u32) -> Result<(), Halt>
+        requires open { (plan : Plan) × Follows plan self.old × HasStep plan self.old number }
+        requires agent { slice_get self.old.agents.items number ≡ Some (agents.Channel node channel) }
+        ensures stepped { (plan : Plan) → Follows plan self.old → HasStep plan self.old number
+            → IsStepped plan self.old number result self.new }
+        ensures kept { OnOk result (KeepsAgents self.old self.new) }
+    {
+        let fresh_place = self.fresh_place;
+        let at = &mut self.nodes[node as usize];
+        let counts = Counts::of(at);
+        let outcome = do_channel(at, fresh_place, channel);
+        self.end_call(number, node, counts, outcome)
+    }
+
+    /// The step of a successor, which is the agent of this number.
+    ///
+    /// # Errors
+    /// Those of `end_call`.
+    fn successor_step(
+        &mut self,
+        alloc: Global,
+        number: u32,
+        node: u32,
+        word: u32,
+    ) -> Result<(), Halt>
+        requires open { (plan : Plan) × Follows plan self.old × HasStep plan self.old number }
+        requires agent { slice_get self.old.agents.items number ≡ Some (agents.Successor node word) }
+        ensures stepped { (plan : Plan) → Follows plan self.old → HasStep plan self.old number
+            → IsStepped plan self.old number result self.new }
+        ensures kept { OnOk result (KeepsAgents self.old self.new) }
+    {
+        let fresh_place = self.fresh_place;
+        let at = &mut self.nodes[node as usize];
+        let counts = Counts::of(at);
+        let outcome = do_successor(at, alloc, fresh_place, word);
+        self.end_call(number, node, counts, outcome)
+    }
+}
