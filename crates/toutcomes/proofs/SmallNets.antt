@@ -8,9 +8,9 @@ use Rattle.tplan.specs.declared.wiring.Wiring.{Wiring}
 use Rattle.tnet.specs.Net.{NetState}
 use Rattle.tnet.specs.Packets.{after_event, after_events, then_after}
 use Rattle.tnet.proofs.NamedEvents.{count_stays, nets_are_small}
-use Rattle.ttext.specs.declared.fault.Fault.{Fault}
-use Rattle.ttext.specs.Outcomes.{as_opened, images_of, opened_of, opened_with}
-use Rattle.ttext.specs.Plans.{net_of, plan_of}
+use Rattle.topening.specs.declared.fault.Fault.{Fault}
+use Rattle.topening.specs.Openings.{as_opened, images_of, opened_of, opened_with}
+use Rattle.topening.specs.Plans.{net_of, plan_of}
 
 -- events leave as many nodes as there were
 count_left : (events : List Event) (net left : NetState) → after_events events net ≡ Some left

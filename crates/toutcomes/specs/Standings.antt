@@ -10,12 +10,12 @@ use Rattle.tnet.specs.Packets.{after_events}
 use Rattle.tfiles.specs.Outputs.{IsCut}
 use Rattle.twhere.specs.Standing.{where_text}
 use Rattle.toutcomes.specs.declared.exploring.Explored.{Explored}
-use Rattle.ttext.specs.declared.fault.Fault.{Fault}
-use Rattle.ttext.specs.declared.fault.Fault.TheVariants as fault
+use Rattle.topening.specs.declared.fault.Fault.{Fault}
+use Rattle.topening.specs.declared.fault.Fault.TheVariants as fault
 use Rattle.toutcomes.specs.declared.telling.Telling.{Telling}
 use Rattle.toutcomes.specs.Explores.{Explores, endless_text, explored_end, heading_text}
 use Rattle.toutcomes.specs.Logged.{IsLogOf}
-use Rattle.ttext.specs.Outcomes.{opened_of}
+use Rattle.topening.specs.Openings.{opened_of}
 
 -- ---- where a net stands
 

@@ -18,11 +18,13 @@ use Rattle.tfree.specs.declared.gathering.Gathered.{Gathered}
 use Rattle.tfree.specs.declared.gathering.Told.{Told}
 use Rattle.tfiles.specs.Logs.{log_text}
 use Rattle.tfiles.specs.Outputs.{IsCut}
-use Rattle.ttext.specs.declared.fault.Fault.{Fault}
-use Rattle.ttext.specs.declared.fault.Fault.TheVariants as fault
-use Rattle.ttext.specs.Commands.{net_verdict, IsLogCut, LogGrows}
-use Rattle.ttext.specs.declared.verdict.Verdict.{Verdict}
-use Rattle.ttext.specs.Outcomes.{opened_of, unless_refused, ShowsOneRun}
+use Rattle.topening.specs.declared.fault.Fault.{Fault}
+use Rattle.topening.specs.declared.fault.Fault.TheVariants as fault
+use Rattle.topening.specs.Verdicts.{net_verdict}
+use Rattle.ttext.specs.Commands.{IsLogCut, LogGrows}
+use Rattle.topening.specs.declared.verdict.Verdict.{Verdict}
+use Rattle.topening.specs.Openings.{opened_of}
+use Rattle.ttext.specs.Outcomes.{unless_refused, ShowsOneRun}
 use Rattle.twords.specs.declared.table.Printing.{Printing}
 use Rattle.ttext.specs.PrintedRuns.{printed_run}
 use Rattle.ttext.specs.declared.printed_run.RunEnd.{RunEnd}

@@ -2,6 +2,7 @@
 -- Source: own choice.
 use Rattle.std.specs.Prelude.{Bool, true, false, List, ◌++◌, [], ℕ, map}
 use Rattle.tplan.specs.declared.event.Note.{Note}
+use Rattle.trounds.specs.declared.replays.Replayed.{Replayed}
 use Rattle.tnet.specs.Net.{NetState}
 use Rattle.tnet.specs.View.{view}
 use Rattle.tfiles.specs.Texts.{dump_text, free_end, replay_end, rounds_end, trace_text}
@@ -52,3 +53,7 @@ listed_for what net = []
 abbrev pub listed_to_print : Printing → NetState → List Listed
 listed_to_print (Lines what) net = listed_for what net
 listed_to_print (Json with_nodes) net = []
+
+-- what is printed of a replay of so many events
+abbrev pub replayed_text : Printing → ℕ → Replayed → List ℕ
+replayed_text printing events r = printed_run printing r.notes r.net (end_by.Replay events)

@@ -11,15 +11,14 @@ ghost use Rattle.tfree.specs.Opened.{share_of, IsOpened};
 ghost use Rattle.tfree.specs.Turning.{AreTurned};
 ghost use Rattle.tfree.specs.declared.opening.OpenFault.TheVariants.{BadWorkers};
 ghost use Rattle.tfiles.specs.Failures.{HasStayed};
-ghost use Rattle.ttext.specs.declared.fault.Fault.TheVariants.{Memory};
+ghost use Rattle.topening.specs.declared.fault.Fault.TheVariants.{Memory};
 ghost use Rattle.ttext.specs.declared.printed_run.RunEnd.TheVariants.{Turns};
 ghost use Rattle.ttext.specs.Free as spec;
 ghost use Rattle.ttext.specs.Free.{shared_of, shared_with, AreFree, AreFreeUnkept, IsFreeLeft, IsFreeRun};
 ghost use Rattle.ttext.specs.Free.{IsFreeShown};
-ghost use Rattle.ttext.specs.Outcomes.{HasOutputCause, IsDue, IsFaultOf, ShowsOneRun};
+ghost use Rattle.topening.specs.Faults.{HasOutputCause, IsDue, IsFaultOf};
+ghost use Rattle.ttext.specs.Outcomes.{ShowsOneRun};
 
-use crate::fault::Fault;
-use crate::opening::open_net;
 use crate::printed_run::{RunEnd, lists_for, write_run};
 use std::alloc::Global;
 use std::thread::Threads;
@@ -31,6 +30,8 @@ use tfree::{
 };
 use tnet::Net;
 use tnet::laws::quiet_is_nothing_enabled;
+use topening::Fault;
+use topening::opening::open_net;
 use tplan::{Options, Wiring};
 use trounds::NetFault;
 use tword::Items;

@@ -1,0 +1,2 @@
+mod OpenedFiles
+pub mod LoggedReplays

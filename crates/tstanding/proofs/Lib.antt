@@ -1,0 +1,3 @@
+mod ReachedNets
+mod Outside
+mod HistoryFaults

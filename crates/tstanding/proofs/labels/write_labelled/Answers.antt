@@ -1,0 +1,11 @@
+use Rattle.std.proofs.Common.{rules}
+use Rattle.tfiles.proofs.Told.{cut_by_failure, whole_without_failure, written_out}
+use Rattle.tstanding.proofs.labels.write_labelled.Goals as goal
+
+pub returns : goal.returns
+returns g c =
+    record {
+      out = written_out c.new-output.ensures c.put_labelled.ensures c.finish.ensures _ (search rules);
+      cause = cut_by_failure c.new-output.ensures c.put_labelled.ensures c.finish.ensures _ (search rules);
+      stayed = whole_without_failure c.new-output.ensures c.put_labelled.ensures c.finish.ensures _ (search rules);
+    }

@@ -1,5 +1,0 @@
-use Rattle.tfiles.proofs.Told.{tells_then}
-use Rattle.ttext.proofs.fault_line.put_no_memory.Goals as goal
-
-pub returns : goal.returns
-returns g c = tells_then c.put.ensures c.put_word.ensures
