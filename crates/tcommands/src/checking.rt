@@ -1,9 +1,9 @@
 //! `temu check`: what is wrong with a wiring and its images.
 
 ghost use Rattle.std.specs.Prelude.{◌≡◌, IfOk};
-ghost use Rattle.ttext.specs.declared.verdict.Verdict.TheVariants.{Wrong};
+ghost use Rattle.topening.specs.declared.verdict.Verdict.TheVariants.{Wrong};
 ghost use Rattle.tcommands.specs.Commands as spec;
-ghost use Rattle.tcommands.specs.Statuses.{IsCheckVerdict};
+ghost use Rattle.tcommands.specs.Verdicts.{IsCheckVerdict};
 
 use crate::files::{file_fault, load, sought_images};
 use crate::output::flushed;
@@ -11,11 +11,16 @@ use std::alloc::Global;
 use std::{io, str};
 use tcheck::{check, flaw_lines, write_text_flaws};
 use tfiles::{CountedWrite, Uncounted};
-use ttext::{Fault, Verdict};
+use topening::{Fault, Verdict};
 use twiring::{TextFlaw, read_wiring, text_flaws};
 
-/// `temu check WIRING`.
-pub(crate) fn do_check(rt: &HostRuntime, name: &str) -> Result<Verdict, Fault>
+/// `temu check WIRING`: looks through the wiring of the file of this name and the files of its images, and writes all
+/// that is wrong with them. Answers whether something is.
+///
+/// # Errors
+/// `File` where the wiring file cannot be read or is not UTF-8; `Output` where what is told cannot be written or
+/// flushed; else `Memory` where there was none.
+pub fn do_check(rt: &HostRuntime, name: &str) -> Result<Verdict, Fault>
     ensures { IfOk result IsCheckVerdict }
 {
     let bytes = load(rt, name)?;

@@ -1,22 +1,25 @@
 //! The files that a command reads.
 
 ghost use Rattle.std.specs.Prelude.{◌≡◌, IfErr, IfOk, IsErrAnd, IsUtf8, MatchResult, Ok, is_some, length, map};
+ghost use Rattle.std.specs.Prelude.{option_copied};
 ghost use Rattle.tcommands.specs.Commands.{as_wiring, IsFileFault};
-ghost use Rattle.ttext.specs.Outcomes.{IsFaultOf};
+ghost use Rattle.topening.specs.Faults.{IsFaultOf};
 ghost use Rattle.twiring.specs.Wirings.{wiring_of_text};
 
 use std::alloc::Global;
 use std::{fs, io, str};
 use tfiles::{ReadFault, Uncounted, read_whole};
 use tnames::{Names, NodeNames, read_names};
+use topening::Fault;
 use tplan::{FileName, Wiring};
-use ttext::Fault;
 use twiring::read_wiring;
 use tword::Items;
 use twords::NamesFile;
 
 /// The text of a name that may be left out.
-pub(crate) fn optional_text(name: &Option<FileName>) -> Option<&str> {
+pub fn optional_text(name: &Option<FileName>) -> Option<&str>
+    ensures { option_copied result ≡ name.now }
+{
     match name {
         Some(name) => Some(name.as_str()),
         None => None,
@@ -25,11 +28,11 @@ pub(crate) fn optional_text(name: &Option<FileName>) -> Option<&str> {
 
 /// The files of a net, as they were read.
 #[derive(Drop)]
-pub(crate) struct NetFiles {
+pub struct NetFiles {
     /// The wiring.
-    pub(crate) wiring: Wiring,
+    pub wiring: Wiring,
     /// The bytes of the image of each node, in the order of the nodes.
-    pub(crate) images: Items<Items<u8>>,
+    pub images: Items<Items<u8>>,
 }
 
 /// The files that a command reads which does the events of a log.
@@ -50,7 +53,7 @@ pub(crate) struct LoggedFiles {
 /// # Errors
 /// `File` or `Wiring` for the wiring, `File` for the images in the order of their nodes; else `Memory` where there was
 /// none.
-pub(crate) fn load_net(rt: &HostRuntime, name: &str) -> Result<NetFiles, Fault>
+pub fn load_net(rt: &HostRuntime, name: &str) -> Result<NetFiles, Fault>
     ensures { IfOk result (λ net. length net.images ≡ length net.wiring.nodes) }
 {
     let wiring = load_wiring(rt, name)?;
@@ -169,7 +172,10 @@ fn sought(rt: &HostRuntime, name: &str) -> Result<Option<Items<u8>>, Fault> {
 }
 
 /// The names of the files that are asked for, in their order.
-pub(crate) fn load_names(rt: &HostRuntime, asked: &[NamesFile]) -> Result<Items<NodeNames>, Fault>
+///
+/// # Errors
+/// `File` or `Names` for each file; else `Memory` where there was none.
+pub fn load_names(rt: &HostRuntime, asked: &[NamesFile]) -> Result<Items<NodeNames>, Fault>
     ensures { IfOk result (λ all. map (λ n. n.node) all ≡ map (λ f. f.node) asked.now) }
 {
     let mut all = Vec::new(rt.alloc());

@@ -1,21 +1,21 @@
-//! The commands of the program `temu` over the system: the files that a command opens, the file that its log goes to,
-//! what a command comes to, and the status that the program ends with.
+//! The commands of the program `temu` over the system, but for `explore` and `certify`: the files that a command opens,
+//! the file that its log goes to, and what a command comes to.
 //!
-//! - `program`: what is asked for is done, and its fault told
 //! - `commands`: which files each command opens, and what is done with their bytes
-//! - `exploring`, `certifying`, `checking`: `explore` with its logs, `certify`, and `check`
+//! - `checking`: `check`
 //! - `files`: the files that are read
 //! - `log_file`: the file that a log is written into
 //! - `output`: what ends an output
 #![tactic(auto)]
 
-mod certifying;
 mod checking;
 mod commands;
-mod exploring;
 mod files;
 mod log_file;
 mod output;
-mod program;
 
-pub use program::do_asked;
+pub use checking::do_check;
+pub use commands::{Manner, do_chart, do_dis, do_replay, do_run, do_steps, do_watch, do_where};
+pub use files::{NetFiles, load_names, load_net, optional_text};
+pub use log_file::{Names, System, create_log, end_log};
+pub use output::{flush, flushed, output_fault};

@@ -6,17 +6,20 @@ ghost use Rattle.tcommands.specs.Commands.{IsOutputFault};
 
 use std::io::Write;
 use tfiles::WriteFault;
-use ttext::{Fault, Verdict};
+use topening::{Fault, Verdict};
 
 /// The output failed.
-pub(crate) fn output_fault() -> Fault
+pub fn output_fault() -> Fault
     ensures { IsOutputFault result }
 {
     Fault::Output(WriteFault { written: 0 })
 }
 
 /// Flushes what was written.
-pub(crate) fn flush<W: Write>(out: &mut W) -> Result<(), Fault>
+///
+/// # Errors
+/// `Output` where it cannot be.
+pub fn flush<W: Write>(out: &mut W) -> Result<(), Fault>
     ensures kept { Keeps (W.contents out.old) (W.contents out.new) }
     ensures fault { IfErr result IsOutputFault }
 {
@@ -30,10 +33,7 @@ pub(crate) fn flush<W: Write>(out: &mut W) -> Result<(), Fault>
 ///
 /// # Errors
 /// That of the answer; `Output` where the text cannot be flushed.
-pub(crate) fn flushed<W: Write>(
-    answer: Result<Verdict, Fault>,
-    out: &mut W,
-) -> Result<Verdict, Fault>
+pub fn flushed<W: Write>(answer: Result<Verdict, Fault>, out: &mut W) -> Result<Verdict, Fault>
     ensures kept { Keeps (W.contents out.old) (W.contents out.new) }
     ensures same { IfOk result (λ verdict. answer ≡ Ok verdict) }
     ensures fault { IfErr result (λ fault. (answer ≡ Err fault) ⊎ IsOutputFault fault) }

@@ -3,8 +3,8 @@
 #![tactic(auto)]
 
 use std::process::ExitCode;
-use tcommands::do_asked;
 use tconsole::{Missing, read_command};
+use tprogram::do_asked;
 
 fn main(rt: HostRuntime) -> ExitCode {
     let _missing = Missing::fill(&rt);

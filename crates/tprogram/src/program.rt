@@ -1,15 +1,15 @@
 //! What the program does, and the status that it ends with.
 
 ghost use Rattle.std.specs.Prelude.{◌≡◌};
-ghost use Rattle.tcommands.specs.Statuses.{IsStatus};
-ghost use Rattle.ttext.specs.Commands.{exit_status};
+ghost use Rattle.tprogram.specs.Statuses.{IsStatus};
+ghost use Rattle.topening.specs.Endings.{exit_status};
 
 use crate::commands::do_command;
-use crate::output::output_fault;
 use std::thread::Threads;
+use tcommands::output_fault;
 use tconsole::NoCommand;
 use tfiles::Uncounted;
-use ttext::{Fault, Verdict, end_command};
+use topening::{Fault, Verdict, end_command};
 use twords::Command;
 
 /// The exit status of words that are a mistake.

@@ -1,17 +1,20 @@
 //! `temu certify`: what one run of the process machine tells of all its runs.
 
 ghost use Rattle.std.specs.Prelude.{IfOk};
-ghost use Rattle.tcommands.specs.Statuses.{IsCertifyVerdict};
+ghost use Rattle.tprogram.specs.Statuses.{IsCertifyVerdict};
 
-use crate::files::{NetFiles, load_names, load_net};
-use crate::output::flushed;
 use std::io;
+use tcommands::{NetFiles, flushed, load_names, load_net};
 use tfiles::Uncounted;
 use tfindings::certify_files;
-use ttext::{Fault, Verdict};
+use topening::{Fault, Verdict};
 use twords::Certifying;
 
-/// `temu certify WIRING`.
+/// `temu certify WIRING`: follows one run of the process machine of a net, and writes what it tells of all runs.
+///
+/// # Errors
+/// The first of these: those of `load_net`, those of `load_names`, those of `certify_files`, and `Output` where what
+/// was written cannot be flushed. Else `Memory` where there was none.
 pub(crate) fn do_certify(rt: &HostRuntime, asked: &Certifying) -> Result<Verdict, Fault>
     ensures { IfOk result IsCertifyVerdict }
 {
