@@ -19,7 +19,8 @@ use Rattle.tcertify.specs.declared.fault.Fault.{Fault}
 use Rattle.tcertify.specs.declared.fault.Fault.TheVariants as fault
 use Rattle.tcertify.specs.declared.lead.Lead.{Lead}
 use Rattle.tcertify.specs.declared.node.Node.{Node}
-use Rattle.tcertify.specs.Nodes.{Does, Grows, IsLed, NumbersNode, RunsAt, address_at, addresses, name_at, names, node_at}
+use Rattle.tcertify.specs.Nodes.{Does, Grows, IsLed, NumbersNode, RunsAt, address_at, addresses, name_at, names}
+use Rattle.tcertify.specs.Nodes.{node_at}
 use Rattle.tcertify.specs.Nodes.{node_site, workspaces}
 use Rattle.tcertify.specs.Notes.{AreNoted, Numbering}
 use Rattle.tcertify.specs.Running.{State, run_part}
@@ -190,11 +191,13 @@ module _ (plan : Plan) (m m' : Machine) (number n : ℕ) (f : Follows plan m) (h
         (places_are_numbered m'.nodes.items m.first_script n new here_it number_new) apart.rest))
 
     led_it : (l : Lead) → Contains new.leads.items l
-        → IsLed new (sights (step_of plan h.agent) (machine_at plan m)) (changes (step_of plan h.agent) (machine_at plan m)) l
+        → IsLed new (sights (step_of plan h.agent) (machine_at plan m))
+        (changes (step_of plan h.agent) (machine_at plan m)) l
     led_it l has = elim (runs.led l has) [
       | inl none ↦ absurd (nothing (subst (λ (ls : List Lead). Contains ls l) afresh.leads none))
       | inr led ↦
-          subst (λ (p : Doing). IsLed new (sights p (machine_at plan m)) (changes p (machine_at plan m)) l) (sym is_step)
+          subst (λ (p : Doing). IsLed new (sights p (machine_at plan m)) (changes p (machine_at plan m)) l)
+          (sym is_step)
           (subst (λ (s : State). IsLed new (sights part s) (changes part s) l) begun_at (led apart.rest))
     ]
       where
@@ -273,7 +276,8 @@ module _ (plan : Plan) (m : Machine) (number n k : ℕ) (f : Follows plan m) (h 
       ∙ (steps_are_at_sites plan).successor n k planned.0 planned.1 ∙ ap (successor_step k) site
 
 -- what a call on the node of an agent answers, as the code has it: old is what was read at the number of the node
-module _ (plan : Plan) (m m' : Machine) (number n k : ℕ) (f : Follows plan m) (h : HasStep plan m number) (old new : Node)
+module _ (plan : Plan) (m m' : Machine) (number n k : ℕ) (f : Follows plan m) (h : HasStep plan m number)
+    (old new : Node)
     (read : old ≡ get_or m.nodes.items n old) (result : Result (Unit {0}) Fault) (processes channels : ℕ)
     (p : processes ≡ length old.processes.items.items) (q : channels ≡ length old.channels.items.items)
     (set : m'.nodes.items ≡ slice_set m.nodes.items n new)

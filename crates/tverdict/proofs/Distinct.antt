@@ -84,7 +84,8 @@ module _ (nodes : List Node)
 
   -- one that was not found is new
   pub agent_new : (found : List Agent) (a : Agent) → AreApart (map (agent_of nodes) found) → All (IsThere nodes) found
-      → IsThere nodes a → IsFound (λ (x : Agent). x) a found None → IsNew (map (agent_of nodes) found) (agent_of nodes a)
+      → IsThere nodes a → IsFound (λ (x : Agent). x) a found None
+      → IsNew (map (agent_of nodes) found) (agent_of nodes a)
   agent_new found a apart all there none =
       (new_agents_are_others (map (agent_of nodes) found) (agent_of nodes a) apart).1 others
     where

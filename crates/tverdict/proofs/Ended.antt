@@ -5,7 +5,8 @@ use Rattle.std.proofs.Math.ListN.{get_or}
 use Rattle.std.specs.Prelude.{◌==◌, ◌&&◌, int_le, not, pos, position, slice_get}
 use Rattle.std.proofs.lemmas.Bool.{eq-eqb, false≢true, not-false}
 use Rattle.std.proofs.lemmas.List.Quantifiers.{position-Some}
-use Rattle.std.proofs.lemmas.Option.{get_or_from_slice_get, slice_get_cases, slice_get-get_or, slice_get_past, slice_get_within}
+use Rattle.std.proofs.lemmas.Option.{get_or_from_slice_get, slice_get_cases, slice_get-get_or, slice_get_past}
+use Rattle.std.proofs.lemmas.Option.{slice_get_within}
 use Rattle.tword.specs.Limits.{most_processes}
 use Rattle.tplan.specs.declared.plan.NodePlan.{NodePlan}
 use Rattle.tplan.specs.declared.plan.Plan.{Plan}
@@ -64,13 +65,15 @@ module _ (plan : Plan) (m : Machine) (f : Follows plan m) where
   gone : (n : ℕ) → length nodes ≤ n → slice_get plan.nodes n ≡ None
   gone n past = slice_get_past plan.nodes n (subst (λ (k : ℕ). k ≤ n) ((f.1).sound.nodes.many) past)
 
-  nothing_lived : (n : ℕ) → length nodes ≤ n → slice_get nodes n ≡ None → machine_at plan m (Population n) ≡ IsAmount (pos 0)
+  nothing_lived : (n : ℕ) → length nodes ≤ n → slice_get nodes n ≡ None
+      → machine_at plan m (Population n) ≡ IsAmount (pos 0)
   nothing_lived n past at =
       ap (λ (o : Option Node). at_node o (opening_state plan) (Population n)) at
       ∙ ap (λ (o : Option NodePlan). IsAmount (pos (elim o [ Some p ↦ length p.image.processes | None ↦ 0 ])))
       (gone n past)
 
-  nothing_changed : (n : ℕ) → length nodes ≤ n → slice_get nodes n ≡ None → machine_at plan m (FlagChanged n) ≡ IsFlag false
+  nothing_changed : (n : ℕ) → length nodes ≤ n → slice_get nodes n ≡ None
+      → machine_at plan m (FlagChanged n) ≡ IsFlag false
   nothing_changed n past at = ap (λ (o : Option Node). at_node o (opening_state plan) (FlagChanged n)) at
 
   few_by : position had_many nodes ≡ None → (n : ℕ)
@@ -88,7 +91,8 @@ module _ (plan : Plan) (m : Machine) (f : Follows plan m) where
 
   as_node : (n : ℕ) (x : Node) → slice_get nodes n ≡ Some x → swaps (machine_at plan m) n ≡ changed_flags x
   as_node n x at =
-      ap (λ (v : Value). flag_in v && flag_in (machine_at plan m (HasRun n 0)) && flag_in (machine_at plan m (HasRun n 1)))
+      ap (λ (v : Value). flag_in v && flag_in (machine_at plan m (HasRun n 0))
+      && flag_in (machine_at plan m (HasRun n 1)))
       (flag n x at)
       ∙ ap (λ (v : Value). x.is_flag_changed && flag_in v && flag_in (machine_at plan m (HasRun n 1))) (high n x at)
       ∙ ap (λ (v : Value). x.is_flag_changed && x.has_run_high && flag_in v) (low n x at)
@@ -100,7 +104,8 @@ module _ (plan : Plan) (m : Machine) (f : Follows plan m) where
   kept_by none n (inl (x, low, at, g)) =
       as_node n x at ∙ all_at (λ y. changed_flags y ≡ false) nodes (no_position changed_flags nodes none) n x at
   kept_by none n (inr (past, at)) =
-      ap (λ (v : Value). flag_in v && flag_in (machine_at plan m (HasRun n 0)) && flag_in (machine_at plan m (HasRun n 1)))
+      ap (λ (v : Value). flag_in v && flag_in (machine_at plan m (HasRun n 0))
+      && flag_in (machine_at plan m (HasRun n 1)))
       (nothing_changed n past at)
 
   -- a run that is over is certified, where no node is at fault

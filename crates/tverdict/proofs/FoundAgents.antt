@@ -1,6 +1,7 @@
 -- The agents that there are before the first step: each is there, none stands twice, and none is missing.
 use Rattle.std.proofs.Common.{◌≡◌, ◌<◌, ◌≤◌, ◌+◌, ◌-◌, ℕ, zero, suc, refl, sym, ap, ◌∙◌, subst, Bool, true, false, List}
-use Rattle.std.proofs.Common.{[], ◌∷◌, ◌++◌, All, Contains, arith, get_or, length, map, take, ◌⊎◌, inl, inr, Option, Some}
+use Rattle.std.proofs.Common.{[], ◌∷◌, ◌++◌, All, Contains, arith, get_or, length, map, take, ◌⊎◌, inl, inr}
+use Rattle.std.proofs.Common.{Option, Some}
 use Rattle.std.proofs.Common.{None, cond}
 use Rattle.std.specs.Prelude.{slice_get}
 use Rattle.std.specs.List.{range_with_len}
@@ -52,7 +53,8 @@ apart_append xs ys left right disjoint i j x y at there same =
         absurd (disjoint x (contains_at xs i x e) (subst (Contains ys) (sym same) (contains_at ys k y f)))
     by (inr (k, is, e)) (inl f) =
         absurd (disjoint y (contains_at xs j y f) (subst (Contains ys) same (contains_at ys k x e)))
-    by (inr (k, is, e)) (inr (l, alike, f)) = let both : k ≡ l = right k l x y e f same in omega (arith, is, alike, both)
+    by (inr (k, is, e)) (inr (l, alike, f)) =
+        let both : k ≡ l = right k l x y e f same in omega (arith, is, alike, both)
 
 -- things of one kind, by their numbers from 0 on
 module _ (f : ℕ → Agent) (n : ℕ) where

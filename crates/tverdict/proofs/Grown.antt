@@ -92,7 +92,8 @@ fits_sound plan m s =
 -- the machine where one of it has gone on
 pub goes_fits : (plan : Plan) (n : ℕ) (m m' : Machine) → GoesOn n m m' → Fits plan m → Fits plan m'
 goes_fits plan n m m' goes f =
-    subst (Fits plan) (ap (λ (x : Machine). record m { nodes = m'.nodes; sent = m'.sent; sinks = m'.sinks; idle = x.idle })
+    subst (Fits plan)
+    (ap (λ (x : Machine). record m { nodes = m'.nodes; sent = m'.sent; sinks = m'.sinks; idle = x.idle })
     goes.same ∙ sym goes.same)
     (fits_on plan m m' goes.nodes f goes.sent goes.sinks
     (λ k s at. let (t, by, e) = goes.places k s.place (s, at, refl) in sym e ∙ f.kept_places k t by))

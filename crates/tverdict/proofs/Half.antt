@@ -1,5 +1,6 @@
 -- A half of a wire's step that is a call on a node.
-use Rattle.std.proofs.Common.{◌≡◌, ◌<◌, ◌⊎◌, ℕ, inl, inr, refl, sym, ap, ◌∙◌, subst, List, Some, Ok, Err, Contains, Result}
+use Rattle.std.proofs.Common.{◌≡◌, ◌<◌, ◌⊎◌, ℕ, inl, inr, refl, sym, ap, ◌∙◌, subst, List, Some, Ok, Err}
+use Rattle.std.proofs.Common.{Contains, Result}
 use Rattle.std.proofs.Common.{arith, length}
 use Rattle.std.proofs.Common.{◌≤◌, ◌-◌, ◌+◌, Bool, true, false}
 use Rattle.std.specs.Prelude.{nat_lt, slice_get, slice_set, if◌then◌else◌}
@@ -186,7 +187,8 @@ role_source plan n past low =
     (lt-ltb n (length plan.nodes + length plan.sources) (omega (arith, past, low)))
 
 past_sources : (plan : Plan) (n : ℕ) → length plan.nodes ≤ n → length plan.sources ≤ n - length plan.nodes
-    → role_at plan n ≡ (if nat_lt n (length plan.nodes + length plan.sources + length plan.sinks) then Sink else Nothing)
+    → role_at plan n
+    ≡ (if nat_lt n (length plan.nodes + length plan.sources + length plan.sinks) then Sink else Nothing)
 past_sources plan n past high =
     not_chosen (nat_lt n (length plan.nodes)) Processor _ (role_past plan n past)
     ∙ not_chosen (nat_lt n (length plan.nodes + length plan.sources)) Source _
@@ -206,7 +208,8 @@ role_nothing plan n past high more =
     ∙ not_chosen (nat_lt n (length plan.nodes + length plan.sources + length plan.sinks)) Sink _
     (le-ltb n (length plan.nodes + length plan.sources + length plan.sinks) (omega (arith, past, high, more)))
 
-pub nobody_sends : (plan : Plan) (e : End) → length plan.nodes ≤ e.node → length plan.sources ≤ e.node - length plan.nodes
+pub nobody_sends : (plan : Plan) (e : End) → length plan.nodes ≤ e.node
+    → length plan.sources ≤ e.node - length plan.nodes
     → sends plan (role_at plan e.node) e ≡ stopping HasNoStep
 nobody_sends plan e past high =
     ap (λ (r : Role). sends plan r e) (past_sources plan e.node past high)

@@ -1,5 +1,6 @@
 -- A step that was told to the check stays so where agents come and its clock is handed on.
-use Rattle.std.proofs.Common.{◌≡◌, ◌≢◌, ◌≤◌, ◌<◌, ◌+◌, ℕ, zero, suc, inl, inr, refl, sym, ap, ◌∙◌, subst, true, List, []}
+use Rattle.std.proofs.Common.{◌≡◌, ◌≢◌, ◌≤◌, ◌<◌, ◌+◌, ℕ, zero, suc, inl, inr, refl, sym, ap, ◌∙◌, subst, true}
+use Rattle.std.proofs.Common.{List, []}
 use Rattle.std.proofs.Common.{◌∷◌, ◌++◌, Some, None, All, Contains, arith, length}
 use Rattle.std.specs.Prelude.{map, option_map, slice_get}
 use Rattle.std.proofs.lemmas.Bool.{cases_eq}

@@ -14,7 +14,8 @@ use Rattle.tcertify.specs.Nodes.{NumbersNode}
 use Rattle.tcertify.specs.Processes.{name_of}
 use Rattle.tcertify.proofs.Found.{find_apart}
 use Rattle.tcertify.proofs.Telling.{same_name-self, same_name-true}
-use Rattle.tverdict.specs.Numbers.{PlacesAreNumbered, half_place, node_in, number_among, number_at, numbering, or_beyond}
+use Rattle.tverdict.specs.Numbers.{PlacesAreNumbered, half_place, node_in, number_among, number_at, numbering}
+use Rattle.tverdict.specs.Numbers.{or_beyond}
 
 module _ (nodes : List Node) (first k : ℕ) (node : Node) (there : slice_get nodes k ≡ Some node)
     (numbered : node.words.number ≡ k) where

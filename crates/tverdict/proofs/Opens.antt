@@ -86,7 +86,8 @@ module _ (plan : Plan) (nodes : List Node) (sent : List ℕ) (sinks : List Sink)
       → is_some (half_in (now (Half n c.address machineside.Input))) ≡ is_some c.input.request
   input_now k c at =
       ap (λ (s : State). is_some (half_in (s (Half n c.address machineside.Input)))) (sym apart.before)
-      ∙ ap (λ (v : Value). is_some (half_in v)) (chosen (node.words.number == n) _ _ (eq-eqb node.words.number n numbered))
+      ∙ ap (λ (v : Value). is_some (half_in v))
+      (chosen (node.words.number == n) _ _ (eq-eqb node.words.number n numbered))
       ∙ ap (λ (o : Option stored.Channel). is_some (taken_half (names node) side.Input o)) (found k c at)
       ∙ someone (names node) c.input.request
 
@@ -94,7 +95,8 @@ module _ (plan : Plan) (nodes : List Node) (sent : List ℕ) (sinks : List Sink)
       → is_some (half_in (now (Half n c.address machineside.Output))) ≡ is_some c.output.request
   output_now k c at =
       ap (λ (s : State). is_some (half_in (s (Half n c.address machineside.Output)))) (sym apart.before)
-      ∙ ap (λ (v : Value). is_some (half_in v)) (chosen (node.words.number == n) _ _ (eq-eqb node.words.number n numbered))
+      ∙ ap (λ (v : Value). is_some (half_in v))
+      (chosen (node.words.number == n) _ _ (eq-eqb node.words.number n numbered))
       ∙ ap (λ (o : Option stored.Channel). is_some (taken_half (names node) side.Output o)) (found k c at)
       ∙ someone (names node) c.output.request
 

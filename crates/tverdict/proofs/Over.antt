@@ -153,7 +153,8 @@ module _ (m m' : Machine) (count : ℕ) (adds : AddsPlaces m count m') where
       }
 
 -- a node of the machine is one of the plan
-pub is_processor : (plan : Plan) (m : Machine) (n : ℕ) (node : Node) → Fits plan m → slice_get m.nodes.items n ≡ Some node
+pub is_processor : (plan : Plan) (m : Machine) (n : ℕ) (node : Node) → Fits plan m
+    → slice_get m.nodes.items n ≡ Some node
     → role_at plan n ≡ Processor
 is_processor plan m n node f there =
     let within : n < length m.nodes.items = slice_get_within m.nodes.items n node there in
@@ -170,7 +171,8 @@ module _ (plan : Plan) (m : Machine) (f : Fits plan m) (a : machine.Agent) (s : 
       → IsLedTo plan n l x → RunLeads plan a s (agent_of m.nodes.items x)
   by_lead (lead.Process k) x (y, at, shut) is =
       let name : name_there m.nodes.items n k ≡ y =
-      ap (name_or n k) there ∙ ap (λ (o : Option Name). unwrap_or o (record { node = 0; root = Image 0; path = [] })) at in
+      ap (name_or n k) there
+      ∙ ap (λ (o : Option Name). unwrap_or o (record { node = 0; root = Image 0; path = [] })) at in
       subst (λ (b : machine.Agent). RunLeads plan a s b)
       (ap machine.Process (sym name) ∙ ap (agent_of m.nodes.items) (sym is))
       ((steps_lead_by plan a s).process y shut.value shut.there shut.shut)
@@ -329,12 +331,14 @@ module _ (plan : Plan) (one processes channels other processes' channels' : ℕ)
 
       by_first : j ≡ one → processes ≤ k → Contains after.agents.items (agent.Process j k)
       by_first e high =
-          found_more first after later (agent.Process j k) (subst (λ (i : ℕ). Contains first.agents.items (agent.Process i k)) (sym e)
+          found_more first after later (agent.Process j k)
+          (subst (λ (i : ℕ). Contains first.agents.items (agent.Process i k)) (sym e)
           (first_processes k high (subst (λ (i : ℕ). HasProcess first.nodes.items i k) e at_first)))
 
       by_second : j ≡ other → processes' ≤ k → Contains after.agents.items (agent.Process j k)
       by_second e high =
-          found_more second after three (agent.Process j k) (subst (λ (i : ℕ). Contains second.agents.items (agent.Process i k)) (sym e)
+          found_more second after three (agent.Process j k)
+          (subst (λ (i : ℕ). Contains second.agents.items (agent.Process i k)) (sym e)
           (second_processes k high (subst (λ (i : ℕ). HasProcess second.nodes.items i k) e at_second)))
 
       by_before : (j ≡ one → k < processes) → (j ≡ other → k < processes')
@@ -364,12 +368,14 @@ module _ (plan : Plan) (one processes channels other processes' channels' : ℕ)
 
       by_first : j ≡ one → channels ≤ k → Contains after.agents.items (agent.Channel j k)
       by_first e high =
-          found_more first after later (agent.Channel j k) (subst (λ (i : ℕ). Contains first.agents.items (agent.Channel i k)) (sym e)
+          found_more first after later (agent.Channel j k)
+          (subst (λ (i : ℕ). Contains first.agents.items (agent.Channel i k)) (sym e)
           (first_channels k high (subst (λ (i : ℕ). HasChannel first.nodes.items i k) e at_first)))
 
       by_second : j ≡ other → channels' ≤ k → Contains after.agents.items (agent.Channel j k)
       by_second e high =
-          found_more second after three (agent.Channel j k) (subst (λ (i : ℕ). Contains second.agents.items (agent.Channel i k)) (sym e)
+          found_more second after three (agent.Channel j k)
+          (subst (λ (i : ℕ). Contains second.agents.items (agent.Channel i k)) (sym e)
           (second_channels k high (subst (λ (i : ℕ). HasChannel second.nodes.items i k) e at_second)))
 
       by_before : (j ≡ one → k < channels) → (j ≡ other → k < channels')

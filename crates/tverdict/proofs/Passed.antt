@@ -10,7 +10,8 @@ use Rattle.tplan.specs.declared.plan.End.{End}
 use Rattle.tplan.specs.declared.plan.Plan.{Plan}
 use Rattle.tagents.specs.Walks.{Sight}
 use Rattle.tprocesses.specs.Machine.{passes, receives, role_at, sends}
-use Rattle.tprocesses.specs.Parts.{Changed, Doing, Part, Reason, changing, done, gives, seeing, stopping, telling, ◌>>=◌}
+use Rattle.tprocesses.specs.Parts.{Changed, Doing, Part, Reason, changing, done, gives, seeing, stopping}
+use Rattle.tprocesses.specs.Parts.{telling, ◌>>=◌}
 use Rattle.tprocesses.specs.Places.{Place}
 use Rattle.tprocesses.specs.Values.{Value}
 use Rattle.tcertify.specs.declared.fault.Fault.{Fault}

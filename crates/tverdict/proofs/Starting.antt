@@ -1,5 +1,6 @@
 -- The whole machine before the first step.
-use Rattle.std.proofs.Common.{◌≡◌, ◌<◌, ◌≤◌, ◌+◌, ◌-◌, ◌^◌, ℕ, zero, suc, refl, sym, ap, ◌∙◌, subst, Bool, true, false, List}
+use Rattle.std.proofs.Common.{◌≡◌, ◌<◌, ◌≤◌, ◌+◌, ◌-◌, ◌^◌, ℕ, zero, suc, refl, sym, ap, ◌∙◌, subst, Bool, true}
+use Rattle.std.proofs.Common.{false, List}
 use Rattle.std.proofs.Common.{[], ◌∷◌, ◌++◌, All, arith, drop, get_or, length, map, replicate, take, Option, Some, None}
 use Rattle.std.proofs.Common.{length-append, ◌⊎◌, inl, inr}
 use Rattle.std.specs.List.{range_with_len}
@@ -108,12 +109,14 @@ module _ (plan : Plan) (places : Places) (nodes : List Node) (count : ℕ)
     (there : All (IsThere nodes) found) (apart : AreApart (λ (a : Agent). a) found) where
   abbrev so_far : ℕ → Type 0
   so_far k =
-      IsFollowed plan places (map (agent_of nodes) (take k found)) [] (with_agents k (with_places count nothing_checked))
+      IsFollowed plan places (map (agent_of nodes) (take k found)) []
+      (with_agents k (with_places count nothing_checked))
       (opening_state plan)
 
   there_first : (k : ℕ) → All (IsThere nodes) (take k found)
   there_first k = λ i d low.
-      let at : slice_get (take k found) i ≡ Some (get_or (take k found) i d) = slice_get-get_or (take k found) i d low in
+      let at : slice_get (take k found) i ≡ Some (get_or (take k found) i d) =
+      slice_get-get_or (take k found) i d low in
       let (below, is) = among_first found k i (get_or (take k found) i d) at in
       subst (IsThere nodes) (get_or_from_slice_get found i (get_or (take k found) i d) d is)
       (there i d (slice_get_within found i (get_or (take k found) i d) is))

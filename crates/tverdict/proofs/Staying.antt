@@ -23,7 +23,8 @@ use Rattle.tcertify.proofs.Telling.{same_name-true}
 use Rattle.tverdict.specs.declared.agent.Agent.{Agent}
 use Rattle.tverdict.specs.declared.agent.Agent.TheVariants as agent
 use Rattle.tverdict.specs.Agents.{HasChannel, HasProcess, IsThere, address_there, agent_of, name_there}
-use Rattle.tverdict.specs.Numbers.{beyond, half_place, link_number, node_in, number_among, number_at, numbering, or_beyond}
+use Rattle.tverdict.specs.Numbers.{beyond, half_place, link_number, node_in, number_among, number_at, numbering}
+use Rattle.tverdict.specs.Numbers.{or_beyond}
 use Rattle.tverdict.specs.Passing.{NodesGrow}
 use Rattle.tverdict.proofs.Numbered.{places_are_numbered}
 

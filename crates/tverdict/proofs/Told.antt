@@ -113,7 +113,8 @@ more_told step notes i note access before between after at place mode so is =
     ∙ ap (λ (x : Access ℕ Mode). take i (map told_of notes) ++ x ∷ [])
     (get_or-map told_of notes i note ∙ ap told_of (get_or_from_slice_get notes i note note at)) in
     let said : IsAccessed step (told_of note) between after =
-    subst (λ (x : Access ℕ Mode). IsAccessed step x between after) (λ j. record { place = place j; mode = mode j }) is in
+    subst (λ (x : Access ℕ Mode). IsAccessed step x between after)
+    (λ j. record { place = place j; mode = mode j }) is in
     record {
       made = subst (λ (xs : List (Access ℕ Mode)). AreAccessed step xs before after) (sym more)
           (accessed_push step (take i (map told_of notes)) (told_of note) before between after so.made said);

@@ -238,7 +238,8 @@ module _ (plan : Plan) (m m1 m2 m3 : Machine) (number : ℕ) (from to : End) (n2
 
     led3 : (k : ℕ) (l : Lead) (x : Node) → Contains (from.node ∷ to.node ∷ []) k → slice_get m3.nodes.items k ≡ Some x
         → Contains x.leads.items l
-        → IsLed x (sights (step_of plan h.agent) (machine_at plan m)) (changes (step_of plan h.agent) (machine_at plan m)) l
+        → IsLed x (sights (step_of plan h.agent) (machine_at plan m))
+        (changes (step_of plan h.agent) (machine_at plan m)) l
     led3 k l x among here has = elim (p.led k x l here has) [
       | inl (y, by, before) ↦
           absurd (nothing (subst (λ (ls : List Lead). Contains ls l) (empty k y among by) before))
@@ -334,7 +335,8 @@ module _ (plan : Plan) (m m1 m2 m3 : Machine) (number : ℕ) (from to : End) (n2
       → (IsOutcomeAt plan number from.node one.processes one.channels to.node two.processes two.channels n3 outcome m3
       → IsStepped plan m3 number result new) → IsStepped plan m number result new
   wire_stepped (Ok x) p result new memory stepped =
-      stepped_as plan number m3 m new (ap (λ (y : Machine). y.done) (same3 (Ok tt) p)) result (stepped (wire_outcome (Ok x) p))
+      stepped_as plan number m3 m new (ap (λ (y : Machine). y.done) (same3 (Ok tt) p)) result
+      (stepped (wire_outcome (Ok x) p))
   wire_stepped (Err (fault.Stops why)) p result new memory stepped =
       stepped_as plan number m3 m new (ap (λ (y : Machine). y.done) (same3 (Err (reason_of why)) p)) result
       (stepped (wire_outcome (Err (fault.Stops why)) p))

@@ -1,6 +1,7 @@
 -- What stands at the places of the whole machine, and what holds of it while it follows a run.
 -- Source: own choice, the state of `tprocesses` as the program keeps it.
-use Rattle.std.specs.Prelude.{ℕ, ◌≡◌, ◌+◌, ◌-◌, ◌<◌, ◌^◌, List, [], map, length, Option, Some, None, slice_get, slice_index}
+use Rattle.std.specs.Prelude.{ℕ, ◌≡◌, ◌+◌, ◌-◌, ◌<◌, ◌^◌, List, [], map, length, Option, Some, None, slice_get}
+use Rattle.std.specs.Prelude.{slice_index}
 use Rattle.std.specs.Prelude.{All, Contains, true}
 use Rattle.std.proofs.Math.ListN.{drop}
 use Rattle.tplan.specs.declared.plan.End.{End}

@@ -35,7 +35,8 @@ pub record CanOpen (plans : List NodePlan) : Type 0 where
 abbrev pub fresh_after : List Node → ℕ
 fresh_after nodes = unwrap_or (option_map (λ n. n.fresh_place) (slice_get nodes (length nodes - 1))) 0
 
--- these are the nodes of plans before the first step; the words of each have their places after those of the node before
+-- these are the nodes of plans before the first step; the words of each have their places after those of the node
+-- before
 pub record AreOpen (plans : List NodePlan) (opened : List Node) : Type 0 where
   pub many : length opened ≡ length plans
   pub nodes : (k : ℕ) (plan : NodePlan) (node : Node) → slice_get plans k ≡ Some plan → slice_get opened k ≡ Some node

@@ -1,4 +1,5 @@
-//! What follows a call that has done the step of an agent: it is told to the check, and to the agents to which it leads.
+//! What follows a call that has done the step of an agent: it is told to the check, and to the agents to which it
+//! leads.
 
 ghost use Rattle.std.specs.Prelude.{◌≡◌, ◌≤◌, ◌<◌, ℕ, [], ◌∷◌, Contains, IfErr, OnOk, Err, length};
 ghost use Rattle.tplan.specs.declared.plan.Plan.{Plan};

@@ -6,7 +6,8 @@ ghost use Rattle.tword.specs.Accesses.{IsMemorySize};
 ghost use Rattle.tnet.specs.Building.{all_wires, fault_of, IsFaultOf};
 ghost use Rattle.tcertify.specs.NodeOpened.{HaveOwnWorkspaces, IsOpen};
 ghost use Rattle.tverdict.specs.Machines.{IsAtStart};
-ghost use Rattle.tverdict.specs.Opening.{AllMayHaveSteps, AreEmpty, AreOpen, AreScriptPlaces, CanOpen, HasPlacesInOrder};
+ghost use Rattle.tverdict.specs.Opening.{AllMayHaveSteps, AreEmpty, AreOpen, AreScriptPlaces, CanOpen};
+ghost use Rattle.tverdict.specs.Opening.{HasPlacesInOrder};
 ghost use Rattle.tverdict.specs.Opening.{fresh_after};
 ghost use Rattle.tverdict.specs.Opening as spec;
 

@@ -3,8 +3,8 @@
 use tcertify::Stop;
 use tclocks::{Access, Mode, Step};
 
-/// Two accesses to one place, of steps of two agents, of which no chain of steps is known that leads from the one to the
-/// other.
+/// Two accesses to one place, of steps of two agents, of which no chain of steps is known that leads from the one to
+/// the other.
 #[derive(Clone, Copy, Debug)]
 pub struct Race {
     /// The number of the place.

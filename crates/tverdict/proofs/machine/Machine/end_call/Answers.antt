@@ -11,5 +11,7 @@ returns-in-Stops-clause-stepped c = λ plan o.
     let m = c.args.self.now in let before = c.args.before in let why = c.in-Stops.why in
     let e : c.args.outcome ≡ Err (Stops why) = c.in-Err.is ∙ ap Err c.in-Stops.is in
     answer_stops plan c.args.number (reason_of why) m
-    (subst (λ (r : Result (Unit {0}) Fault). IsOutcome plan c.args.number c.args.node before.processes before.channels r m)
+    (subst
+    (λ (r : Result (Unit {0}) Fault). IsOutcome plan c.args.number c.args.node before.processes before.channels
+    r m)
     e o)

@@ -18,10 +18,12 @@ loop-channel-preserved c =
       omega (arith, e, c.loop-channel-test.true, c.len-channel-end.ensures),
     ) in
     let come = told_come before after (agent.Channel n k) c.in_ok-number_of.field-0 c.in_ok-number_of.ensures
-    c.args.number n (subst (λ (ns : List Node). HasChannel ns n k) (sym c.loop-channel.invariant.keeps.more.nodes) has) in
+    c.args.number n (subst (λ (ns : List Node). HasChannel ns n k)
+    (sym c.loop-channel.invariant.keeps.more.nodes) has) in
     record {
       keeps = keeps_twice c.args.number n m before after c.loop-channel.invariant.keeps come;
-      found = found_next (agent.Channel n) c.args.first c.loop-channel.channel k c.in_ok-number_of.field-0 before after e
+      found =
+          found_next (agent.Channel n) c.args.first c.loop-channel.channel k c.in_ok-number_of.field-0 before after e
           come.more c.loop-channel.invariant.found
           (number_come before after (agent.Channel n k) c.in_ok-number_of.field-0 c.in_ok-number_of.ensures);
     }

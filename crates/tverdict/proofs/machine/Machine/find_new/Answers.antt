@@ -14,7 +14,8 @@ find_channels-requires-clause-told c =
 pub returns-in_ok-find_channels-clause-processes : goal.returns-in_ok-find_channels-clause-processes
 returns-in_ok-find_channels-clause-processes c = λ k low has.
     let more = c.in_ok-find_channels.ensures.keeps.more in
-    found_more c.find_processes.new.self c.find_channels.new.self more (agent.Process c.args.node k) (c.in_ok-find_processes.ensures.found k low
+    found_more c.find_processes.new.self c.find_channels.new.self more (agent.Process c.args.node k)
+    (c.in_ok-find_processes.ensures.found k low
     (subst (λ (ns : List Node). HasProcess ns c.args.node k) more.nodes has))
 
 pub returns-else-node-len-clause-processes : goal.returns-else-node-len-clause-processes

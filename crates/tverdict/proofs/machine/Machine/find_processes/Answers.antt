@@ -18,10 +18,12 @@ loop-process-preserved c =
       omega (arith, e, c.loop-process-test.true, c.len-process-end.ensures),
     ) in
     let come = told_come before after (agent.Process n k) c.in_ok-number_of.field-0 c.in_ok-number_of.ensures
-    c.args.number n (subst (λ (ns : List Node). HasProcess ns n k) (sym c.loop-process.invariant.keeps.more.nodes) has) in
+    c.args.number n (subst (λ (ns : List Node). HasProcess ns n k)
+    (sym c.loop-process.invariant.keeps.more.nodes) has) in
     record {
       keeps = keeps_twice c.args.number n m before after c.loop-process.invariant.keeps come;
-      found = found_next (agent.Process n) c.args.first c.loop-process.process k c.in_ok-number_of.field-0 before after e
+      found =
+          found_next (agent.Process n) c.args.first c.loop-process.process k c.in_ok-number_of.field-0 before after e
           come.more c.loop-process.invariant.found
           (number_come before after (agent.Process n k) c.in_ok-number_of.field-0 c.in_ok-number_of.ensures);
     }

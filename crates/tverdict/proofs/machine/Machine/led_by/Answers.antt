@@ -21,7 +21,8 @@ returns-in-Process-clause-there c =
 pub returns-in-Channel-clause-there : goal.returns-in-Channel-clause-there
 returns-in-Channel-clause-there c =
     let nodes = c.args.self.now.nodes.items in let at = c.index-at.result.now in let k = c.in-Channel.channel in
-    if_passes (IsThere nodes) (nat_lt k c.len-in-Channel.result) (agent.Channel c.args.node k) c.then_some-in-Channel.result
+    if_passes (IsThere nodes) (nat_lt k c.len-in-Channel.result)
+    (agent.Channel c.args.node k) c.then_some-in-Channel.result
     c.then_some-in-Channel.ensures (λ passes.
     let low : k < c.len-in-Channel.result = ltb-true k c.len-in-Channel.result passes in (
       at,
@@ -32,7 +33,8 @@ returns-in-Channel-clause-there c =
 pub returns-in-Count-clause-there : goal.returns-in-Count-clause-there
 returns-in-Count-clause-there c =
     let nodes = c.args.self.now.nodes.items in let at = c.index-at.result.now in let k = c.in-Count.word in
-    if_passes (IsThere nodes) (nat_lt k c.len-in-Count.result) (agent.Successor c.args.node k) c.then_some-in-Count.result
+    if_passes (IsThere nodes) (nat_lt k c.len-in-Count.result)
+    (agent.Successor c.args.node k) c.then_some-in-Count.result
     c.then_some-in-Count.ensures (λ passes.
     let low : k < c.len-in-Count.result = ltb-true k c.len-in-Count.result passes in (
       at,

@@ -18,5 +18,6 @@ returns c =
 pub returns-in_err-message : goal.returns-in_err-message
 returns-in_err-message c =
     let p = err_from_is_err_and c.from_residual.result c.from_residual.ensures.1 in
-    rw (p.1, p.2) (pass_err c.args.plan.now c.args.from c.args.to (λ (x : Vec (Option ℕ) Global). x.items) c.args.self.now c.sends.new.self
+    rw (p.1, p.2) (pass_err c.args.plan.now c.args.from c.args.to
+    (λ (x : Vec (Option ℕ) Global). x.items) c.args.self.now c.sends.new.self
     c.args.notes.now c.sends.new.notes c.in_err-message.field-0.0 c.in_err-message.ensures)

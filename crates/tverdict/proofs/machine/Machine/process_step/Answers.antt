@@ -14,7 +14,8 @@ end_call-requires c =
     } in (
       plan,
       process_done plan m now c.args.number c.args.node c.args.process f h old new c.index_mut-at.ensures.value
-          c.do_process-outcome.result c.of-counts.result.processes c.of-counts.result.channels c.of-counts.ensures.processes
+          c.do_process-outcome.result c.of-counts.result.processes c.of-counts.result.channels
+          c.of-counts.ensures.processes
           c.of-counts.ensures.channels refl refl c.requires.agent c.do_process-outcome.ensures,
     )
 
@@ -25,6 +26,7 @@ returns-clause-stepped c = λ plan f h.
       nodes = with_item m.nodes c.args.node new;
       idle = c.do_process-outcome.new.idle;
     } in
-    c.end_call.ensures.stepped plan (process_done plan m now c.args.number c.args.node c.args.process f h old new c.index_mut-at.ensures.value
+    c.end_call.ensures.stepped plan
+    (process_done plan m now c.args.number c.args.node c.args.process f h old new c.index_mut-at.ensures.value
     c.do_process-outcome.result c.of-counts.result.processes c.of-counts.result.channels c.of-counts.ensures.processes
     c.of-counts.ensures.channels refl refl c.requires.agent c.do_process-outcome.ensures)

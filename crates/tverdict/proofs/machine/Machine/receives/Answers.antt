@@ -20,7 +20,8 @@ pub returns : goal.returns
 returns c =
     let m = c.args.self.now in let plan = c.args.plan.now in let to = c.args.to in let notes = c.args.notes.now in
     let x = c.args.message.items in
-    let past : length plan.nodes ≤ to.node = omega (arith, c.if-number-len.false, c.len.ensures, c.requires.nodes.many) in
+    let past : length plan.nodes ≤ to.node =
+    omega (arith, c.if-number-len.false, c.len.ensures, c.requires.nodes.many) in
     let is : receives plan (role_at plan to.node) to x ≡ stopping HasNoStep =
     elim c.else-len-beyond.branch [
       | else-len-beyond-via-then-len-beyond+else-beyond-len w ↦

@@ -13,7 +13,8 @@ end_call-requires c =
     } in (
       plan,
       successor_done plan m now c.args.number c.args.node c.args.word f h old new c.index_mut-at.ensures.value
-          c.do_successor-outcome.result c.of-counts.result.processes c.of-counts.result.channels c.of-counts.ensures.processes
+          c.do_successor-outcome.result c.of-counts.result.processes c.of-counts.result.channels
+          c.of-counts.ensures.processes
           c.of-counts.ensures.channels refl refl c.requires.agent c.do_successor-outcome.ensures,
     )
 
@@ -23,6 +24,7 @@ returns-clause-stepped c = λ plan f h.
     let now : Machine = record m {
       nodes = with_item m.nodes c.args.node new;
     } in
-    c.end_call.ensures.stepped plan (successor_done plan m now c.args.number c.args.node c.args.word f h old new c.index_mut-at.ensures.value
+    c.end_call.ensures.stepped plan
+    (successor_done plan m now c.args.number c.args.node c.args.word f h old new c.index_mut-at.ensures.value
     c.do_successor-outcome.result c.of-counts.result.processes c.of-counts.result.channels c.of-counts.ensures.processes
     c.of-counts.ensures.channels refl refl c.requires.agent c.do_successor-outcome.ensures)

@@ -27,6 +27,7 @@ returns-clause-start c =
     (c.in_ok-sent.ensures.items_if_clones_equal (λ y e. e)
     ∙ ap (λ (s : List SourcePlan). replicate (length s) 0) c.as_slice-2.ensures) c.requires.wires
     (subst (λ (w : List Wire). AreAgents w c.args.nodes.items agents.items) c.requires.wires
-    (subst (λ (n : List Node). AreAgents c.args.wires n agents.items) c.as_slice-4.ensures.value c.in_ok-agents.ensures))
+    (subst (λ (n : List Node). AreAgents c.args.wires n agents.items) c.as_slice-4.ensures.value
+    c.in_ok-agents.ensures))
     (c.in_ok-check.ensures ∙ ap (first_check c.in-Some.fresh_place) (c.len.ensures ∙ count))
     (c.in_ok-candidates.ensures ∙ ap (range_with_len 0) (c.len-2.ensures ∙ count)) c.in-Some.ensures.fits refl
