@@ -1,7 +1,7 @@
 -- The end as the program keeps it is the end of the machine.
-use Rattle.std.proofs.Common.{◌≡◌, ℕ, zero, suc, ◌+◌, ◌*◌, ◌-◌, ◌<◌, ◌≤◌, refl, sym, ap, ap₂, ◌∙◌, List, [], ◌∷◌, ◌++◌}
+use Rattle.std.proofs.Common.{◌≡◌, ℕ, suc, ◌+◌, ◌*◌, ◌-◌, refl, sym, ap, ap₂, ◌∙◌, List, [], ◌∷◌, ◌++◌}
 use Rattle.std.proofs.Common.{length, drop, subst, arith, Bool, true, false, Option, Some, None}
-use Rattle.std.specs.Prelude.{slice_get, slice_index, map, ◌/◌, ◌&&◌, nat_le, if◌then◌else◌}
+use Rattle.std.specs.Prelude.{slice_get, slice_index, map, ◌/◌, nat_le, if◌then◌else◌}
 use Rattle.std.specs.List.{range_with_len}
 use Rattle.std.proofs.lemmas.Bool.{le-leb}
 use Rattle.std.proofs.lemmas.List.{length-drop}
@@ -14,14 +14,13 @@ use Rattle.tnet.specs.Wires.{end_at}
 use Rattle.tfiles.specs.Texts.{node_line, source_line}
 use Rattle.tprocesses.specs.Machine as machine
 use Rattle.tprocesses.specs.Opening.{opening_state, messages_of, source_at, sink_at}
-use Rattle.tprocesses.specs.Places.{WordAt, Messages, Kept}
+use Rattle.tprocesses.specs.Places.{WordAt, Messages}
 use Rattle.tprocesses.specs.Touching.{Site}
-use Rattle.tprocesses.specs.Values.{Value, IsWord, AreMessages, AreKept, word_in}
+use Rattle.tprocesses.specs.Values.{Value, IsWord, word_in}
 use Rattle.tcertify.specs.Boards.{board_at}
-use Rattle.tcertify.specs.Cells.{cells_of}
 use Rattle.tcertify.specs.Nodes.{board_of, node_at, node_site}
 use Rattle.tcertify.specs.Running.{State}
-use Rattle.tcertify.specs.Words.{standing, word_of}
+use Rattle.tcertify.specs.Words.{word_of}
 use Rattle.tcertify.specs.declared.node.Node.{Node}
 use Rattle.tcertify.specs.declared.sink.Sink.{Sink}
 use Rattle.tcertify.specs.declared.stored.StoredWord.{StoredWord}

@@ -6,3 +6,4 @@ pub mod PartNames
 pub mod Bodies
 pub mod StepsMade
 pub mod Runs
+pub mod Nets

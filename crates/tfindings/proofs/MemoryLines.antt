@@ -1,7 +1,7 @@
 -- The lines of a memory, one after another.
-use Rattle.std.proofs.Common.{◌≡◌, ℕ, zero, suc, ◌+◌, ◌*◌, ◌-◌, ◌<◌, ◌≤◌, min, refl, sym, ap, ap₂, ◌∙◌, List, [], ◌∷◌, ◌++◌}
+use Rattle.std.proofs.Common.{◌≡◌, ℕ, suc, ◌+◌, ◌*◌, ◌-◌, ◌<◌, ◌≤◌, min, refl, sym, ap, ap₂, ◌∙◌, List, [], ◌∷◌, ◌++◌}
 use Rattle.std.proofs.Common.{length, take, drop, ◌⊎◌, inl, inr, arith, Bool, true, false, flat_map}
-use Rattle.std.specs.Prelude.{slice_range, map, codes, if◌then◌else◌}
+use Rattle.std.specs.Prelude.{slice_range, codes, if◌then◌else◌}
 use Rattle.std.specs.Int.{div_ceil, to_be_bytes, w32}
 use Rattle.std.specs.List.{list_all}
 use Rattle.hex.specs.Hex.{encode_lower}

@@ -1,5 +1,5 @@
 -- The parts of a node, by what they are called.
-use Rattle.std.proofs.Common.{◌≡◌, ℕ, ◌<◌, refl, sym, ap, ◌∙◌, List, [], length, get_or, Option, Some}
+use Rattle.std.proofs.Common.{◌≡◌, ℕ, ◌<◌, sym, ap, ◌∙◌, List, [], length, get_or, Option, Some}
 use Rattle.std.specs.Prelude.{codes, option_map, slice_get, unwrap_or}
 use Rattle.std.proofs.lemmas.Option.{slice_get-map, slice_get-get_or}
 use Rattle.tprocesses.specs.Places.{Name, Image}

@@ -1,6 +1,6 @@
 -- Runs of the plan of a wiring, and the faults that come before them.
 use Rattle.std.proofs.Common.{◌≡◌, ◌≤◌, ℕ, refl, sym, ap, subst, ◌∙◌, Bool, true, false, ◌||◌, List, Option, Some, None}
-use Rattle.std.proofs.Common.{Result, Ok, Err, nat_lt, ltb-false, true≢false}
+use Rattle.std.proofs.Common.{Result, Err, ltb-false, true≢false}
 use Rattle.std.specs.Prelude.{IsOk}
 use Rattle.tnet.specs.Building.{or_else, when}
 use Rattle.tplan.specs.declared.plan.Plan.{Plan}
@@ -11,10 +11,10 @@ use Rattle.tnet.specs.Net.{NetState}
 use Rattle.tnet.specs.Building.{IsFaultOf as IsPlanFault, built, fault_of, node_count, opening_net, too_many}
 use Rattle.tnet.specs.Building.{unless_fault}
 use Rattle.tword.specs.Limits.{most_nodes}
-use Rattle.ttext.specs.declared.fault.Fault.{Fault}
-use Rattle.ttext.specs.declared.fault.Fault.TheVariants as fault
-use Rattle.ttext.specs.Faults.{settled}
-use Rattle.ttext.specs.Outcomes.{IsFaultOf, IsPlanOf, as_opened, opened_of, opened_with}
+use Rattle.topening.specs.declared.fault.Fault.{Fault}
+use Rattle.topening.specs.declared.fault.Fault.TheVariants as fault
+use Rattle.topening.specs.Faults.{settled, IsFaultOf}
+use Rattle.topening.specs.Openings.{IsPlanOf, as_opened, opened_of, opened_with}
 use Rattle.tverdict.specs.declared.machine.Machine.{Machine}
 use Rattle.tverdict.specs.declared.verdict.Race.{Race}
 use Rattle.tverdict.specs.declared.verdict.Refusal.TheVariants as refusal
@@ -28,8 +28,9 @@ use Rattle.std.specs.Io.KnownBytes.{Appends}
 use Rattle.tfiles.specs.Outputs.{IsCut}
 use Rattle.tfiles.specs.declared.writing.output.WriteFault.{WriteFault}
 use Rattle.tnames.specs.declared.nodes.NodeNames.{NodeNames}
-use Rattle.ttext.specs.declared.verdict.Verdict as outcomes
-use Rattle.tfindings.specs.Findings.{HasFound, HasRun, IsFindingLeft, IsFindingOf, IsRaceOf, IsRunOf, outcome_of}
+use Rattle.topening.specs.declared.verdict.Verdict as outcomes
+use Rattle.tfindings.specs.Findings.{HasFound, HasRun, IsFindingLeft, IsFindingOf, IsRaceOf, IsRunOf, is_certified}
+use Rattle.tfindings.specs.Findings.{outcome_of}
 use Rattle.tfindings.specs.Telling.{CanBePrinted, CanBeTold, finding_text}
 
 -- ---- what a run leaves can be told
@@ -52,10 +53,6 @@ can_be_told plan most m (verdict.Refused (refusal.TooManyProcesses n)) told foll
 can_be_told plan most m (verdict.Refused (refusal.FlagsChanged n)) told follows = told_sound plan m told.0
 can_be_told plan most m verdict.Cut told follows = told_sound plan m told.0
 
-abbrev is_certified : Finding → Bool
-is_certified finding.Certified = true
-is_certified f = false
-
 other : {T : Type 0} → (f : Finding) → is_certified f ≡ false → finding.Certified ≡ f → T
 other f not_so is = absurd (true≢false (ap is_certified is ∙ not_so))
 
@@ -69,7 +66,7 @@ no_race plan race (finding.FlagsChanged n) found is = absurd found
 no_race plan race finding.Cut found is = absurd found
 
 -- and nothing else but a certificate is
-certified_only : (plan : Plan) (v : Verdict) (f : Finding) → IsFindingOf plan v f → finding.Certified ≡ f
+pub certified_only : (plan : Plan) (v : Verdict) (f : Finding) → IsFindingOf plan v f → finding.Certified ≡ f
     → v ≡ verdict.Certified
 certified_only plan verdict.Certified f found is = refl
 certified_only plan (verdict.Race race) f found is = no_race plan race f found is

@@ -1,5 +1,5 @@
 -- Steps that are told, by a second run.
-use Rattle.std.proofs.Common.{◌≡◌, ℕ, refl, Option, Some, None, sym, ◌∙◌}
+use Rattle.std.proofs.Common.{◌≡◌, ℕ, Option, Some, None, sym, ◌∙◌}
 use Rattle.std.specs.Prelude.{IfSome, unwrap_or}
 use Rattle.tplan.specs.declared.plan.Plan.{Plan}
 use Rattle.tverdict.specs.declared.machine.Machine.{Machine}

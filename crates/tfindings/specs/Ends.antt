@@ -1,7 +1,6 @@
 -- The end of a run of the process machine, as it is printed.
 -- Source: own choice, a format of this program.
 use Rattle.std.specs.Prelude.{ℕ, suc, ◌+◌, ◌-◌, ◌/◌, List, [], ◌∷◌, ◌++◌, flat_map, length, map, None, false, codes}
-use Rattle.std.specs.Prelude.{decimal}
 use Rattle.std.specs.List.{range_with_len}
 use Rattle.tword.specs.Stores.{Store}
 use Rattle.tplan.specs.declared.plan.NodePlan.{NodePlan}

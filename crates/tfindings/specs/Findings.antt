@@ -5,7 +5,6 @@ use Rattle.tplan.specs.declared.plan.Plan.{Plan}
 use Rattle.tclocks.specs.declared.mode.Mode.{Mode}
 use Rattle.tclocks.specs.declared.step.Step.{Step}
 use Rattle.tcertify.specs.declared.node.Node.{Node}
-use Rattle.tcertify.specs.declared.process.Process.{Process}
 use Rattle.tcertify.specs.declared.standing.Stand.{Stand}
 use Rattle.tcertify.specs.declared.standing.Stand.TheVariants as stand
 use Rattle.tverdict.specs.declared.agent.Agent.{Agent}
@@ -21,11 +20,11 @@ use Rattle.std.specs.Io.KnownBytes.{Appends}
 use Rattle.tplan.specs.declared.wiring.Wiring.{Wiring}
 use Rattle.tfiles.specs.Outputs.{IsCut}
 use Rattle.tnames.specs.declared.nodes.NodeNames.{NodeNames}
-use Rattle.ttext.specs.declared.fault.Fault.{Fault}
-use Rattle.ttext.specs.declared.fault.Fault.TheVariants as fault
-use Rattle.ttext.specs.declared.verdict.Verdict as outcomes
-use Rattle.ttext.specs.declared.verdict.Verdict.TheVariants.{Clear, Marked, Cut}
-use Rattle.ttext.specs.Outcomes.{IsPlanOf}
+use Rattle.topening.specs.declared.fault.Fault.{Fault}
+use Rattle.topening.specs.declared.fault.Fault.TheVariants as fault
+use Rattle.topening.specs.declared.verdict.Verdict as outcomes
+use Rattle.topening.specs.declared.verdict.Verdict.TheVariants.{Clear, Marked, Cut}
+use Rattle.topening.specs.Openings.{IsPlanOf}
 use Rattle.tverdict.specs.Machines.{Follows}
 use Rattle.tverdict.specs.Verdicts.{IsTold}
 use Rattle.tfindings.specs.declared.finding.Finding.{Finding}
@@ -99,6 +98,11 @@ pub record HasRun (plan : Plan) (most : ℕ) (m : Machine) (f : Finding) : Type 
   pub found : IsFindingOf plan verdict f
   pub told : CanBeTold m
   pub printed : CanBePrinted plan m f
+
+-- the plan is certified
+abbrev pub is_certified : Finding → Bool
+is_certified finding.Certified = true
+is_certified f = false
 
 -- what the command comes to
 abbrev pub outcome_of : Finding → outcomes.Verdict

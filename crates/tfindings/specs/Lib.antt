@@ -13,3 +13,5 @@ pub mod Refusals
 pub mod Telling
 -- what is told of a verdict
 pub mod Findings
+-- what a certified run tells of all runs
+pub mod Nets

@@ -1,6 +1,6 @@
 -- Places of the process machine, as they are printed.
 -- Source: own choice, a format of this program.
-use Rattle.std.specs.Prelude.{ℕ, ◌<◌, ◌-◌, ◌==◌, ◌&&◌, nat_le, nat_lt, Bool, List, [], ◌++◌, length, map, position, codes}
+use Rattle.std.specs.Prelude.{ℕ, ◌<◌, ◌-◌, ◌==◌, ◌&&◌, nat_le, nat_lt, Bool, List, [], ◌++◌, length, position, codes}
 use Rattle.std.specs.Prelude.{decimal, Option, Some, None, option_map, is_some, slice_get, if◌then◌else◌}
 use Rattle.tproc.specs.declared.channels.Side.{Side}
 use Rattle.tproc.specs.declared.channels.Side.TheVariants.{Input, Output}

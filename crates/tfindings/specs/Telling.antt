@@ -63,10 +63,14 @@ refusal_text why at steps = line (codes "refused " ++ (why ++ at)) ++ last_text 
 abbrev pub node_text : ℕ → List ℕ
 node_text n = codes " node " ++ decimal n
 
+-- the last line, where a plan is certified
+abbrev pub certified_line : Plan → Machine → List ℕ
+certified_line plan m = last_text (codes "certified") m.done
+
 -- a plan is certified, and its end
 abbrev pub certified_text : Plan → Machine → List ℕ
 certified_text plan m =
-    line (codes "certified") ++ (end_text plan (machine_at plan m) ++ last_text (codes "certified") m.done)
+    line (codes "certified") ++ (end_text plan (machine_at plan m) ++ certified_line plan m)
 
 -- a step that stops
 abbrev pub stopped_text : Machine → Made → Stop → List ℕ

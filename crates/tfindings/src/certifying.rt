@@ -4,21 +4,26 @@ ghost use Rattle.std.specs.Prelude.{◌≡◌, ◌≢◌, ◌≤◌, IfErr, IfOk
 ghost use Rattle.tword.specs.Limits.{most_nodes};
 ghost use Rattle.tnet.specs.Building.{IsFaultOf as IsPlanFault, built, fault_of, node_count};
 ghost use Rattle.tfiles.specs.Failures.{HasRisen, HasStayed};
-ghost use Rattle.ttext.specs.Outcomes.{HasOutputCause, IsDue, IsFaultOf, as_opened, opened_of};
-ghost use Rattle.ttext.specs.declared.verdict.Verdict.TheVariants.{Wrong};
+ghost use Rattle.topening.specs.Faults.{HasOutputCause, IsDue, IsFaultOf};
+ghost use Rattle.topening.specs.Openings.{as_opened, opened_of};
+ghost use Rattle.topening.specs.declared.verdict.Verdict.TheVariants.{Clear};
+ghost use Rattle.tfindings.specs.declared.finding.Finding.TheVariants.{Certified};
 ghost use Rattle.tfindings.specs.Findings as spec;
 ghost use Rattle.tfindings.specs.Findings.{HasFound, HasRun, IsFindingLeft, IsFindingOf, IsRunOf};
+ghost use Rattle.tfindings.specs.Nets.{TellsOfAllRuns, WritesOfAllRuns};
+ghost use Rattle.tfindings.specs.Telling.{certified_text};
 
 use crate::finding::{Finding, Touch};
 use crate::steps::made_by;
 use crate::telling::{body_of, write_finding};
 use std::alloc::{AllocError, Global};
+use tbounds::know_plan;
 use tclocks::{Mode, Step};
 use tfiles::CountedWrite;
 use tnames::NodeNames;
+use topening::opening::plan;
+use topening::{Fault, Verdict as Outcome};
 use tplan::{BuildFault, Plan, Wiring};
-use ttext::opening::plan;
-use ttext::{Fault, Verdict as Outcome};
 use tverdict::{Machine, Race, Refusal, Verdict};
 use tword::Items;
 
@@ -32,7 +37,7 @@ use tword::Items;
 /// The first of these: `Image` for the first file that is no image, `Net` for the lowest fault of the plan, `Output`
 /// where the writer failed. `Memory` where the allocator refused, or a number would not fit. But for `Output` nothing
 /// was written.
-#[tactic(auto, using(crate::proofs::Runs::has_found, crate::proofs::Runs::finding_cut))]
+#[tactic(auto, using(crate::proofs::Runs::has_found, crate::proofs::Runs::finding_cut, crate::proofs::Nets::writes))]
 pub fn certify_files<W: CountedWrite>(
     alloc: Global,
     wiring: &Wiring,
@@ -43,7 +48,13 @@ pub fn certify_files<W: CountedWrite>(
 ) -> Result<Outcome, Fault>
     requires { length files ≡ length wiring.now.nodes }
     // what is written is true of the plan, and the verdict is that of what was found
-    ensures found { IfOk result (HasFound wiring.now files most_steps names.now (W.contents out.old) (W.contents out.new)) }
+    ensures found { IfOk result
+        (HasFound wiring.now files most_steps names.now (W.contents out.old) (W.contents out.new)) }
+
+    // where it answers `Clear`, the certified end is written, and it is the end of all runs of the net, those of `run`,
+    // `free` and `replay` among them: no node freezes or halts in any of them
+    ensures all_runs { IfOk result (λ outcome. outcome ≡ Clear
+        → WritesOfAllRuns wiring.now files certified_text (W.contents out.old) (W.contents out.new)) }
 
     // each fault is the first that is due
     ensures due { IfErr result (IsDue (opened_of wiring.now files)) }
@@ -75,10 +86,10 @@ pub fn certify_files<W: CountedWrite>(
 
 /// A plan, its machine as its run left it, and what was found.
 #[derive(Drop)]
-struct FoundRun {
-    plan: Plan,
-    machine: Machine,
-    finding: Finding,
+pub(crate) struct FoundRun {
+    pub(crate) plan: Plan,
+    pub(crate) machine: Machine,
+    pub(crate) finding: Finding,
 }
 
 /// What is found of a wiring and the files of its images.
@@ -86,7 +97,7 @@ struct FoundRun {
 /// # Errors
 /// `Image` for the first file that is no image, `Net` for the lowest fault of the plan, `Memory`.
 #[tactic(auto, using(crate::proofs::Runs::opened_files, crate::proofs::Runs::due_of_files))]
-fn find(
+pub(crate) fn find(
     alloc: Global,
     wiring: &Wiring,
     files: Items<Items<u8>>,
@@ -94,11 +105,13 @@ fn find(
 ) -> Result<FoundRun, Fault>
     requires { length files ≡ length wiring.now.nodes }
     ensures found { IfOk result (λ x. IsRunOf wiring.now files most_steps x.plan x.machine x.finding) }
+    ensures all_runs { IfOk result (λ x. x.finding ≡ Certified → TellsOfAllRuns wiring.now files x.plan x.machine) }
     ensures few { IfOk result (λ x. node_count x.plan ≤ most_nodes) }
     ensures opened { OnOk result (IsOk (opened_of wiring.now files)) }
     ensures due { IfErr result (IsFaultOf (opened_of wiring.now files)) }
 {
     let plan = plan(alloc, wiring, files)?;
+    know_plan(&plan);
     let Ran { machine, finding } = run_plan(alloc, &plan, most_steps)?;
     Ok(FoundRun {
         plan,
@@ -114,6 +127,7 @@ fn find(
 #[tactic(auto, using(crate::proofs::Runs::few_nodes, crate::proofs::Runs::opened_plan, crate::proofs::Runs::fault_due))]
 fn run_plan(alloc: Global, plan: &Plan, most_steps: u64) -> Result<Ran, Fault>
     ensures ran { IfOk result (λ ran. HasRun plan.now most_steps ran.machine ran.finding) }
+    ensures planned { OnOk result (fault_of plan.now ≡ None) }
     ensures few { OnOk result (node_count plan.now ≤ most_nodes) }
     ensures opened { OnOk result (IsOk (as_opened (built plan.now))) }
     ensures due { IfErr result (IsFaultOf (as_opened (built plan.now))) }

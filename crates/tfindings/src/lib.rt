@@ -9,10 +9,12 @@
 //! - `finding`, `telling`: what was found, and how it is printed
 //! - `steps`: where a step was made, by a second run
 //! - `certifying`: the call of the command
+//! - `certified`: whether the net is certified, in one line
 #![tactic(auto)]
 
 mod agents;
 mod cells;
+mod certified;
 mod certifying;
 mod ends;
 pub mod finding;
@@ -21,4 +23,5 @@ mod refusals;
 mod steps;
 mod telling;
 
+pub use certified::certified_line;
 pub use certifying::certify_files;

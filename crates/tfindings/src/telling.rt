@@ -263,6 +263,21 @@ fn write_body<W: CountedWrite>(
     output.finish()
 }
 
+/// Writes the last line of a plan that is certified.
+pub(crate) fn write_certified<W: CountedWrite>(
+    out: &mut W,
+    machine: &Machine,
+) -> Result<(), WriteFault>
+    ensures out { (plan : _) → IsOut (W.contents out.old) (W.contents out.new)
+        (spec.certified_line plan machine.now) result }
+    ensures cause { IfErr result (λ _. HasRisen (W.failures out.old) (W.failures out.new)) }
+    ensures stayed { OnOk result (HasStayed (W.failures out.old) (W.failures out.new)) }
+{
+    let mut output = Output::new(out);
+    put_last(&mut output, b"certified", machine.done);
+    output.finish()
+}
+
 /// Writes what was found. body: the lines of the steps that are told.
 pub(crate) fn write_finding<W: CountedWrite>(
     out: &mut W,

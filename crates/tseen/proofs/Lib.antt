@@ -151,7 +151,7 @@ mod ScriptsRest
 mod OwnInstructions
 mod OwnSteps
 mod AllSteps
-mod AllRuns
+pub mod AllRuns
 -- operations on links
 mod LinkRuns
 mod Taking
@@ -159,3 +159,4 @@ mod Asking
 mod LinkTaken
 mod TakenShown
 mod LinkOperations
+pub mod PacketNets

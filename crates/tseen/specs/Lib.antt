@@ -39,3 +39,5 @@ pub mod Linked
 pub mod Carried
 -- all runs of a net
 pub mod Whole
+-- all nets of packets
+pub mod Packets

@@ -4,4 +4,5 @@
 pub mod laws;
 pub mod links;
 pub mod messages;
+pub mod packets;
 pub mod whole;

@@ -1,4 +1,4 @@
-use Rattle.std.proofs.Common.{ap, sym, ◌∙◌, ◌++◌, List, ℕ}
+use Rattle.std.proofs.Common.{ap, sym, ◌∙◌, ℕ}
 use Rattle.tfiles.proofs.Told.{tells_then, tells_as}
 use Rattle.tprocesses.specs.Machine as machine
 use Rattle.tcertify.specs.declared.channel.Channel.{Channel}
@@ -8,7 +8,7 @@ use Rattle.tprocesses.specs.Places.{Name}
 use Rattle.twhere.specs.Standing.{word_text}
 use Rattle.tverdict.specs.declared.agent.Agent.{Agent}
 use Rattle.tverdict.specs.Agents.{agent_of}
-use Rattle.tfindings.specs.Agents.{agent_text, at_node, name_text, node_head}
+use Rattle.tfindings.specs.Agents.{agent_text}
 use Rattle.tfindings.proofs.AgentNames.{as_channel, as_process, channel_there, process_there}
 use Rattle.tfindings.proofs.agents.put_agent.Goals as goal
 

@@ -1,4 +1,4 @@
-use Rattle.std.proofs.Common.{◌<◌, length, arith, rules, sym, ◌∙◌}
+use Rattle.std.proofs.Common.{◌<◌, length, arith, rules}
 use Rattle.std.specs.Int.{div_ceil}
 use Rattle.std.proofs.lemmas.Grind.{common_steps}
 use Rattle.tfiles.specs.Outputs.{Tells}

@@ -1,4 +1,4 @@
-use Rattle.std.proofs.Common.{ap, ◌∙◌, sym}
+use Rattle.std.proofs.Common.{ap}
 use Rattle.tfiles.specs.Texts.{sink_line}
 use Rattle.tfiles.proofs.Told.{tells_as, tells_then}
 use Rattle.tfindings.proofs.EndParts.{as_many, kept_lines}

@@ -1,6 +1,6 @@
 use Rattle.std.proofs.Common.{ap, sym, ℕ}
 use Rattle.tfindings.specs.Places.{fixed_at, place_text}
-use Rattle.tfiles.proofs.Told.{tells_then, tells_as, tells_none}
+use Rattle.tfiles.proofs.Told.{tells_then, tells_as}
 use Rattle.tfindings.proofs.places.put_fixed.Goals as goal
 
 pub returns-in-2 : goal.returns-in-2

@@ -1,4 +1,4 @@
-use Rattle.tfiles.proofs.Told.{tells_then, tells_as}
+use Rattle.tfiles.proofs.Told.{tells_then}
 use Rattle.tfindings.proofs.places.put_flag.Goals as goal
 
 pub returns : goal.returns

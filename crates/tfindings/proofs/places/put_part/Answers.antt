@@ -5,7 +5,7 @@ use Rattle.tfindings.specs.declared.places.Part.{Part}
 use Rattle.tfindings.specs.Agents.{at_node}
 use Rattle.tfindings.specs.Places.{HasPart, place_of, place_text}
 use Rattle.tfindings.proofs.PartNames.{address_shown, process_shown, workspace_shown}
-use Rattle.tfiles.proofs.Told.{tells_then, tells_as, tells_none}
+use Rattle.tfiles.proofs.Told.{tells_then, tells_as}
 use Rattle.tfindings.proofs.places.put_part.Goals as goal
 
 pub returns-in-Word : goal.returns-in-Word

@@ -1,6 +1,6 @@
 use Rattle.std.proofs.Common.{ap, sym, ◌∙◌}
 use Rattle.tfindings.specs.Places.{part_text}
-use Rattle.tfiles.proofs.Told.{tells_then, tells_as, tells_none}
+use Rattle.tfiles.proofs.Told.{tells_as, tells_none}
 use Rattle.tfindings.proofs.places.put_part_with.Goals as goal
 
 pub returns-in_default : goal.returns-in_default

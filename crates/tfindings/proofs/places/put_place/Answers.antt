@@ -2,7 +2,7 @@ use Rattle.std.proofs.Common.{ap, sym, ◌∙◌}
 use Rattle.tfindings.proofs.PartNames.{there}
 use Rattle.std.proofs.lemmas.List.Quantifiers.{position-Some}
 use Rattle.tfindings.specs.Places.{found_text, has_part, script_text}
-use Rattle.tfiles.proofs.Told.{tells_then, tells_as, tells_none}
+use Rattle.tfiles.proofs.Told.{tells_as}
 use Rattle.tfindings.proofs.places.put_place.Goals as goal
 
 pub returns-in-Some : goal.returns-in-Some

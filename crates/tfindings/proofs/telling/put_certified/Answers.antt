@@ -1,4 +1,4 @@
-use Rattle.tfiles.proofs.Told.{tells_then, tells_as, tells_none}
+use Rattle.tfiles.proofs.Told.{tells_then}
 use Rattle.tfindings.proofs.telling.put_certified.Goals as goal
 
 pub returns : goal.returns

@@ -4,7 +4,7 @@ use Rattle.tfiles.specs.Logs.{line}
 use Rattle.tnames.specs.Nodes.{text_of_node}
 use Rattle.tfindings.specs.declared.finding.Finding.{Finding}
 use Rattle.tfindings.specs.Telling.{body_text, finding_text, last_text, node_of_place, node_of_step}
-use Rattle.tfiles.proofs.Told.{tells_then, tells_as, tells_none}
+use Rattle.tfiles.proofs.Told.{tells_then, tells_as}
 use Rattle.tfindings.proofs.telling.put_finding.Goals as goal
 
 pub returns-in-Race : goal.returns-in-Race

@@ -1,5 +1,5 @@
 use Rattle.std.proofs.Common.{ap, decimal}
-use Rattle.tfiles.proofs.Told.{tells_then, tells_as, tells_none}
+use Rattle.tfiles.proofs.Told.{tells_then, tells_as}
 use Rattle.tfindings.proofs.telling.put_step.Goals as goal
 
 pub returns : goal.returns

@@ -1,4 +1,4 @@
-use Rattle.tfiles.proofs.Told.{tells_then, tells_as, tells_none}
+use Rattle.tfiles.proofs.Told.{tells_then, tells_as}
 use Rattle.tfindings.proofs.telling.put_stopped.Goals as goal
 
 pub returns : goal.returns

@@ -1,7 +1,7 @@
 use Rattle.std.proofs.Common.{ap, List}
 use Rattle.tcertify.specs.declared.node.Node.{Node}
 use Rattle.tfindings.specs.Places.{access_text}
-use Rattle.tfiles.proofs.Told.{tells_then, tells_as, tells_none}
+use Rattle.tfiles.proofs.Told.{tells_then, tells_as}
 use Rattle.tfindings.proofs.telling.put_touch.Goals as goal
 
 pub returns : goal.returns
