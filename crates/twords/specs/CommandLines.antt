@@ -191,7 +191,7 @@ running named options log what = record { wiring = named; options = options; log
 
 abbrev exploring : Text → (states steps : ℕ) → Option Text → Show → Exploring
 exploring named states steps log what =
-    record { wiring = named; states = states; steps = steps; log = log; show = what }
+    record { wiring = named; states = states; steps = steps; log = log; show = what; certify = false }
 
 abbrev certifying : Text → (steps : ℕ) → List NamesFile → Certifying
 certifying named steps files = record { wiring = named; steps = steps; names = files }
@@ -312,6 +312,21 @@ example_explore_log : command_of (codes "temu" ∷ codes "explore" ∷ codes "--
     ≡ Some (command.Explore (exploring (codes "pair.toml") 1000000 9223372036854775807 (Some (codes "found")) show.Nothing))
 unfolding clap_on_literals
 example_explore_log = refl
+
+-- where there is no certificate by as many steps, with dumps or with headings alone
+example_explore_certify : command_of
+    (codes "temu" ∷ codes "explore" ∷ codes "--certify" ∷ codes "pair.toml" ∷ codes "--steps=100" ∷ [])
+    ≡ Some (command.Explore (record (exploring (codes "pair.toml") 1000000 100 None show.Dump) { certify = true }))
+unfolding clap_on_literals
+example_explore_certify = refl
+
+example_explore_certify_none : command_of
+    (codes "temu" ∷ codes "explore" ∷ codes "pair.toml" ∷ codes "--show=none" ∷ codes "--certify" ∷ [])
+    ≡ Some
+    (command.Explore
+    (record (exploring (codes "pair.toml") 1000000 9223372036854775807 None show.Nothing) { certify = true }))
+unfolding clap_on_literals
+example_explore_certify_none = refl
 
 -- a certificate by all steps, or by so many
 example_certify : command_of (codes "temu" ∷ codes "certify" ∷ codes "pair.toml" ∷ [])
@@ -540,6 +555,19 @@ example_explore_json : refusals (codes "temu" ∷ codes "explore" ∷ codes "pai
     ≡ UnknownArgument ∷ []
 unfolding clap_on_literals
 example_explore_json = refl
+
+-- where a certificate is tried first, there are no logs, and it is not told where the net stands
+example_certify_log : refusals (codes "temu" ∷ codes "explore" ∷ codes "pair.toml" ∷ codes "--certify" ∷ codes "--log"
+    ∷ codes "found" ∷ [])
+    ≡ InvalidValue ∷ []
+unfolding clap_on_literals
+example_certify_log = refl
+
+example_certify_where : refusals (codes "temu" ∷ codes "explore" ∷ codes "--show=where" ∷ codes "pair.toml"
+    ∷ codes "--certify" ∷ [])
+    ≡ InvalidValue ∷ []
+unfolding clap_on_literals
+example_certify_where = refl
 
 example_node : refusals
     (codes "temu" ∷ codes "steps" ∷ codes "pair.toml" ∷ codes "pair.log" ∷ codes "--node" ∷ codes "256" ∷ [])

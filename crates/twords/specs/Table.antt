@@ -1,7 +1,7 @@
 -- The table of the commands: their names, the words that they take with their ranges and defaults, and what they ask for.
 -- Source: own choice.
-use Rattle.std.specs.Prelude.{ℕ, ◌≤◌, Bool, true, false, List, [], ◌∷◌, ◌++◌, ◌==◌, Option, Some, None, option_map}
-use Rattle.std.specs.Prelude.{bytes_eq, codes, if◌then◌else◌, map, option_and_then}
+use Rattle.std.specs.Prelude.{ℕ, ◌≤◌, Bool, true, false, List, [], ◌∷◌, ◌++◌, ◌==◌, ◌&&◌, Option, Some, None, option_map}
+use Rattle.std.specs.Prelude.{bytes_eq, codes, if◌then◌else◌, is_some, map, option_and_then}
 use Rattle.clap.specs.Words.{Text, Rule, Row, first_of}
 use Rattle.tplan.specs.declared.options.Options.{Options}
 use Rattle.tword.specs.Limits.{longest_slice, most_workers}
@@ -54,13 +54,14 @@ running_rules limit = file_rule (codes "wiring")
     ∷ json_rule
     ∷ []
 
--- `WIRING [--states N] [--steps N] [--log PREFIX] [--show WHAT]`
+-- `WIRING [--states N] [--steps N] [--log PREFIX] [--show WHAT] [--certify]`
 abbrev pub exploring_rules : List Rule
 exploring_rules = file_rule (codes "wiring")
     ∷ number_rule (codes "states") (between 0 4294967295) (codes "1000000")
     ∷ number_rule (codes "steps") (between 0 9223372036854775807) (codes "9223372036854775807")
     ∷ option_rule (codes "log")
     ∷ show_rule
+    ∷ flag_rule (codes "certify")
     ∷ []
 
 -- `[--names [N=]FILE]..`: files of names, of one node or of each
@@ -204,7 +205,20 @@ exploring_in rows what =
       steps = number_at (codes "steps") rows;
       log = first_of (codes "log") rows;
       show = what;
+      certify = flag_at (codes "certify") rows;
     }
+
+-- a search is needed to write logs, where they are asked for, and to show this
+abbrev pub takes_search : (is_logged : Bool) → Show → Bool
+takes_search false show.Dump = false
+takes_search false show.Where = true
+takes_search false show.Nothing = false
+takes_search true what = true
+
+-- the exploration, unless a certificate is to come first and what is asked for takes a search
+abbrev pub exploring_of : Exploring → Option Exploring
+exploring_of asked =
+    if asked.certify && takes_search (is_some asked.log) asked.show then None else Some asked
 
 -- the certificate that the arguments of `certify` ask for
 abbrev pub certifying_in : List Row → Certifying
@@ -244,7 +258,8 @@ watching_in rows first =
 abbrev pub asked_in : Which → List Row → Option Command
 asked_in Run rows = option_map (λ what. command.Run (running_in (codes "rounds") rows what)) (printing_in rows)
 asked_in Free rows = option_map (λ what. command.Free (running_in (codes "turns") rows what)) (printing_in rows)
-asked_in Explore rows = option_map (λ what. command.Explore (exploring_in rows what)) (show_in rows)
+asked_in Explore rows =
+    option_map command.Explore (option_and_then (λ what. exploring_of (exploring_in rows what)) (show_in rows))
 asked_in Certify rows = Some (command.Certify (certifying_in rows))
 asked_in Replay rows =
     option_map

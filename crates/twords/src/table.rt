@@ -89,6 +89,8 @@ pub struct Exploring {
     pub log: Option<FileName>,
     /// What is shown of each outcome.
     pub show: Show,
+    /// Whether a certificate is tried first, and the search left out where the net is certified.
+    pub certify: bool,
 }
 
 /// What a command line asks for.
@@ -189,7 +191,8 @@ impl Which {
         }
     }
 
-    /// What the arguments of the command ask for; nothing where a word of `--show` or `--address` stands for nothing.
+    /// What the arguments of the command ask for; nothing where a word of `--show` or `--address` stands for nothing,
+    /// or where options do not go together.
     pub(crate) fn asked(
         self,
         alloc: Global,
@@ -272,7 +275,8 @@ fn replay_asked(alloc: Global, given: &ArgMatches) -> Result<Option<Command>, Al
     }))
 }
 
-/// What the arguments of `explore` ask for; nothing where the word of `--show` stands for nothing.
+/// What the arguments of `explore` ask for; nothing where the word of `--show` stands for nothing, or what is asked for
+/// beside a certificate takes a search.
 fn explore_asked(alloc: Global, given: &ArgMatches) -> Result<Option<Command>, AllocError>
     requires { HasAll (spec.rules_of Which.Explore) (rows_of (found_of given.now)) }
     ensures command { IfOk result (λ c. spec.asked_in Which.Explore (rows_of (found_of given.now)) ≡ c) }
@@ -281,13 +285,18 @@ fn explore_asked(alloc: Global, given: &ArgMatches) -> Result<Option<Command>, A
     let Some(show) = shown(given) else {
         return Ok(None);
     };
+    let certify = is_given(given, "certify");
     let prefix = optional_file(alloc, given, "log")?;
+    if certify && takes_search(prefix.is_some(), show) {
+        return Ok(None);
+    }
     Ok(Some(Command::Explore(Exploring {
         wiring: file(alloc, given, "wiring")?,
         states: number(given, "states"),
         steps: long_number(given, "steps"),
         log: prefix,
         show,
+        certify,
     })))
 }
 
@@ -360,6 +369,13 @@ fn printing_of(as_json: bool, show: Show) -> Option<Printing>
         (true, Show::Nothing) => Some(Printing::Json { with_nodes: false }),
         (true, Show::Where) => None,
     }
+}
+
+/// Whether a search is needed to write logs, where they are asked for, and to show this.
+fn takes_search(is_logged: bool, show: Show) -> bool
+    ensures { result ≡ spec.takes_search is_logged show }
+{
+    is_logged || matches!(show, Show::Where)
 }
 
 /// What the word of `--show` stands for, if for anything.
@@ -690,6 +706,12 @@ pub const EXPLORE: CommandRow = CommandRow {
             value: "WHAT",
             help: "What is shown of each outcome: dump, where, or none for the headings alone",
         },
+        Argument {
+            name: "certify",
+            form: Form::Flag,
+            value: "",
+            help: "Makes the run of `temu certify` first, and searches only if the net is not certified",
+        },
     ],
     below: "\
 In: a wiring file (see `temu run --help`). Its holds do not matter, and a bad one is not told; nor
@@ -719,11 +741,19 @@ If the exploration was not cut, each run by `temu run` or `temu free` that ends 
 frozen node, ends in one of these outcomes. A run is followed up to its first freeze: if some run
 freezes a node, at least one freeze is told, but maybe not all of them.
 
-Exit status: 5 the exploration was cut, whatever it found; else 0 there is exactly one outcome, and
-no freeze; 1 there is a freeze, or another number of outcomes.
+With `--certify` the one run of `temu certify` is made first, of at most as many steps. If it is
+certified, all that is printed is `end certified S`, after S steps: there is no search, and what
+that tells of all runs is in `temu certify --help`. If not, the search follows, and what is printed
+is as without `--certify`. If a program goes on for ever, so does that run: give `--steps`, and the
+search follows after them. `--log` and `--show where` need a search, so `--certify` does not go
+together with them.
 
-Example:
-  temu explore pair.toml --states 100000",
+Exit status: 5 the exploration was cut, whatever it found; else 0 there is exactly one outcome, and
+no freeze, or the net is certified; 1 there is a freeze, or another number of outcomes.
+
+Examples:
+  temu explore pair.toml --states 100000
+  temu explore pair.toml --certify",
 };
 
 /// `replay`.

@@ -88,6 +88,10 @@ fn refusal(which: Which, given: &ArgMatches) -> &'static str {
         "invalid value for '--address <A>': not 1 to 8 hexadecimal digits, as 80000100"
     } else if is_given(given, "json") && is_where(given) {
         "the argument '--json' cannot be used with '--show where'"
+    } else if is_given(given, "certify") && is_where(given) {
+        "the argument '--certify' cannot be used with '--show where'"
+    } else if is_given(given, "certify") && given.get_str("log").is_some() {
+        "the argument '--certify' cannot be used with '--log <PREFIX>'"
     } else {
         "invalid value for '--show <WHAT>': not dump, where or none"
     }
