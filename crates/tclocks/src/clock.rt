@@ -68,8 +68,22 @@ impl Clock {
         Some(*count)
     }
 
-    /// What another clock knows is known too.
+    /// What another clock knows is known too. Mostly it is empty.
+    #[inline(always)]
     pub fn join(&mut self, other: &Clock) -> Result<(), AllocError>
+        ensures ok { OnOk result (self.new ≡ joined self.old other.now) }
+        ensures err { OnErr result (self.new ≡ self.old) }
+        ensures longer { length self.old ≤ length self.new }
+    {
+        if other.counts.as_slice().is_empty() {
+            return Ok(());
+        }
+        self.join_counts(other)
+    }
+
+    /// What another clock knows is known too.
+    #[inline(never)]
+    fn join_counts(&mut self, other: &Clock) -> Result<(), AllocError>
         ensures ok { OnOk result (self.new ≡ joined self.old other.now) }
         ensures err { OnErr result (self.new ≡ self.old) }
         ensures longer { length self.old ≤ length self.new }
@@ -92,6 +106,7 @@ impl Clock {
     }
 
     /// Nothing is known any more.
+    #[inline(always)]
     pub fn clear(&mut self)
         ensures { self.new ≡ [] }
     {

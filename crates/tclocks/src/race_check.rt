@@ -101,7 +101,7 @@ impl RaceCheck {
     }
 
     /// The next step of an agent begins; nothing, where the agent has done as many steps as a check can count.
-    #[inline]
+    #[inline(always)]
     pub fn begin(&mut self, agent: u32) -> Option<Step>
         requires { agent < length self.old.clocks }
         ensures step { IfSome result (λ step. step ≡ next_step self.old agent) }
@@ -114,6 +114,7 @@ impl RaceCheck {
     }
 
     /// An agent knows what the clock in a slot knows, since steps that lead to its own one wrote it.
+    #[inline(always)]
     pub fn join(&mut self, agent: u32, slot: usize) -> Result<(), AllocError>
         requires agent { agent < length self.old.clocks }
         requires slot { slot < length self.old.slots }
@@ -182,6 +183,7 @@ impl RaceCheck {
     }
 
     /// The clock in a slot is empty again.
+    #[inline(always)]
     pub fn clear(&mut self, slot: usize)
         requires { slot < length self.old.slots }
         ensures { self.new ≡ with_cleared slot self.old }

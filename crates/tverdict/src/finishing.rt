@@ -70,6 +70,7 @@ impl Machine {
     ///
     /// # Errors
     /// Those of `tell`; `OutOfMemory`.
+    #[inline(always)]
     fn finish(&mut self, number: u32, node: u32, before: Counts) -> Result<(), Halt>
         requires { (plan : Plan) × IsDone plan number node before.processes before.channels self.old }
         ensures stepped { (plan : Plan) → IsDone plan number node before.processes before.channels self.old
@@ -88,6 +89,7 @@ impl Machine {
     ///
     /// # Errors
     /// Where the allocator refuses.
+    #[inline(always)]
     pub(crate) fn add_places(&mut self, node: u32) -> Result<(), AllocError>
         ensures { OnOk result ((count : ℕ) × AddsPlaces self.old count self.new) }
     {
@@ -106,6 +108,7 @@ impl Machine {
     ///
     /// # Errors
     /// Those of `tell_step`; `OutOfMemory` where a note got lost.
+    #[inline(always)]
     fn tell(&mut self, number: u32, node: u32) -> Result<(), Halt>
         requires { (plan : Plan) × IsUntold plan number node self.old }
         ensures ok { OnOk result ((plan : Plan) → IsUntold plan number node self.old
@@ -125,6 +128,7 @@ impl Machine {
     ///
     /// # Errors
     /// Those of `find_processes` and `find_channels`.
+    #[inline(always)]
     pub(crate) fn find_new(
         &mut self,
         number: u32,
@@ -149,6 +153,7 @@ impl Machine {
     ///
     /// # Errors
     /// Where the allocator refuses, or a number would not fit.
+    #[inline(always)]
     fn find_processes(&mut self, number: u32, node: u32, first: usize) -> Result<(), AllocError>
         requires node { node < length self.old.nodes.items }
         requires told { IsTelling number node self.old }
@@ -169,6 +174,7 @@ impl Machine {
     ///
     /// # Errors
     /// Where the allocator refuses, or a number would not fit.
+    #[inline(always)]
     fn find_channels(&mut self, number: u32, node: u32, first: usize) -> Result<(), AllocError>
         requires node { node < length self.old.nodes.items }
         requires told { IsTelling number node self.old }
@@ -189,6 +195,7 @@ impl Machine {
     ///
     /// # Errors
     /// Where the number of steps would not fit.
+    #[inline(always)]
     pub(crate) fn close(&mut self, number: u32) -> Result<(), AllocError>
         requires { number < length self.old.check.slots }
         ensures { OnOk result (Closes self.old number self.new) }

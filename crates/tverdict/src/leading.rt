@@ -79,6 +79,7 @@ impl Machine {
     ///
     /// # Errors
     /// Where the allocator refuses, or a number would not fit.
+    #[inline(never)]
     fn lead_by(&mut self, number: u32, node: u32, lead: Lead) -> Result<(), AllocError>
         requires told { IsTelling number node self.old }
         requires lead { HasLead self.old.nodes.items node lead }
@@ -97,6 +98,7 @@ impl Machine {
     ///
     /// # Errors
     /// Those of `lead_by`.
+    #[inline(always)]
     pub(crate) fn lead_on(&mut self, number: u32, node: u32) -> Result<(), AllocError>
         requires { IsTelling number node self.old }
         ensures { OnOk result (KeepsTold number node self.old self.new) }

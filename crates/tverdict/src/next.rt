@@ -59,6 +59,7 @@ impl Machine {
     ///
     /// # Errors
     /// Where the allocator refuses, or the numbers of agents do not fit.
+    #[inline(never)]
     fn find_candidates(&mut self, plan: &Plan) -> Result<(), AllocError>
         requires sound { IsSound plan.now self.old }
         requires nobody { self.old.candidates.items ≡ [] }
@@ -82,6 +83,7 @@ impl Machine {
     ///
     /// # Errors
     /// Those of `add_agent`. Then nothing is told of the machine.
+    #[inline(never)]
     fn find_successor(&mut self) -> Result<Option<u32>, AllocError>
         ensures found { IfOk result (λ next. (plan : Plan) → Follows plan self.old
             → ((number : ℕ) → HasStep plan self.old number → ⊥)
@@ -101,6 +103,7 @@ impl Machine {
     ///
     /// # Errors
     /// Where the allocator refuses, or the numbers of agents do not fit. Then nothing is told of the machine.
+    #[inline(always)]
     pub fn next_agent(&mut self, plan: &Plan) -> Result<Option<u32>, AllocError>
         requires { Follows plan.now self.old }
         ensures follows { OnOk result (Follows plan.now self.new) }

@@ -6,11 +6,12 @@ ghost use Rattle.tword.specs.Accesses.{IsMemorySize};
 ghost use Rattle.tnet.specs.Building.{all_wires, fault_of, IsFaultOf};
 ghost use Rattle.tcertify.specs.NodeOpened.{HaveOwnWorkspaces, IsOpen};
 ghost use Rattle.tverdict.specs.Machines.{IsAtStart};
-ghost use Rattle.tverdict.specs.Opening.{AllMayHaveSteps, AreEmpty, AreOpen, AreScriptPlaces, CanOpen};
-ghost use Rattle.tverdict.specs.Opening.{HasPlacesInOrder};
+ghost use Rattle.tverdict.specs.Opening.{AllMayHaveSteps, AreAgents, AreEmpty, AreOpen, AreScriptPlaces};
+ghost use Rattle.tverdict.specs.Opening.{CanOpen, HasPlacesInOrder};
 ghost use Rattle.tverdict.specs.Opening.{fresh_after};
 ghost use Rattle.tverdict.specs.Opening as spec;
 
+use crate::agent::Agent;
 use crate::finding::found_agents;
 use crate::hints::AgentHints;
 use crate::idle::Idle;
@@ -122,6 +123,42 @@ fn all_numbers(alloc: Global, agents: usize) -> Result<Vec<u32>, AllocError>
     Ok(numbers)
 }
 
+/// The agents that there are before the first step, and what is kept of them.
+#[derive(Drop)]
+struct CheckedAgents {
+    agents: Vec<Agent>,
+    hints: AgentHints,
+    check: RaceCheck,
+    candidates: Vec<u32>,
+}
+
+/// All agents that there are before the first step, with a check of them and of so many places. Each may have a step.
+///
+/// # Errors
+/// Where the allocator refuses, or there are too many.
+fn checked_agents(
+    alloc: Global,
+    wires: &Wires,
+    nodes: &[Node],
+    places: u32,
+) -> Result<CheckedAgents, AllocError>
+    ensures agents { IfOk result (λ found. AreAgents wires.now nodes.now found.agents.items) }
+    ensures check { IfOk result (λ found. found.check ≡ spec.first_check places (length found.agents.items)) }
+    ensures candidates { IfOk result
+        (λ found. found.candidates.items ≡ range_with_len 0 (length found.agents.items)) }
+{
+    let agents = found_agents(alloc, wires, nodes)?;
+    let hints = AgentHints::of_list(alloc, agents.as_slice())?;
+    let candidates = all_numbers(alloc, agents.len())?;
+    let check = first_check(alloc, places, agents.len())?;
+    Ok(CheckedAgents {
+        agents,
+        hints,
+        check,
+        candidates,
+    })
+}
+
 /// The number so many places behind another, if it fits.
 fn place_behind(place: u32, count: usize) -> Option<u32>
     ensures { IfSome result (λ behind. behind ≡ place + count) }
@@ -161,22 +198,19 @@ impl Machine {
         let Some((first_sink, fresh_place)) = script_places(plan, first_script) else {
             return Err(AllocError);
         };
+        let idle = Idle::new(alloc)?;
         let sent = vec![in alloc; 0; plan.sources.as_slice().len()]?;
         let sinks = empty_sinks(alloc, plan.sinks.as_slice(), first_sink)?;
-        let agents = found_agents(alloc, &wires, nodes.as_slice())?;
-        let check = first_check(alloc, fresh_place, agents.len())?;
-        let candidates = all_numbers(alloc, agents.len())?;
-        let hints = AgentHints::of_list(alloc, agents.as_slice())?;
-        let idle = Idle::new(alloc)?;
+        let found = checked_agents(alloc, &wires, nodes.as_slice(), fresh_place)?;
         Ok(Machine {
             nodes,
             sent,
             sinks,
             wires,
-            agents,
-            hints,
-            check,
-            candidates,
+            agents: found.agents,
+            hints: found.hints,
+            check: found.check,
+            candidates: found.candidates,
             first_script,
             fresh_place,
             done: 0,

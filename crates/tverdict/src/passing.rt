@@ -252,6 +252,7 @@ impl Machine {
     ///
     /// # Errors
     /// Those of `end_pass`.
+    #[inline(never)]
     pub(crate) fn wire_step(
         &mut self,
         alloc: Global,

@@ -21,7 +21,7 @@ impl Machine {
     /// # Errors
     /// `Stops` where the step stops; `Race` with the first of its accesses that races with an earlier one;
     /// `OutOfMemory` where the allocator refuses, or a number would not fit.
-    #[inline]
+    #[inline(always)]
     pub fn step(&mut self, alloc: Global, plan: &Plan, number: u32) -> Result<(), Halt>
         requires follows { Follows plan.now self.old }
         requires step { HasStep plan.now self.old number }
@@ -42,6 +42,7 @@ impl Machine {
     ///
     /// # Errors
     /// Those of `end_call`.
+    #[inline(always)]
     fn process_step(
         &mut self,
         alloc: Global,
@@ -61,10 +62,12 @@ impl Machine {
         let outcome = do_process(at, alloc, &mut self.idle, fresh_place, process);
         self.end_call(number, node, counts, outcome)
     }
+
     /// The step of a channel, which is the agent of this number.
     ///
     /// # Errors
     /// Those of `end_call`.
+    #[inline(never)]
     fn channel_step(&mut self, number: u32, node: u32, channel: u32) -> Result<(), Halt>
         requires open { (plan : Plan) × Follows plan self.old × HasStep plan self.old number }
         requires agent { slice_get self.old.agents.items number ≡ Some (agents.Channel node channel) }
@@ -83,6 +86,7 @@ impl Machine {
     ///
     /// # Errors
     /// Those of `end_call`.
+    #[inline(never)]
     fn successor_step(
         &mut self,
         alloc: Global,

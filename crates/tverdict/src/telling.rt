@@ -90,6 +90,7 @@ fn tell_notes(check: &mut RaceCheck, step: Step, notes: &[Note]) -> Result<(), H
 ///
 /// # Errors
 /// Those of `tell_notes`; `OutOfMemory` where the agent has done as many steps as a check can count.
+#[inline(always)]
 pub(crate) fn tell_step(check: &mut RaceCheck, number: u32, notes: &[Note]) -> Result<(), Halt>
     requires agent { number < length check.old.clocks }
     requires slot { number < length check.old.slots }

@@ -31,6 +31,7 @@ impl Machine {
     ///
     /// # Errors
     /// Where the allocator refuses, or a number does not fit. Then nothing is told of the machine.
+    #[inline(always)]
     pub fn turn(&mut self, alloc: Global, plan: &Plan) -> Result<Turn, AllocError>
         requires { Follows plan.now self.old }
         ensures { IfOk result (λ turn. IsTurned plan.now self.old turn self.new) }

@@ -1,10 +1,9 @@
-use Rattle.std.proofs.Common.{◌≡◌, ◌∙◌, ℕ, List, ap, arith, length, refl, replicate, subst, vec_len}
-use Rattle.std.specs.List.{range_with_len}
+use Rattle.std.proofs.Common.{◌∙◌, ℕ, List, ap, length, refl, replicate, subst}
 use Rattle.tplan.specs.declared.plan.SinkPlan.{SinkPlan}
 use Rattle.tplan.specs.declared.plan.SourcePlan.{SourcePlan}
 use Rattle.tplan.specs.declared.plan.Wire.{Wire}
 use Rattle.tcertify.specs.declared.node.Node.{Node}
-use Rattle.tverdict.specs.Opening.{AreAgents, AreEmpty, first_check, fresh_after}
+use Rattle.tverdict.specs.Opening.{AreAgents, AreEmpty, fresh_after}
 use Rattle.tverdict.proofs.Starting.{at_start}
 use Rattle.tverdict.proofs.machine.Machine.with_nodes.Goals as goal
 
@@ -21,13 +20,11 @@ returns-clause-places c =
 
 pub returns-clause-start : goal.returns-clause-start
 returns-clause-start c =
-    let agents = c.in_ok-agents.agents in
-    let count : vec_len agents ≡ length agents.items = omega (arith, agents.ok.0) in
+    let found = c.in_ok-found.found in
     at_start c.args.plan.now _ (returns-clause-places c)
     (c.in_ok-sent.ensures.items_if_clones_equal (λ y e. e)
     ∙ ap (λ (s : List SourcePlan). replicate (length s) 0) c.as_slice-2.ensures) c.requires.wires
-    (subst (λ (w : List Wire). AreAgents w c.args.nodes.items agents.items) c.requires.wires
-    (subst (λ (n : List Node). AreAgents c.args.wires n agents.items) c.as_slice-4.ensures.value
-    c.in_ok-agents.ensures))
-    (c.in_ok-check.ensures ∙ ap (first_check c.in-Some.fresh_place) (c.len.ensures ∙ count))
-    (c.in_ok-candidates.ensures ∙ ap (range_with_len 0) (c.len-2.ensures ∙ count)) c.in-Some.ensures.fits refl
+    (subst (λ (w : List Wire). AreAgents w c.args.nodes.items found.agents.items) c.requires.wires
+    (subst (λ (n : List Node). AreAgents c.args.wires n found.agents.items) c.as_slice-4.ensures.value
+    c.in_ok-found.ensures.agents))
+    c.in_ok-found.ensures.check c.in_ok-found.ensures.candidates c.in-Some.ensures.fits refl
