@@ -20,8 +20,8 @@ use twhere::put_word;
 use tword::limits::MOST_NODES;
 use tword::{Break, Word};
 
-/// How many rows are drawn at full size. A picture of more is a third smaller, so it is at most 32,129 pixels high: some
-/// viewers draw none above 32,767.
+/// How many rows are drawn at full size. A picture of more is a third smaller, so it is at most 32,129 pixels high:
+/// some viewers draw none above 32,767.
 const MOST_FULL_ROWS: u32 = 1_300;
 
 /// Writes a picture as SVG (own choice of format, `specs/Drawing`). It takes no memory.

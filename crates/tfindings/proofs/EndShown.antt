@@ -148,8 +148,8 @@ end_shown plan m sound =
     let many : length m.nodes.items ≡ length plan.nodes = sound.nodes.many in
     ap₂ (λ (a b : List ℕ). a ++ b)
     (alike kept_node (node_text (machine_at plan m)) 0 m.nodes.items plan.nodes many (λ j x y a b. node j x y a b))
-    (ap (λ (n : ℕ). sent_from n plan.sources m.sent.items ++ each_from kept_sink (n + length plan.sources) m.sinks.items)
-    many
+    (ap (λ (n : ℕ). sent_from n plan.sources m.sent.items
+    ++ each_from kept_sink (n + length plan.sources) m.sinks.items) many
     ∙ ap₂ (λ (a b : List ℕ). a ++ b)
     (sources_shown (source_text (machine_at plan m)) (length plan.nodes) plan.sources m.sent.items sound.sent
     (λ j p a. source_shown plan m.nodes.items m.sent.items m.sinks.items j p a))

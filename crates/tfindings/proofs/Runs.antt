@@ -123,7 +123,8 @@ opened_plan p h =
 due_as : (p : Plan) (f : BuildFault) → fault_of p ≡ Some f → as_opened (built p) ≡ Err (fault.Net f)
 due_as p f h = ap (λ (g : Option BuildFault). as_opened (unless_fault (opening_net p) g)) h
 
-settled_due : (p : Plan) (f : BuildFault) → IsPlanFault (fault_of p) f → IsFaultOf (as_opened (built p)) (settled (fault.Net f))
+settled_due : (p : Plan) (f : BuildFault) → IsPlanFault (fault_of p) f
+    → IsFaultOf (as_opened (built p)) (settled (fault.Net f))
 settled_due p build.OutOfMemory h = tt
 settled_due p build.TooMany h = due_as p build.TooMany (h (λ e. cc))
 settled_due p (build.BadSize n) h = due_as p (build.BadSize n) (h (λ e. cc))

@@ -111,7 +111,8 @@ outcome_of (finding.Race place earlier last) = Marked
 outcome_of _ = Cut
 
 -- such a run was made of the plan of a wiring and the files of its images
-pub record IsRunOf (w : Wiring) (files : List (List ℕ)) (most : ℕ) (plan : Plan) (m : Machine) (f : Finding) : Type 0 where
+pub record IsRunOf (w : Wiring) (files : List (List ℕ)) (most : ℕ) (plan : Plan) (m : Machine) (f : Finding)
+    : Type 0 where
   pub planned : IsPlanOf w files plan
   pub run : HasRun plan most m f
 
@@ -124,7 +125,8 @@ pub record IsFindingText (w : Wiring) (files : List (List ℕ)) (most : ℕ) (na
   pub is : text ≡ finding_text names plan machine f
 
 -- such a text is written, and the command comes to what it tells
-abbrev pub HasFound : Wiring → List (List ℕ) → ℕ → List NodeNames → Option (List ℕ) → Option (List ℕ) → outcomes.Verdict → Type 0
+abbrev pub HasFound : Wiring → List (List ℕ) → ℕ → List NodeNames → Option (List ℕ) → Option (List ℕ)
+    → outcomes.Verdict → Type 0
 HasFound w files most names old new outcome =
     (f : Finding) × (text : List ℕ) × IsFindingText w files most names f text × Appends old new text
     × (outcome ≡ outcome_of f)

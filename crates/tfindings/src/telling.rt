@@ -28,8 +28,8 @@ use tverdict::{Agent, Machine};
 use twhere::put_word;
 use tword::Items;
 
-/// What was found of a plan, by the machine as the run left it (own choice of format). body: the lines of the steps that
-/// are told.
+/// What was found of a plan, by the machine as the run left it (own choice of format). body: the lines of the steps
+/// that are told.
 fn put_finding<W: CountedWrite>(
     out: &mut Output<'_, W>,
     names: &[NodeNames],

@@ -1,6 +1,6 @@
 -- Bytes of which one has changed, one after another.
-use Rattle.std.proofs.Common.{◌≡◌, ℕ, suc, ◌+◌, ◌<◌, ◌≤◌, ap, ap₂, List, length, get_or, drop, add-one, drop-cons, Option}
-use Rattle.std.proofs.Common.{false}
+use Rattle.std.proofs.Common.{◌≡◌, ℕ, suc, ◌+◌, ◌<◌, ◌≤◌, ap, ap₂, List, length, get_or, drop, add-one, drop-cons}
+use Rattle.std.proofs.Common.{Option, false}
 use Rattle.std.specs.Prelude.{◌||◌}
 use Rattle.std.proofs.Math.ListN.{drop_of_length-le}
 use Rattle.std.proofs.lemmas.List.FromFn.{length-map-range_with_len}

@@ -92,8 +92,8 @@ halts_alike : (named : ℕ → List ℕ → List ℕ) (k : ℕ) (es : List Event
 halts_alike named k [] a b sound_a sound_b same = refl
 halts_alike named k (e ∷ es) a b sound_a sound_b same =
     ap₂ (λ (d : Done) (rest : List ℕ). halts.event_text named k d ++ rest) (told a b sound_a sound_b same e)
-    (halts_alike named (suc k) es (net_behind a e) (net_behind b e) (sound_behind a e sound_a) (sound_behind b e sound_b)
-    (stays a b sound_a sound_b same e))
+    (halts_alike named (suc k) es (net_behind a e) (net_behind b e) (sound_behind a e sound_a)
+    (sound_behind b e sound_b) (stays a b sound_a sound_b same e))
 
 pub halts_are_of_the_view : HaltsAreOfTheView
 halts_are_of_the_view named es a b sound_a sound_b same = halts_alike named 0 es a b sound_a sound_b same

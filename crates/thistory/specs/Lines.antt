@@ -49,7 +49,8 @@ far_text None = codes "none"
 abbrev pub link_text : List ℕ → (link : ℕ) → List ℕ → Option End → List ℕ
 link_text word l way far = word ++ (codes " link " ++ (decimal l ++ (way ++ far_text far)))
 
--- an instruction by its process, a dispatch by the process that runs behind it, and a packet by its link and the far end
+-- an instruction by its process, a dispatch by the process that runs behind it, and a packet by its link and the far
+-- end
 abbrev pub who_text : (ℕ → Option End) → Deed → Option Machine → List ℕ
 who_text far (deed.Instruction process iptr fetched) m = codes " run  " ++ word_text process
 who_text far deed.Dispatch m = codes " run  " ++ process_text m
@@ -110,7 +111,7 @@ head_text k far deed m = number_text k ++ who_text far deed m
 abbrev pub tail_text : Done → Option Machine → List ℕ
 tail_text d m = how_text d.deed m ++ line (outcome_text d.answer)
 
--- the line of an event that was done, with this in its middle, by its number, the far ends of the links of its node, and
--- the processor of that node behind it
+-- the line of an event that was done, with this in its middle, by its number, the far ends of the links of its node,
+-- and the processor of that node behind it
 abbrev pub event_line : (middle : List ℕ) → ℕ → (ℕ → Option End) → Done → Option Machine → List ℕ
 event_line middle k far d m = head_text k far d.deed m ++ (middle ++ tail_text d m)

@@ -1,7 +1,7 @@
 -- The history of a node: a line for each of its events.
 -- Source: own choice, a format of this program.
-use Rattle.std.specs.Prelude.{ℕ, suc, Bool, true, false, ◌&&◌, ◌==◌, nat_le, nat_lt, List, [], ◌∷◌, ◌++◌, filter, length, codes}
-use Rattle.std.specs.Prelude.{Option, Some, None, Result, Ok, Err, if◌then◌else◌}
+use Rattle.std.specs.Prelude.{ℕ, suc, Bool, true, false, ◌&&◌, ◌==◌, nat_le, nat_lt, List, [], ◌∷◌, ◌++◌, filter}
+use Rattle.std.specs.Prelude.{length, codes, Option, Some, None, Result, Ok, Err, if◌then◌else◌}
 use Rattle.hex.specs.Hex.{encode_lower}
 use Rattle.tcpu.specs.declared.registers.Registers.{Registers}
 use Rattle.tproc.specs.Machine.{Machine}

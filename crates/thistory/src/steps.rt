@@ -28,8 +28,8 @@ pub struct Asked {
     pub last: u64,
 }
 
-/// Does events on a net, and writes a line for each that is asked for (own choice of format, `specs/Steps`). One that is
-/// not enabled changes nothing, and is not told. It takes no memory.
+/// Does events on a net, and writes a line for each that is asked for (own choice of format, `specs/Steps`). One that
+/// is not enabled changes nothing, and is not told. It takes no memory.
 pub fn put_steps<W: CountedWrite>(
     out: &mut Output<'_, W>,
     net: &mut Net,

@@ -31,9 +31,9 @@ pub struct Place {
     pub length: u32,
 }
 
-/// Does events on a net, and writes what stood at a place before them, and a line for each event that changed one of its
-/// bytes (own choice of format, `specs/Watch`). An event that is not enabled changes nothing. The room, as many bytes
-/// as there are to watch, is written over. It takes no memory.
+/// Does events on a net, and writes what stood at a place before them, and a line for each event that changed one of
+/// its bytes (own choice of format, `specs/Watch`). An event that is not enabled changes nothing. The room, as many
+/// bytes as there are to watch, is written over. It takes no memory.
 pub fn put_watch<W: CountedWrite>(
     out: &mut Output<'_, W>,
     net: &mut Net,

@@ -97,7 +97,8 @@ zip-none (n ∷ ns) = refl
 pub plans-more : (ns : List WiringNode) (ys : List Image) (y : Image) (d : WiringNode) → length ys < length ns
     → map node_of (zip ns (ys ++ y ∷ [])) ≡ map node_of (zip ns ys) ++ node_of (get_or ns (length ys) d, y) ∷ []
 plans-more [] ys y d l = absurd (omega (arith, l))
-plans-more (n ∷ ns) [] y d l = ap (λ (rest : List (WiringNode × Image)). node_of (n, y) ∷ map node_of rest) (zip-none ns)
+plans-more (n ∷ ns) [] y d l =
+    ap (λ (rest : List (WiringNode × Image)). node_of (n, y) ∷ map node_of rest) (zip-none ns)
 plans-more (n ∷ ns) (x ∷ ys) y d l =
     ap (λ (rest : List NodePlan). node_of (n, x) ∷ rest) (plans-more ns ys y d (omega (arith, l)))
 

@@ -1,5 +1,5 @@
--- Faults: which are want of memory, and the exit statuses of all of them; which fault is answered, and what has gone out
--- then.
+-- Faults: which are want of memory, and the exit statuses of all of them; which fault is answered, and what has gone
+-- out then.
 -- Source: own choice.
 use Rattle.std.specs.Prelude.{ℕ, ◌≡◌, Bool, true, false, if◌then◌else◌, List, Option, Result, Err, IsOk, IsOkAnd}
 use Rattle.tplan.specs.declared.plan.BuildFault.TheVariants as build

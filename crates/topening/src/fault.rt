@@ -1,7 +1,8 @@
 //! Why a command printed nothing, or not all.
 
 ghost use Rattle.std.specs.Prelude.{◌≡◌};
-ghost use Rattle.topening.specs.declared.fault.Fault.TheVariants.{Log, Memory, Names, Net, Output, Replay, Rounds, Wiring};
+ghost use Rattle.topening.specs.declared.fault.Fault.TheVariants.{Log, Memory, Names, Net, Output, Replay, Rounds};
+ghost use Rattle.topening.specs.declared.fault.Fault.TheVariants.{Wiring};
 ghost use Rattle.topening.specs.Faults as spec;
 
 use std::alloc::{AllocError, AllocFailed};

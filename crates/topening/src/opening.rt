@@ -72,19 +72,22 @@ fn source_plans(alloc: Global, sources: &[SourcePlan]) -> Result<Items<SourcePla
     for source in sources {
         copies.push(SourcePlan {
             end: source.end,
-            messages: messages(alloc, source.messages.as_slice())?,
+            messages: copied_lists(alloc, source.messages.as_slice())?,
         })?;
     }
     Ok(Items::new(copies))
 }
 
-/// A copy of the messages.
-fn messages(alloc: Global, messages: &[Items<u8>]) -> Result<Items<Items<u8>>, AllocError>
-    ensures { IfOk result (λ copies. copies ≡ messages.now) }
+/// Copies of lists of bytes, such as messages or the bytes of files.
+///
+/// # Errors
+/// Where the allocator refuses.
+pub fn copied_lists(alloc: Global, lists: &[Items<u8>]) -> Result<Items<Items<u8>>, AllocError>
+    ensures { IfOk result (λ copies. copies ≡ lists.now) }
 {
-    let mut copies = Vec::with_capacity(alloc, messages.len())?;
-    for message in messages {
-        copies.push(Items::new(Vec::from_slice(alloc, message.as_slice())?))?;
+    let mut copies = Vec::with_capacity(alloc, lists.len())?;
+    for list in lists {
+        copies.push(Items::new(Vec::from_slice(alloc, list.as_slice())?))?;
     }
     Ok(Items::new(copies))
 }

@@ -1,5 +1,6 @@
 -- What tests of the entries of a process table tell of those that wait.
-use Rattle.std.proofs.Common.{◌≡◌, ◌||◌, suc, refl, sym, ap, arith, Bool, false, List, [], ◌∷◌, length, Option, Some, None, is_some}
+use Rattle.std.proofs.Common.{◌≡◌, ◌||◌, suc, refl, sym, ap, arith, Bool, false, List, [], ◌∷◌, length, Option, Some}
+use Rattle.std.proofs.Common.{None, is_some}
 use Rattle.std.specs.Prelude.{filter_map, nat_lt}
 use Rattle.std.specs.List.{cons_option, list_any}
 use Rattle.std.specs.Option.{option_map_or}

@@ -14,7 +14,8 @@ use Rattle.tword.specs.declared.breaks.Break.{Break}
 use Rattle.tnet.specs.Rendezvous.{Node, Configuration}
 use Rattle.treduction.specs.Ends.{NoneFrozen, HasFrozen}
 use Rattle.toutcomes.specs.declared.telling.Telling.{Telling}
-use Rattle.toutcomes.specs.Tellings.{agree, freeze_from, freeze_or, freeze_text, is_one, telling, tellings, with_telling}
+use Rattle.toutcomes.specs.Tellings.{agree, freeze_from, freeze_or, freeze_text, is_one, telling, tellings}
+use Rattle.toutcomes.specs.Tellings.{with_telling}
 
 -- ---- lists
 
@@ -30,7 +31,8 @@ pub contains_later : {A : Type 0} (x y : A) (ys : List A) → Contains ys x → 
 contains_later x y ys (k, within, is) = (suc k, omega (arith, within), is)
 
 -- one of a list has something
-found : {A : Type 0} (test : A → Bool) (xs : List A) → list_any test xs ≡ true → (x : A) × Contains xs x × (test x ≡ true)
+found : {A : Type 0} (test : A → Bool) (xs : List A) → list_any test xs ≡ true
+    → (x : A) × Contains xs x × (test x ≡ true)
 found test [] e = absurd (true≢false (sym e))
 found {A = A} test (x ∷ xs) e = by (test x) refl e (found test xs)
   where
@@ -132,7 +134,8 @@ from_one x t told h = by (list_any (λ earlier. is_one earlier x) told) h
     by true h = inl h
     by false h = Contains-push_cases told x t h
 
-from_all : (ts told : List Telling) (t : Telling) → Contains (fold with_telling told ts) t → Contains told t ⊎ Contains ts t
+from_all : (ts told : List Telling) (t : Telling) → Contains (fold with_telling told ts) t
+    → Contains told t ⊎ Contains ts t
 from_all [] told t h = inl h
 from_all (x ∷ xs) told t h = elim (from_all xs (with_telling told x) t h) [
   | inl earlier ↦ elim (from_one x t told earlier) [
@@ -206,7 +209,8 @@ pub works_is_told : (w : Configuration) → NoneFrozen w → (telling w).is_free
 works_is_told w works = rw (none_from 0 w.nodes works) refl
 
 pub freeze_is_told : (w : Configuration) → HasFrozen w → (telling w).is_freeze ≡ true
-freeze_is_told w frozen = rw (some_from 0 frozen.place w.nodes frozen.node frozen.break frozen.here frozen.frozen).1 refl
+freeze_is_told w frozen =
+    rw (some_from 0 frozen.place w.nodes frozen.node frozen.break frozen.here frozen.frozen).1 refl
 
 -- an outcome that is shown is told
 pub outcome_is_told : (shown : List Configuration) (w : Configuration) → Contains shown w → NoneFrozen w

@@ -1,6 +1,7 @@
 -- Explorations that are printed with where the net stands at each outcome, in place of its dump.
 -- Source: own choice, a format of this program; where a net stands is printed as `where` prints it.
-use Rattle.std.specs.Prelude.{ℕ, suc, ◌≡◌, List, [], ◌∷◌, ◌++◌, Option, Some, None, Ok, slice_get, take, length, unwrap_or}
+use Rattle.std.specs.Prelude.{ℕ, suc, ◌≡◌, List, [], ◌∷◌, ◌++◌, Option, Some, None, Ok, slice_get, take, length}
+use Rattle.std.specs.Prelude.{unwrap_or}
 use Rattle.std.specs.List.{AllZip}
 use Rattle.std.specs.Io.KnownBytes.{Appends}
 use Rattle.tplan.specs.declared.event.Event.{Event}

@@ -1,4 +1,5 @@
--- What `steps` and `watch` answer and write: the history of a node, or of some of its bytes, as the events of a log are done.
+-- What `steps` and `watch` answer and write: the history of a node, or of some of its bytes, as the events of a log are
+-- done.
 -- Source: own choice.
 use Rattle.std.specs.Prelude.{ℕ, ℤ, Bool, false, not, List, [], ◌++◌, length, map, find, Option, Some, None, option_map}
 use Rattle.std.specs.Prelude.{Result, Ok, Err}

@@ -49,7 +49,8 @@ abbrev pub reached_log : List NodeNames → Wiring → List (List ℕ) → Resul
 reached_log names w files (Ok events) = reached_of names w files events
 reached_log names w files (Err f) = Err f
 
--- what the first events of the bytes of a log lead to, or the first fault; a bad line behind these events is a fault too
+-- what the first events of the bytes of a log lead to, or the first fault; a bad line behind these events is a fault
+-- too
 abbrev pub log_reached_of : List NodeNames → Wiring → List (List ℕ) → ℤ → List ℕ → Result Reached Fault
 log_reached_of names w files most log = reached_log names w files (as_log (first_events most (log_of log)))
 

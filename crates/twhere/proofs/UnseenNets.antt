@@ -1,6 +1,7 @@
 -- The text of a net is the same where the buffers of pending inputs are hidden.
 use Rattle.std.proofs.Common.{◌≡◌, ℕ, zero, suc, ◌+◌, ◌%◌, ◌<◌, refl, sym, ap, ap₂, ◌∙◌, List, [], ◌∷◌, ◌++◌}
-use Rattle.std.proofs.Common.{length, get_or, true, Bool, Option, Some, None, Result, arith, subst, drop, take, length-append}
+use Rattle.std.proofs.Common.{length, get_or, true, Bool, Option, Some, None, Result, arith, subst, drop, take}
+use Rattle.std.proofs.Common.{length-append}
 use Rattle.std.specs.Prelude.{All, codes, fold, map, ◌==◌}
 use Rattle.std.specs.List.{list_any, position_or_len}
 use Rattle.std.specs.Prelude.{nat_le, if◌then◌else◌}

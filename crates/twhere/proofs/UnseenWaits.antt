@@ -17,8 +17,8 @@ use Rattle.twhere.specs.declared.waits.Wait.{Wait}
 use Rattle.twhere.specs.declared.waits.Want.{Want}
 use Rattle.twhere.specs.declared.waits.Want.TheVariants.{Output, Input, Alternative}
 use Rattle.twhere.specs.Waits.{lack, lack_at, lack_there, sink_waits, source_waits, waiter_waits}
-use Rattle.twhere.specs.Standing.{by_descriptor, lack_text, lacking_text, node_stuck, role_stuck, stuck_fact, stuck_facts}
-use Rattle.twhere.specs.Standing.{wait_text, who_text}
+use Rattle.twhere.specs.Standing.{by_descriptor, lack_text, lacking_text, node_stuck, role_stuck, stuck_fact}
+use Rattle.twhere.specs.Standing.{stuck_facts, wait_text, who_text}
 use Rattle.twhere.specs.Unseen.{hidden_net, hidden_node}
 
 -- what is lacking at a far end

@@ -64,8 +64,8 @@ is_met Output far l = is_some (input_at far l)
 is_met Input far l = is_some (output_at far l)
 is_met Alternative far l = is_some (output_at far l)
 
--- what is lacking at the far end: its node is frozen; or both halves are pending, so that in a quiet net a sink is full;
--- or its node has halted; or the other half is not there
+-- what is lacking at the far end: its node is frozen; or both halves are pending, so that in a quiet net a sink is
+-- full; or its node has halted; or the other half is not there
 abbrev pub lack_there : Want → End → NodeState → Lack
 lack_there want e far =
     if is_some far.broken then Frozen e.node

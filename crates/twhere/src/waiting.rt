@@ -43,7 +43,8 @@ fn put_waiter<W: CountedWrite>(out: &mut Output<'_, W>, at: &ProcessorNode<'_>, 
 
 /// What a process waits for.
 fn put_reason<W: CountedWrite>(out: &mut Output<'_, W>, at: &ProcessorNode<'_>, reason: Reason)
-    ensures { Tells W.contents W.failures out.old out.new (spec.reason_text at.now.net.now at.now.number at.now.node.now reason) }
+    ensures { Tells W.contents W.failures out.old out.new
+        (spec.reason_text at.now.net.now at.now.number at.now.node.now reason) }
 {
     match reason {
         Reason::Receives {

@@ -13,7 +13,8 @@ returns-in-Race g c =
     (tells_then (tells_as c.put_of_node.ensures
     (ap₂ (text_of_node c.args.names.now) c.node_of_place.ensures c.requires.body)) c.put_last.ensures))
     (ap (λ (f : Finding). line (codes "race")
-    ++ (text_of_node c.args.names.now (node_of_place c.args.machine.now c.in-Race.place) (body_text c.args.machine.now f)
+    ++ (text_of_node c.args.names.now (node_of_place c.args.machine.now c.in-Race.place)
+    (body_text c.args.machine.now f)
     ++ last_text (codes "race") c.args.machine.now.done)) c.in-Race.is
     ∙ ap (finding_text c.args.names.now c.args.plan.now c.args.machine.now) (sym c.in-Race.is))
 

@@ -28,7 +28,8 @@ pub loop-number-preserved : goal.loop-number-preserved
 loop-number-preserved g c =
     let more : c.loop-number.number < length c.args.events.now = omega arith in
     let own = own_next c.args.asked.now.node c.loop-number.number c.args.events.now none more in
-    let count : c.less_own-behind.result ≡ own_count c.args.asked.now.node (drop (c.loop-number.number + 1) c.args.events.now) =
+    let count : c.less_own-behind.result
+    ≡ own_count c.args.asked.now.node (drop (c.loop-number.number + 1) c.args.events.now) =
     omega (arith, own, c.loop-number.invariant.count, c.less_own-behind.ensures) in
     record {
       text = goes_on-next _ _ c.loop-number.invariant.text

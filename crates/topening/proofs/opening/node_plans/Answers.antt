@@ -86,5 +86,5 @@ returns c =
     let t = YieldsList-end all c.loop-file.yielded c.loop-file.file-iterator c.loop-file.yielded_by c.next.result
     c.next.new.self c.in-None.is c.next.ensures.steps in
     rw c.new.ensures
-    (all_planned c.args.nodes.now c.args.files (length c.loop-file.yielded) c.loop-file.plans.items c.loop-file.invariant
-    (omega (arith, t)))
+    (all_planned c.args.nodes.now c.args.files (length c.loop-file.yielded) c.loop-file.plans.items
+    c.loop-file.invariant (omega (arith, t)))

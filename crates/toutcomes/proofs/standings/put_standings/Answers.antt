@@ -17,4 +17,5 @@ loop-place-preserved g c =
 pub returns : goal.returns
 returns g c =
     goes_on-end c.loop-place.invariant
-    (standings_over c.loop-place.place c.args.outcomes.now c.args.standings.now (omega (arith, c.loop-place-test.false)))
+    (standings_over c.loop-place.place c.args.outcomes.now c.args.standings.now
+    (omega (arith, c.loop-place-test.false)))

@@ -9,5 +9,6 @@ loop-number-preserved c =
 
 pub returns-in-Some : goal.returns-in-Some
 returns-in-Some c =
-    ap Some c.in_ok-freeze_text.ensures ∙ sym (freeze_here c.loop-number.number c.args.state.now.nodes c.site-site.result.now
-    c.in-Some.broken c.site-site.ensures (sym c.broken.ensures ∙ c.in-Some.is) c.loop-number.invariant)
+    ap Some c.in_ok-freeze_text.ensures
+    ∙ sym (freeze_here c.loop-number.number c.args.state.now.nodes c.site-site.result.now c.in-Some.broken
+    c.site-site.ensures (sym c.broken.ensures ∙ c.in-Some.is) c.loop-number.invariant)

@@ -16,8 +16,8 @@ returns-clause-answer g c =
     let new = g.W.Write.contents c.write_run.new.out in
     let what = c.args.printing in
     let by_end : Appends old new (printed_run what c.as_slice-notes.result.now told.net (Turns (is_quiet told.net))) =
-    subst (λ (e : RunEnd). Appends old new (printed_run what c.as_slice-notes.result.now told.net e)) c.end_of-end.ensures
-    c.in_ok-write_run.ensures.out in
+    subst (λ (e : RunEnd). Appends old new (printed_run what c.as_slice-notes.result.now told.net e))
+    c.end_of-end.ensures c.in_ok-write_run.ensures.out in
     let text : Appends old new (printed_run what told.notes told.net (Turns (is_quiet told.net))) =
     subst (λ (n : List Note). Appends old new (printed_run what n told.net (Turns (is_quiet told.net))))
     c.as_slice-notes.ensures by_end in

@@ -5,4 +5,5 @@ use Rattle.twhere.proofs.facts.put_if.Goals as goal
 
 pub returns-else-condition : goal.returns-else-condition
 returns-else-condition g c =
-    tells_as (tells_none c.args.out.now) (ap (λ (b : Bool). if b then c.args.text.now else []) (sym c.if-condition.false))
+    tells_as (tells_none c.args.out.now)
+    (ap (λ (b : Bool). if b then c.args.text.now else []) (sym c.if-condition.false))

@@ -25,4 +25,5 @@ returns g c =
     (tells_as c.put_queue-2.ensures
     (ap₂ (λ (n : Machine) (q : List ℕ). queue_facts (codes "  low queue     ") n q) machine c.as_slice-2.ensures))
     (tells_as c.put_waiting.ensures
-    (ap (λ (ws : List Waiter). waiting_facts c.args.at.now.net.now c.args.at.now.number c.args.at.now.node.now ws) c.as_slice-3.ensures))))))
+    (ap (λ (ws : List Waiter). waiting_facts c.args.at.now.net.now c.args.at.now.number c.args.at.now.node.now ws)
+    c.as_slice-3.ensures))))))

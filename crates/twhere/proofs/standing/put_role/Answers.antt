@@ -7,12 +7,12 @@ use Rattle.twhere.proofs.standing.put_role.Goals as goal
 pub returns-in-Source : goal.returns-in-Source
 returns-in-Source g c =
     tells_as c.put_source.ensures
-    (source_told c.args.node.now.role c.args.net.now c.args.number c.args.node.now c.in-Source.source.now c.args.listed.now refl
-    c.in-Source.ensures.0 c.in-Source.ensures.1)
+    (source_told c.args.node.now.role c.args.net.now c.args.number c.args.node.now c.in-Source.source.now
+    c.args.listed.now refl c.in-Source.ensures.0 c.in-Source.ensures.1)
 
 pub returns-in-Sink : goal.returns-in-Sink
 returns-in-Sink g c =
     tells_as c.put_sink_line.ensures
     (ap (λ (n : ℕ). sink_line c.args.number n) (c.count.ensures ∙ ap length c.kept.ensures)
-    ∙ sink_told c.args.node.now.role c.args.net.now c.args.number c.args.node.now c.in-Sink.sink.now c.args.listed.now refl
-    c.in-Sink.ensures.0 c.in-Sink.ensures.1)
+    ∙ sink_told c.args.node.now.role c.args.net.now c.args.number c.args.node.now c.in-Sink.sink.now
+    c.args.listed.now refl c.in-Sink.ensures.0 c.in-Sink.ensures.1)

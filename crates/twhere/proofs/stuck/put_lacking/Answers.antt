@@ -12,4 +12,5 @@ returns-in-Some g c =
 pub returns-in_default : goal.returns-in_default
 returns-in_default g c =
     tells_as (tells_none c.args.out.now)
-    (ap (lacking_text c.args.at.now.net.now c.args.at.now.number c.args.at.now.node.now c.args.want) (sym c.in_default.is))
+    (ap (lacking_text c.args.at.now.net.now c.args.at.now.number c.args.at.now.node.now c.args.want)
+    (sym c.in_default.is))

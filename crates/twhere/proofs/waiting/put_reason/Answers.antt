@@ -5,8 +5,8 @@ use Rattle.twhere.proofs.waiting.put_reason.Goals as goal
 
 pub returns-in-Receives : goal.returns-in-Receives
 returns-in-Receives g c =
-    tells_as (tells_then c.put.ensures c.put_channel.ensures) (ap (reason_text c.args.at.now.net.now c.args.at.now.number c.args.at.now.node.now) (sym
-    c.in-Receives.is))
+    tells_as (tells_then c.put.ensures c.put_channel.ensures)
+    (ap (reason_text c.args.at.now.net.now c.args.at.now.number c.args.at.now.node.now) (sym c.in-Receives.is))
 
 pub returns-in-Sends : goal.returns-in-Sends
 returns-in-Sends g c =
@@ -15,12 +15,15 @@ returns-in-Sends g c =
 
 pub returns-in-LinkInput : goal.returns-in-LinkInput
 returns-in-LinkInput g c =
-    tells_as c.put_link_input.ensures (ap (reason_text c.args.at.now.net.now c.args.at.now.number c.args.at.now.node.now) (sym c.in-LinkInput.is))
+    tells_as c.put_link_input.ensures
+    (ap (reason_text c.args.at.now.net.now c.args.at.now.number c.args.at.now.node.now) (sym c.in-LinkInput.is))
 
 pub returns-in-LinkOutput : goal.returns-in-LinkOutput
 returns-in-LinkOutput g c =
-    tells_as c.put_link_output.ensures (ap (reason_text c.args.at.now.net.now c.args.at.now.number c.args.at.now.node.now) (sym c.in-LinkOutput.is))
+    tells_as c.put_link_output.ensures
+    (ap (reason_text c.args.at.now.net.now c.args.at.now.number c.args.at.now.node.now) (sym c.in-LinkOutput.is))
 
 pub returns-in-Chooses : goal.returns-in-Chooses
-returns-in-Chooses g c = tells_as c.put-in-Chooses.ensures (ap (reason_text c.args.at.now.net.now c.args.at.now.number c.args.at.now.node.now) (sym
-    c.in-Chooses.is))
+returns-in-Chooses g c =
+    tells_as c.put-in-Chooses.ensures
+    (ap (reason_text c.args.at.now.net.now c.args.at.now.number c.args.at.now.node.now) (sym c.in-Chooses.is))

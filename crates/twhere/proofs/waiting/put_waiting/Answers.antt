@@ -5,18 +5,20 @@ use Rattle.twhere.specs.Standing.{waiter_fact, waiting_facts}
 use Rattle.twhere.proofs.waiting.put_waiting.Goals as goal
 
 pub loop-waiter-init : goal.loop-waiter-init
-loop-waiter-init g c = goes_on-start c.args.out.now (waiting_facts c.args.at.now.net.now c.args.at.now.number c.args.at.now.node.now c.args.waiting.now)
+loop-waiter-init g c =
+    goes_on-start c.args.out.now
+    (waiting_facts c.args.at.now.net.now c.args.at.now.number c.args.at.now.node.now c.args.waiting.now)
 
 pub loop-waiter-preserved : goal.loop-waiter-preserved
 loop-waiter-preserved g c =
     goes_on-next _ _ c.loop-waiter.invariant
-    (flat_map-next (waiter_fact c.args.at.now.net.now c.args.at.now.number c.args.at.now.node.now) c.args.waiting.now c.loop-waiter.waiter-index
-    c.waiter-item.result
-    c.loop-waiter-test.true)
-    (tells_as c.put_waiter.ensures (ap (waiter_fact c.args.at.now.net.now c.args.at.now.number c.args.at.now.node.now) c.waiter-item.is))
+    (flat_map-next (waiter_fact c.args.at.now.net.now c.args.at.now.number c.args.at.now.node.now) c.args.waiting.now
+    c.loop-waiter.waiter-index c.waiter-item.result c.loop-waiter-test.true)
+    (tells_as c.put_waiter.ensures
+    (ap (waiter_fact c.args.at.now.net.now c.args.at.now.number c.args.at.now.node.now) c.waiter-item.is))
 
 pub returns : goal.returns
 returns g c =
     goes_on-end c.loop-waiter.invariant
-    (flat_map-end (waiter_fact c.args.at.now.net.now c.args.at.now.number c.args.at.now.node.now) c.args.waiting.now c.loop-waiter.waiter-index
-    c.loop-waiter-test.false)
+    (flat_map-end (waiter_fact c.args.at.now.net.now c.args.at.now.number c.args.at.now.node.now) c.args.waiting.now
+    c.loop-waiter.waiter-index c.loop-waiter-test.false)
