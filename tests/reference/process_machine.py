@@ -4,8 +4,8 @@ from channels import is_link
 from images import FUNCTIONS, OPERATION_NAMES, text_of
 from memory import Break, Memory, require
 from net import Sink, Source
-from places import (DECREMENTS, FIRST_VALUES, LAST, REFUSALS, UNKNOWN, Act, Agent, AgentKind, Change, Context, Kind, LinkHalf,
-                    Loan, Message, Place, Standing, Status, Use, Word, cells_of)
+from places import (DECREMENTS, FIRST_VALUES, LAST, REFUSALS, UNKNOWN, Act, Agent, AgentKind, Change, Context, Kind,
+                    LinkHalf, Loan, Message, Place, Standing, Status, Use, Word, cells_of)
 from processes import LOW, MOST_LIVE
 from processor import OPERATE, Processor
 from words import IPTR, LOWEST, MODULUS, NEXT, NOT_PROCESS, STATE, signed, workspace_of

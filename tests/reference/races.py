@@ -111,7 +111,8 @@ def gates_led_through(step):
 
 
 class Verdict(NamedTuple):
-    """What is told of a run: how many steps were done, and its race, or why it is refused, and at which step or node."""
+    """What is told of a run: the number of its steps, and its race, or why it is refused, and at which step or
+    node."""
 
     steps: int
     race: Optional[Race] = None

@@ -82,7 +82,8 @@ among_first (y ∷ ys) (suc i) zero x there = (omega arith, there)
 among_first (y ∷ ys) (suc i) (suc k) x there = let (low, at) = among_first ys i k x there in (omega (arith, low), at)
 
 -- one more with a workspace that none before it has
-pub own_more : (ps : List Process) (q : Process) → (count_by (λ r. workspace_of r.wdesc == workspace_of q.wdesc) ps == 0)
+pub own_more : (ps : List Process) (q : Process)
+    → (count_by (λ r. workspace_of r.wdesc == workspace_of q.wdesc) ps == 0)
     ≡ true → HaveOwnWorkspaces ps → HaveOwnWorkspaces (ps ++ q ∷ [])
 own_more ps q free own i j x y at there same = by (cases_eq (length ps) i) (cases_eq (length ps) j)
   where

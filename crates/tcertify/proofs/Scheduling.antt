@@ -305,7 +305,8 @@ module _ (a : Node) (k : ℕ) (ctx : Context) where
           (λ _. goes_on (name_at a k) (pop (pop (with_child ctx)))) nothing nothing a b f h)
 
       pub starts_so : (c : Node) (left : Context) → left ≡ pop (pop (with_child ctx))
-          → k < length a.processes.items.items → RunsAt (starts (node_site a) (child_of (name_at a k) ctx.children) child) a (Ok tt) b
+          → k < length a.processes.items.items
+          → RunsAt (starts (node_site a) (child_of (name_at a k) ctx.children) child) a (Ok tt) b
           → RunsAt (goes_on (name_at b k) left) b (Ok tt) c
           → RunsAt (starts_child (node_site a) (name_at a k) ctx) a (Ok tt) c
       starts_so c left same inside first h =

@@ -337,7 +337,8 @@ impl Node {
     fn loads_priority(&mut self, process: u32, context: &Context)
         requires { process < length self.old.processes.items.items }
         ensures { RunsAt (standing.goes_on (name_at self.old process)
-            (standing.push (Some (number_of context.now.priority)) (context_of context.now))) self.old (Ok tt) self.new }
+            (standing.push (Some (number_of context.now.priority)) (context_of context.now))) self.old (Ok tt)
+            self.new }
     {
         let priority = priority_word(context.priority);
         self.goes_on(process, &context.push(Some(priority)));

@@ -25,7 +25,8 @@ impl Node {
     /// A look at the word of this number, whatever it is in use for.
     pub(crate) fn look(&mut self, number: usize) -> StoredWord
         requires { number < length self.old.words.items.items }
-        ensures looks { RunsAt (see (WordAt self.old.words.number number)) self.old (Ok (IsWord (word_of result))) self.new }
+        ensures looks { RunsAt (see (WordAt self.old.words.number number)) self.old (Ok (IsWord (word_of result)))
+            self.new }
         ensures words { self.new.words.items.items ≡ self.old.words.items.items }
     {
         self.words.look(number)
@@ -106,8 +107,8 @@ impl Node {
     pub(crate) fn forget_span(&mut self, span: &Span, used: WordUse)
         requires { HasWords (length self.old.words.items.items) span.now }
         ensures { RunsAt (spec.put (node_site self.old) (use_of used) span.now
-            (spec.replaced span.now (span_cells self.old.words span.now) (replicate span.now.size None))) self.old (Ok tt)
-            self.new }
+            (spec.replaced span.now (span_cells self.old.words span.now) (replicate span.now.size None))) self.old
+            (Ok tt) self.new }
     {
         self.words.forget_span(span, used);
     }

@@ -1,5 +1,6 @@
 -- Chains of one byte and of two, by code, operand and length.
-use Rattle.std.proofs.Common.{◌≡◌, ℕ, ◌+◌, ◌/◌, ◌%◌, ◌^◌, ◌<◌, refl, ap, sym, zero, suc, ◌∙◌, true, pos, negsuc, arith, ℤ, length}
+use Rattle.std.proofs.Common.{◌≡◌, ℕ, ◌+◌, ◌/◌, ◌%◌, ◌^◌, ◌<◌, refl, ap, sym, zero, suc, ◌∙◌, true, pos, negsuc, arith}
+use Rattle.std.proofs.Common.{ℤ, length}
 use Rattle.std.proofs.Common.{◌-ℤ◌, ◌*ℤ◌}
 use Rattle.std.proofs.Common.{Option, Some, None, Result, Ok}
 use Rattle.std.specs.Prelude.{if◌then◌else◌, ◌==◌}
@@ -83,7 +84,8 @@ reduced_below (negsuc n) = omega arith
 -- an entry tells what is decoded where its bytes are fetched
 pub known_so : (kind : Kind) (store : Store) (claims : Claims) (e : CodeEntry) → TellsItsBytes e
     → IsFetchedWhole store claims e
-    → Decodes kind e.address (function_at e.code) e.operand e.behind (value_of (run (decode kind e.address) store claims))
+    → Decodes kind e.address (function_at e.code) e.operand e.behind
+    (value_of (run (decode kind e.address) store claims))
 known_so kind store claims e tells fetched = by e.length refl
   where
     Goal : Type 0
@@ -94,12 +96,14 @@ known_so kind store claims e tells fetched = by e.length refl
     by : (n : ℕ) → e.length ≡ n → Goal
     by zero is = rw (tells.none is) tt
     by (suc zero) is =
-        one_byte kind store claims e.address e.first e.operand e.behind (function_at e.code) (fetched.first (omega (arith, is)))
+        one_byte kind store claims e.address e.first e.operand e.behind (function_at e.code)
+        (fetched.first (omega (arith, is)))
         (ap function_at (sym (tells.one is).0)) (tells.one is).1 (tells.behind ∙ ap (plus e.address) is)
     by (suc (suc zero)) is =
         let two : TellsItsChain e = tells.two is in
         two_bytes kind store claims e.address e.first (e.first % 16) (prefix_word e.first) (plus e.address 1) e.second
-        e.operand e.behind (function_at e.code) (fetched.first (omega (arith, is))) two.prefix refl (reduced_below _) refl refl
+        e.operand e.behind (function_at e.code) (fetched.first (omega (arith, is))) two.prefix refl (reduced_below _)
+        refl refl
         (fetched.second (omega (arith, is))) (ap function_at (sym two.code)) two.operand
         (tells.behind ∙ ap (plus e.address) is)
     by (suc (suc (suc n))) is = absurd (omega (arith, is, tells.length))

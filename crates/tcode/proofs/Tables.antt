@@ -68,7 +68,8 @@ marked_on words p a m = by (cases_eq (word_place a) p)
       where
         within : (p < length words) ⊎ (length words ≤ p) → IsMarked (slice_set words p 1) a
         within (inl l) = λ z.
-            let one : 1 ≡ 0 = sym (get_or-set_same words p 1 0 l) ∙ ap (slice_index (slice_set words p 1)) (sym same) ∙ z in
+            let one : 1 ≡ 0 = sym (get_or-set_same words p 1 0 l) ∙ ap (slice_index (slice_set words p 1)) (sym same)
+            ∙ z in
             absurd (omega (arith, one))
         within (inr l) = λ z. m (get_or_past words (word_place a) 0 (omega (arith, same, l)))
 
@@ -133,9 +134,11 @@ apart_by a start size out = by (cases_lt a (start + size)) (cases_lt a start)
     by : (a < start + size) ⊎ (start + size ≤ a) → (a < start) ⊎ (start ≤ a)
         → overlap (byte_span a) (record { start = start; size = size }) ≡ false
     by (inl p) (inr q) = absurd (out q p)
-    by (inr p) q = three (nat_lt 0 size) (nat_lt a (start + size)) (nat_lt start (a + 1)) (inl (le-ltb a (start + size) p))
+    by (inr p) q = three (nat_lt 0 size) (nat_lt a (start + size)) (nat_lt start (a + 1))
+        (inl (le-ltb a (start + size) p))
     by (inl p) (inl q) =
-        three (nat_lt 0 size) (nat_lt a (start + size)) (nat_lt start (a + 1)) (inr (le-ltb start (a + 1) (omega (arith, q))))
+        three (nat_lt 0 size) (nat_lt a (start + size)) (nat_lt start (a + 1))
+        (inr (le-ltb start (a + 1) (omega (arith, q))))
 
 -- the word of an address has a place of its own
 pub placed_by : (a w : ℕ) → a / 4 ≡ w → word_place a ≡ word_place (4 * w)
@@ -174,7 +177,8 @@ module _ (w last : ℕ) (e : CodeEntry) (small : last < 2 ^ 32) (few : w < 2 ^ 3
       → OfEachByte (IsMarked (slice_set words p 0)) e
   unmarked words p here marked = record {
     first = λ l. kept e.address (omega (arith, within.first l, small)) (avoids_five.first l) (marked.first l);
-    second = λ l. kept (plus e.address 1) (omega (arith, within.second l, small)) (avoids_five.second l) (marked.second l);
+    second = λ l. kept (plus e.address 1) (omega (arith, within.second l, small)) (avoids_five.second l)
+        (marked.second l);
   }
     where
       kept : (a : ℕ) → a < 2 ^ 32 → a / 4 ≢ w → IsMarked words a → IsMarked (slice_set words p 0) a

@@ -1,6 +1,7 @@
 -- Decoded code that is kept beside a memory.
 -- Source: own choice, what the code keeps so that it need not decode again.
-use Rattle.std.specs.Prelude.{ℕ, ◌≡◌, ◌≢◌, ◌<◌, ◌≤◌, ◌+◌, ◌/◌, ◌%◌, ◌^◌, List, Some, None, false, slice_get, slice_index}
+use Rattle.std.specs.Prelude.{ℕ, ◌≡◌, ◌≢◌, ◌<◌, ◌≤◌, ◌+◌, ◌/◌, ◌%◌, ◌^◌, List, Some, None, false, slice_get}
+use Rattle.std.specs.Prelude.{slice_index}
 use Rattle.std.specs.Prelude.{pos, negsuc, ◌-ℤ◌, ◌*ℤ◌, if◌then◌else◌, ◌==◌}
 use Rattle.tword.specs.declared.span.Span.{Span}
 use Rattle.tword.specs.Words.{mem_start, minus, plus, reduced}

@@ -25,7 +25,8 @@ abbrev pub with_store : Option Registers → Store → Option (Registers × Stor
 with_store (Some r) s = Some (r, s)
 with_store None s = None
 
--- registers and store behind an instruction after which the process goes on: none where it does not, or a rule is broken
+-- registers and store behind an instruction after which the process goes on: none where it does not, or a rule is
+-- broken
 abbrev pub gone : Result (Outcome × Store) Break → Option (Registers × Store)
 gone (Ok ((r, next), s)) = with_store (going next r) s
 gone (Err b) = None

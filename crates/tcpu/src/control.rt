@@ -250,7 +250,8 @@ impl Registers {
         Some(self.go_round(memory, left))
     }
 
-    /// Ends a turn of a loop whose count has fallen to `left`, for a caller that has checked its two words: what follows.
+    /// Ends a turn of a loop whose count has fallen to `left`, for a caller that has checked its two words: what
+    /// follows.
     #[inline(always)]
     fn go_round(&mut self, memory: &mut Bytes, left: Word) -> Next
         requires count { is_inside (length memory.old) (word_span (plus self.old.b 4)) ≡ true }

@@ -57,7 +57,8 @@ fn enabled_at(net: &Net, node: u8) -> Option<Event>
 
 /// An event of a net that is enabled, if one is; of a net of at most 64 nodes, where it says none, none is.
 pub fn enabled_event(net: &Net) -> Option<Event>
-    ensures { MatchOption result (length net.now.nodes ≤ most_nodes → IsQuiet net.now) (λ e. is_enabled net.now e ≡ true) }
+    ensures { MatchOption result (length net.now.nodes ≤ most_nodes → IsQuiet net.now)
+        (λ e. is_enabled net.now e ≡ true) }
 {
     net.know_sound();
     let nodes = net.nodes().len();

@@ -32,7 +32,8 @@ chained_within kind rest (More value) had byte bytes i later h = let k : EndsWit
 chained_within kind rest (Last f value) had byte bytes i later h =
     listed_within (is_listed kind f value) f value had byte bytes i h
 
-fetched_within : (kind : Kind) (left had : ℕ) (bytes : List ℕ) (value : ℤ) (i : Instruction) → fetch_in kind left had bytes value ≡ Ok i
+fetched_within : (kind : Kind) (left had : ℕ) (bytes : List ℕ) (value : ℤ) (i : Instruction)
+    → fetch_in kind left had bytes value ≡ Ok i
     → EndsWithin had bytes i
 fetched_within kind zero had bytes value i h = cc
 fetched_within kind (suc left) had [] value i h = cc
@@ -88,7 +89,8 @@ unfolding dis_lines
 lines_at-end kind address = refl
 
 -- the same, where the first byte is known
-pub first_within : (kind : Kind) (bytes : List ℕ) (byte : ℕ) (head : Result Instruction DecodeFault) → Some byte ≡ slice_get bytes 0
+pub first_within : (kind : Kind) (bytes : List ℕ) (byte : ℕ) (head : Result Instruction DecodeFault) → Some byte
+    ≡ slice_get bytes 0
     → head ≡ decode_bytes kind bytes → (0 < head_size head) × (head_size head ≤ length bytes)
 first_within kind [] byte head f e = cc
 first_within kind (b ∷ bytes) byte head f e = head_within kind b bytes head e

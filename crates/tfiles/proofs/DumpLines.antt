@@ -142,7 +142,8 @@ pub zeros_left_out : (pending : List (Option Span)) (a : ℕ) (bytes : List ℕ)
     → [] ≡ dump_line a (hiding_from (is_pending pending) a (as_cells bytes))
 zeros_left_out pending a bytes none apart =
     line_left_out a (as_cells bytes) (sym (none_summed bytes none))
-    ∙ ap (λ (cells : Store). dump_line a cells) (sym (none_hidden a (as_cells bytes)) ∙ shown_same pending a bytes apart)
+    ∙ ap (λ (cells : Store). dump_line a cells) (sym (none_hidden a (as_cells bytes))
+    ∙ shown_same pending a bytes apart)
 
 -- any other is not
 pub line_shown : (a : ℕ) (cells : Store) → false ≡ list_all is_zero cells

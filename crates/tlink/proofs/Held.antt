@@ -26,7 +26,8 @@ use Rattle.tproc.proofs.Scripted.{idle-step}
 use Rattle.tproc.proofs.Storing.{stored_claimed, stored_size}
 use Rattle.tlink.specs.declared.counts.Arrival.{Arrival}
 use Rattle.tlink.specs.declared.counts.Counts.{Counts}
-use Rattle.tlink.specs.Roles.{Role, Processor, Source, Sink, script_control, first_offer, offering, asking, address_behind}
+use Rattle.tlink.specs.Roles.{Role, Processor, Source, Sink, script_control, first_offer, offering, asking}
+use Rattle.tlink.specs.Roles.{address_behind}
 use Rattle.tlink.specs.Roles.{receives, has_room, is_full, role_woken, woken, role_filled, filled}
 use Rattle.tproc.specs.Links.{notice}
 use Rattle.tlink.specs.Node.{one_link}

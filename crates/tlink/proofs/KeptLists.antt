@@ -1,11 +1,13 @@
 -- A node that keeps a source or a sink does what is defined on its list of messages.
-use Rattle.std.proofs.Common.{◌≡◌, ◌∙◌, ℕ, zero, suc, ◌+◌, ◌-◌, ◌<◌, ◌≤◌, refl, sym, ap, List, [], ◌∷◌, ◌++◌, length, map}
+use Rattle.std.proofs.Common.{◌≡◌, ◌∙◌, ℕ, zero, suc, ◌+◌, ◌-◌, ◌<◌, ◌≤◌, refl, sym, ap, List, [], ◌∷◌, ◌++◌, length}
+use Rattle.std.proofs.Common.{map}
 use Rattle.std.proofs.Common.{take, drop, set, get_or, replicate, length-append, Bool, true, false}
 use Rattle.std.proofs.Common.{Option, Some, None, ◌⊎◌, inl, inr, arith}
 use Rattle.std.specs.Prelude.{slice_get, sum, option_map}
 use Rattle.std.specs.List.{concat}
 use Rattle.std.proofs.lemmas.Bool.{cases_eq, cases_lt, ne_eqb, eq-eqb, lt-ltb, le-ltb}
-use Rattle.std.proofs.lemmas.List.{append_assoc, append-nil, length-replicate, map-append, take-append-drop, get_or_append_left}
+use Rattle.std.proofs.lemmas.List.{append_assoc, append-nil, length-replicate, map-append, take-append-drop}
+use Rattle.std.proofs.lemmas.List.{get_or_append_left}
 use Rattle.std.proofs.lemmas.List.{get_or-append_right, set_at}
 use Rattle.std.proofs.lemmas.List.Folds.{concat-append}
 use Rattle.std.proofs.lemmas.List.Sums.{sum_by-append, sum_by-cons}
@@ -92,7 +94,8 @@ module _ (s : Source) where
   start_more : (m : List ℕ) → slice_get s.messages s.over ≡ Some m
       → sum (take s.over (map length s.messages)) + length m ≡ sum (take (suc s.over) (map length s.messages))
   start_more m h =
-      let e : sum (take (suc s.over) (map length s.messages)) ≡ sum (take s.over (map length s.messages)) + (0 + length m)
+      let e : sum (take (suc s.over) (map length s.messages))
+      ≡ sum (take s.over (map length s.messages)) + (0 + length m)
       = ap sum (source.over_more (map length s.messages) s.over (length m) (length_of (Some m) h))
       ∙ sum_by-append (λ n. n) (take s.over (map length s.messages)) (length m ∷ []) in
       omega (arith, e)
@@ -199,7 +202,8 @@ module _ (s : Sink) where
           sink.take_last _ _ _ counts_of a h more e
           ∙ rw e (ap (emitting 0 packet.Ack (Completed 0)) (same_sink _ _ _ _ _ _ _ _ None
           (rw r (written room a.byte ∙ one_behind (concat s.kept) s.part (replicate room 0) a.byte
-          ∙ rw (kept_joined s.kept (s.part ++ a.byte ∷ []), append-nil (concat s.kept ++ (s.part ++ a.byte ∷ []))) refl))
+          ∙ rw (kept_joined s.kept (s.part ++ a.byte ∷ []), append-nil (concat s.kept ++ (s.part ++ a.byte ∷ [])))
+          refl))
           (kept_lengths s.kept s.part a.byte)
           (rw (kept_joined s.kept (s.part ++ a.byte ∷ []))
           (omega (arith, length-append (concat s.kept) (s.part ++ a.byte ∷ []), length-append s.part (a.byte ∷ []))))
@@ -211,4 +215,8 @@ module _ (s : Sink) where
   sink_is e = sink.alone _ _ _ counts_of e (λ b last q. cc) (λ q. cc)
 
 pub sinks_are_lists : SinksAreLists
-sinks_are_lists = (λ capacity. (let e : capacity - 0 ≡ capacity = omega arith in rw (length-replicate {A = ℕ} capacity 0, e) refl), λ e s. sink_is s e)
+sinks_are_lists = (
+  λ capacity. (let e : capacity - 0
+      ≡ capacity = omega arith in rw (length-replicate {A = ℕ} capacity 0, e) refl),
+  λ e s. sink_is s e,
+)

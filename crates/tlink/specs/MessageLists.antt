@@ -1,5 +1,5 @@
--- Sources and sinks as what they are: lists of messages, and what they do at each event. A node keeps one in a memory with
--- addresses (`Roles`, `Node`); that it does the same at each event is the law of `KeptLists`.
+-- Sources and sinks as what they are: lists of messages, and what they do at each event. A node keeps one in a memory
+-- with addresses (`Roles`, `Node`); that it does the same at each event is the law of `KeptLists`.
 -- Source: own choice: what a node's surroundings send to it and take from it.
 use Rattle.std.specs.Prelude.{ℕ, zero, suc, ◌+◌, Bool, true, false, not, ◌&&◌, ◌==◌, nat_lt}
 use Rattle.std.specs.Prelude.{List, [], ◌∷◌, ◌++◌, length}

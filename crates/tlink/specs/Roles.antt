@@ -1,5 +1,5 @@
--- What may stand behind the links of a node: a processor, or a script at link 0. What a source and a sink are is defined
--- in `MessageLists`; here stands how a node keeps them, as the machine of a processor that runs nothing.
+-- What may stand behind the links of a node: a processor, or a script at link 0. What a source and a sink are is
+-- defined in `MessageLists`; here stands how a node keeps them, as the machine of a processor that runs nothing.
 -- Source: own choice: what a node's surroundings send to it and take from it.
 use Rattle.std.specs.Prelude.{ℕ, ◌+◌, Bool, true, false, ◌==◌, nat_lt, List, [], ◌∷◌, ◌++◌, drop, take}
 use Rattle.std.specs.Prelude.{Option, Some, None}

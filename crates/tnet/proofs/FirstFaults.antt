@@ -1,6 +1,7 @@
 -- The first fault of a list, and of a plan.
 use Rattle.std.proofs.Common.{◌≡◌, ℕ, ◌+◌, ◌<◌, refl, sym, ap, ◌∙◌, List, [], ◌∷◌, length, get_or, take, drop}
-use Rattle.std.proofs.Common.{Bool, true, false, Option, Some, None, is_some, option_map, add-one, zero-add, All, arith, cond}
+use Rattle.std.proofs.Common.{Bool, true, false, Option, Some, None, is_some, option_map, add-one, zero-add, All, arith}
+use Rattle.std.proofs.Common.{cond}
 use Rattle.std.specs.Prelude.{position, slice_get}
 use Rattle.std.specs.List.{list_any, position_from, position_or_len, range_with_len}
 use Rattle.std.proofs.Math.Seq.{drop-cons}
@@ -95,7 +96,8 @@ first_faulty f xs place x y within read before here =
     let first : position (λ x. is_some (f x)) xs ≡ Some place =
     position_is (λ x. is_some (f x)) xs place x within
     (λ k b. none_some (f (get_or xs k x))
-    (ap f (sym (get_or-take place xs k x b)) ∙ before k x (omega (arith, length-take-le place xs (omega (arith, within)), b))))
+    (ap f (sym (get_or-take place xs k x b))
+    ∙ before k x (omega (arith, length-take-le place xs (omega (arith, within)), b))))
     (some_some (f (get_or xs place x)) y (ap f (sym read) ∙ here)) in
     fault_told f xs place x y first there here
 

@@ -69,7 +69,8 @@ count_by net net' n act None (Some node) h = cc
 count_by net net' n act None None h = cc
 
 -- an event leaves as many nodes as there were
-pub count_stays : (net net' : NetState) (e : Event) → after_event net e ≡ Some net' → length net'.nodes ≡ length net.nodes
+pub count_stays : (net net' : NetState) (e : Event) → after_event net e ≡ Some net' → length net'.nodes
+    ≡ length net.nodes
 unfolding net_happens
 count_stays net net' e h = count_by net net' e.node e.act (node_event net e.node e.act) (node_at net e.node) h
 

@@ -50,7 +50,8 @@ good_wires p form =
     }
 
 -- each wire joins links of nodes
-pub good_ends : (p : Plan) → IsWellFormed p → All (λ w. IsEnd (node_count p) w.a × IsEnd (node_count p) w.b) (all_wires p)
+pub good_ends : (p : Plan) → IsWellFormed p
+    → All (λ w. IsEnd (node_count p) w.a × IsEnd (node_count p) w.b) (all_wires p)
 good_ends p form = (all_are_wires p (good_wires p form)).ends
 
 faultless_of : (p : Plan) → IsWellFormed p → refused_process p.timeslice p.nodes ≡ None → IsFaultless p

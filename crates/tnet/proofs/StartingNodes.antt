@@ -1,5 +1,6 @@
 -- The nodes of a plan, one after another: those that are built so far, and the first process that is refused.
-use Rattle.std.proofs.Common.{◌≡◌, ℕ, suc, ◌+◌, ◌<◌, ◌≤◌, refl, sym, ap, ◌∙◌, subst, List, [], ◌∷◌, ◌++◌, length, get_or}
+use Rattle.std.proofs.Common.{◌≡◌, ℕ, suc, ◌+◌, ◌<◌, ◌≤◌, refl, sym, ap, ◌∙◌, subst, List, [], ◌∷◌, ◌++◌, length}
+use Rattle.std.proofs.Common.{get_or}
 use Rattle.std.proofs.Common.{take, map, false, Option, Some, None, Result, Ok, Err, All, arith, add-one, add-zero}
 use Rattle.std.proofs.Common.{zero-add}
 use Rattle.std.specs.Prelude.{position, option_map}

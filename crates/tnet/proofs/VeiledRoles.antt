@@ -148,7 +148,8 @@ woken_veils (Source done rest) n l o v out =
     hidden_veils (role_woken (Source done rest)) (woken (Source done rest) l n)
     (held_woken (Source done rest) n l o v.held out)
     (rw (set_same input_claim n.control.links l
-    (record (link_end n.control l) { output = first_offer (address_behind (link_end n.control l).output) (drop 1 rest) }) refl)
+    (record (link_end n.control l)
+    { output = first_offer (address_behind (link_end n.control l).output) (drop 1 rest) }) refl)
     v.seen)
 woken_veils (Sink kept) n l o v out = let f : None ≡ Some o = sym (sink_offers_none kept n l v.held) ∙ out in cc
 

@@ -153,7 +153,8 @@ fn has_bad_end(nodes: usize, wire: Wire) -> bool
 fn names_bad_end(plan: &Plan, place: usize) -> bool
     requires few { too_many plan.now ≡ false }
     requires within { place < length (all_wires plan.now) }
-    ensures { result ≡ list_any (spec.is_bad_end (length plan.now.nodes)) (slice_index_or (named_ends plan.now) place []) }
+    ensures { result ≡ list_any (spec.is_bad_end (length plan.now.nodes))
+        (slice_index_or (named_ends plan.now) place []) }
 {
     let nodes = plan.nodes.as_slice().len();
     let wire = wire_at(plan, place);

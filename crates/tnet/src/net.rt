@@ -3,8 +3,8 @@
 ghost use Rattle.std.specs.Prelude.{◌≡◌, ◌≢◌, ◌≤◌, Some, length, IsTrue, IfErr, IfOk, ◌↔◌};
 ghost use Rattle.tword.specs.Limits.{most_nodes};
 ghost use Rattle.tnet.specs.Net.{NetState, inbox_at, sources_in, sinks_in};
-ghost use Rattle.tnet.specs.Packets.{net_happens, answered, net_left_by, after_event, after_events, applied, is_enabled};
-ghost use Rattle.tnet.specs.Packets.{IsQuiet};
+ghost use Rattle.tnet.specs.Packets.{net_happens, answered, net_left_by, after_event, after_events, applied};
+ghost use Rattle.tnet.specs.Packets.{is_enabled, IsQuiet};
 ghost use Rattle.tnet.specs.Sound.{IsSound};
 ghost use Rattle.tnet.specs.Answers.{Did};
 ghost use Rattle.tnet.specs.View.{view};

@@ -158,8 +158,8 @@ impl NetParts {
 
     /// Whether a node does none of these acts.
     fn refuses(&self, node: u8, acts: &[Act]) -> bool
-        ensures { result ≡ list_all (λ act. not (is_enabled (net_of_parts self.now) (record { node = node; act = act })))
-            acts.now }
+        ensures { result ≡ list_all
+            (λ act. not (is_enabled (net_of_parts self.now) (record { node = node; act = act }))) acts.now }
     {
         acts.iter()
             .all(|act| !self.enabled(Event { node, act: *act }))

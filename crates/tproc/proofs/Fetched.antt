@@ -33,7 +33,8 @@ fetched_alike : (s t : Store) (c d : Claims) (a b : ℕ) → length t ≡ length
     → IsFetched s c a b → IsFetched t d a b
 unfolding span_break
 fetched_alike s t c d a b size same inputs saved h =
-    let k : (span_break (length s) c Reads (byte_span a) ≡ None) × (unwrap_or (byte_at s a) 0 ≡ b) = or_break-ok _ _ _ h in
+    let k : (span_break (length s) c Reads (byte_span a) ≡ None)
+    × (unwrap_or (byte_at s a) 0 ≡ b) = or_break-ok _ _ _ h in
     let p : Passes (length s) c Reads (byte_span a) = span_break-none (length s) c Reads (byte_span a) k.0 in
     rw (size, p.inside, p.open_to_all, inputs p.still, saved p.unsaved, same, k.1) refl
 
@@ -91,7 +92,8 @@ fetched_passes s c a b h = span_break-none (length s) c Reads (byte_span a) (or_
 -- so it is in no saved word, nor in a span within the three of a workspace
 not_saved : (s : Store) (c : Claims) (w a b : ℕ) → has_saved c w ≡ true → IsFetched s c a b
     → overlap (saved_words w) (byte_span a) ≡ false
-not_saved s c w a b saved h = overlap_back (byte_span a) (saved_words w) (by (overlap (byte_span a) (saved_words w)) refl)
+not_saved s c w a b saved h = overlap_back (byte_span a) (saved_words w)
+    (by (overlap (byte_span a) (saved_words w)) refl)
   where
     by : (t : Bool) → overlap (byte_span a) (saved_words w) ≡ t → overlap (byte_span a) (saved_words w) ≡ false
     by false e = e
@@ -132,7 +134,8 @@ fetched_beside_slot w k put entries s t c small slot lies saved made size inside
     let stands : StandsOutside (word_span (word_below w k)) s t =
     rw made (outside_cells s (word_below w k) 4 put size inside) in
     all_fetched entries s t c c
-    (λ a b h. fetched_alike s t c c a b same (stands a (not_slot s c w k a b small slot lies saved h)) (λ i. i) (λ i. i) h)
+    (λ a b h. fetched_alike s t c c a b same (stands a (not_slot s c w k a b small slot lies saved h)) (λ i. i) (λ i. i)
+    h)
 
 -- and so does a byte of a pending input
 pub fetched_beside_input : (i : ℕ) (put : Store) (entries : List CodeEntry) (s t : Store) (c : Claims)

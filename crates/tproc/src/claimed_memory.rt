@@ -1,6 +1,7 @@
 //! The bytes of a node's memory with the claims on it.
 
-ghost use Rattle.std.specs.Prelude.{ℕ, [], ◌∷◌, ◌≡◌, ◌<◌, ◌≤◌, ◌+◌, ◌↔◌, length, not, true, None, IfErr, IfOk, OnOk, Some};
+ghost use Rattle.std.specs.Prelude.{ℕ, [], ◌∷◌, ◌≡◌, ◌<◌, ◌≤◌, ◌+◌, ◌↔◌, length, not, true, None, Some};
+ghost use Rattle.std.specs.Prelude.{IfErr, IfOk, OnOk};
 ghost use Rattle.std.specs.Prelude.{false, is_some, replicate, IsErrOf};
 ghost use Rattle.tword.specs.Accesses.{Changing, Frees, IsMemorySize, no_claims, with_output, with_input};
 ghost use Rattle.tword.specs.Accesses.{without_output, without_input};

@@ -12,7 +12,8 @@ use Rattle.tword.specs.declared.span.Span.{Span}
 use Rattle.tword.specs.Words.{word_below}
 use Rattle.tword.specs.Claims.{overlap, overlaps_claim, saved_words}
 use Rattle.tword.specs.Limits.{most_processes}
-use Rattle.tword.specs.Slots.{lowest_word, word_at, is_among, behind_words, has_word, claims_word, saves_word, claims_in}
+use Rattle.tword.specs.Slots.{lowest_word, word_at, is_among, behind_words, has_word, claims_word, saves_word}
+use Rattle.tword.specs.Slots.{claims_in}
 use Rattle.tword.specs.Slots.{saved_in, AreEmpty, Counts, CountsHaveRoom, IsEmpty, IsExchanged, IsTally}
 
 -- a number among some, below them, and above them

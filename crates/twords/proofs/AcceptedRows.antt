@@ -140,7 +140,8 @@ used_set c again a (v ∷ vs) rows first lt e h =
     with_values_passes c a CommandLine (v ∷ vs) (without a.id rows) first lt
     (neither (repeat_fault again a.id rows) _ e).1 (without_passes c a.id rows h)
 
-used_append : (c : List Rule) (again : Bool) (a : Rule) (values : List Text) (rows : List Row) → arg_by_id c a.id ≡ Some a
+used_append : (c : List Rule) (again : Bool) (a : Rule) (values : List Text) (rows : List Row) → arg_by_id c a.id
+    ≡ Some a
     → 0 < length values
     → action_fault Append again a (values_or_missing a values) rows ≡ [] → Rows c rows
     → Rows c (used_as Append a.id (reading_by a) (values_or_missing a values) rows)
@@ -175,7 +176,8 @@ used_passes c again a values rows fit e h =
           subst (λ x. action_fault x again a (values_or_missing a values) rows ≡ []) p.0 parts.1 in
           subst (λ x. Rows c (used_as x a.id (reading_by a) (values_or_missing a values) rows)) (sym p.0)
           (used_append c again a values rows fit.first (given _ _ (length values) p.1 parts.0) own h)
-      | inr (inr (inl p)) ↦ subst (λ x. Rows c (used_as x a.id (reading_by a) (values_or_missing a values) rows)) (sym p) h
+      | inr (inr (inl p)) ↦ subst (λ x. Rows c (used_as x a.id (reading_by a) (values_or_missing a values) rows))
+          (sym p) h
       | inr (inr (inr (inl p))) ↦
           subst (λ x. Rows c (used_as x a.id (reading_by a) (values_or_missing a values) rows)) (sym p) h
       | inr (inr (inr (inr p))) ↦

@@ -29,7 +29,8 @@ no_plus (byte ∷ rest) e =
     rw (ne_eqb byte 43 (λ is. omega (arith, is, leb-true 48 byte low.0))) refl
 
 abbrev pub Parses : (E : Type 0) → List ℕ → Result ℕ E → Type 0
-Parses E text r = OkIff r (IsNumeral 10 (without_leading_plus text) × (digits_value 10 (without_leading_plus text) < 2 ^ 8))
+Parses E text r = OkIff r (IsNumeral 10 (without_leading_plus text)
+    × (digits_value 10 (without_leading_plus text) < 2 ^ 8))
     (digits_value 10 (without_leading_plus text))
 
 -- a text of digits alone that is not read writes no node

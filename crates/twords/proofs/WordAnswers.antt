@@ -10,7 +10,8 @@ use Rattle.clap.specs.Facts.{parser_of_value, unwrap_or_range}
 use Rattle.clap.specs.Kinds.{value_kinds}
 use Rattle.clap.specs.Values.{read_as, reading_of, refused_kind}
 use Rattle.clap.specs.ValueTests.{accepts}
-use Rattle.clap.specs.Walk.{Row, Rule, Text, action_of, answers_to, arg_by_id, is_empty, nothing_held, row_text, rows_after, walk}
+use Rattle.clap.specs.Walk.{Row, Rule, Text, action_of, answers_to, arg_by_id, is_empty, nothing_held, row_text}
+use Rattle.clap.specs.Walk.{rows_after, walk}
 use Rattle.clap.specs.Simple.{Shape, argument_words, built, built_leaf, entered, filled, filled_from, help_rule}
 use Rattle.clap.specs.Simple.{index_after, inherited, label_of, parser_for, with_action, with_default_value}
 use Rattle.clap.specs.Simple.{with_missing_value}

@@ -3,13 +3,15 @@
 -- refuses them.
 use Rattle.std.specs.Prelude.{ℕ, refl, ◌≡◌, true, false, List, [], ◌∷◌, Option, Some, None, ◌++◌, map, codes, bytes_eq}
 use Rattle.std.specs.Prelude.{Result, Ok, Err, pos, negsuc}
-use Rattle.std.specs.Prelude.{option_and_then, if◌then◌else◌, IsSomeAnd, Bool, ◌==◌, ◌&&◌, nat_le, drop, length, string_bytes, ◌≤◌}
+use Rattle.std.specs.Prelude.{option_and_then, if◌then◌else◌, IsSomeAnd, Bool, ◌==◌, ◌&&◌, nat_le, drop, length}
+use Rattle.std.specs.Prelude.{string_bytes, ◌≤◌}
 use Rattle.std.specs.List.{find, fold}
 use Rattle.clap.specs.Words.{Text, Rule, Row, Shape, App, Kinds, app_of, subcommand_of, fault_of, with_subcommand}
 use Rattle.clap.specs.Simple.{new_shape}
 use Rattle.clap.proofs.OnLiterals.{clap_on_literals}
 use Rattle.clap.specs.declared.error.kind.ErrorKind.TheVariants.{DisplayHelp, DisplayHelpOnMissingArgumentOrSubcommand}
-use Rattle.clap.specs.declared.error.kind.ErrorKind.TheVariants.{DisplayVersion, MissingRequiredArgument, UnknownArgument}
+use Rattle.clap.specs.declared.error.kind.ErrorKind.TheVariants.{DisplayVersion, MissingRequiredArgument}
+use Rattle.clap.specs.declared.error.kind.ErrorKind.TheVariants.{UnknownArgument}
 use Rattle.clap.specs.Kinds.{or_else}
 use Rattle.clap.specs.declared.error.kind.ErrorKind.TheVariants.{InvalidValue, TooManyValues, ValueValidation}
 use Rattle.clap.specs.declared.builder.arg.Arg.{Arg}
@@ -171,8 +173,8 @@ shape_of_row row = with_rows (shape row.name.now []) row.arguments.now
 abbrev pub HasShape : Shape → Parser → Type 0
 HasShape shape c = (app_of c ≡ record { top = shape; subs = [] }) × ((fields_of c).has_globals ≡ false)
 
--- some words with `--events` joined begin with this first word, and behind it are the others, joined; there is none where
--- there are no words
+-- some words with `--events` joined begin with this first word, and behind it are the others, joined; there is none
+-- where there are no words
 abbrev pub IsFirst : List Text → Option First → Type 0
 IsFirst words None = words ≡ []
 IsFirst words (Some first) =
@@ -309,7 +311,8 @@ example_explore_where = refl
 -- with logs, and no dumps
 example_explore_log : command_of (codes "temu" ∷ codes "explore" ∷ codes "--log=found" ∷ codes "pair.toml"
     ∷ codes "--show" ∷ codes "none" ∷ [])
-    ≡ Some (command.Explore (exploring (codes "pair.toml") 1000000 9223372036854775807 (Some (codes "found")) show.Nothing))
+    ≡ Some (command.Explore (exploring (codes "pair.toml") 1000000 9223372036854775807 (Some (codes "found"))
+    show.Nothing))
 unfolding clap_on_literals
 example_explore_log = refl
 
@@ -480,12 +483,14 @@ unfolding clap_on_literals
 example_chart_but = refl
 
 -- a wiring is looked through
-example_check : command_of (codes "temu" ∷ codes "check" ∷ codes "pair.toml" ∷ []) ≡ Some (command.Check (codes "pair.toml"))
+example_check : command_of (codes "temu" ∷ codes "check" ∷ codes "pair.toml" ∷ [])
+    ≡ Some (command.Check (codes "pair.toml"))
 unfolding clap_on_literals
 example_check = refl
 
 -- of kind 1 by default
-example_dis : command_of (codes "temu" ∷ codes "dis" ∷ codes "first.img" ∷ []) ≡ Some (command.Dis (codes "first.img") One None)
+example_dis : command_of (codes "temu" ∷ codes "dis" ∷ codes "first.img" ∷ [])
+    ≡ Some (command.Dis (codes "first.img") One None)
 unfolding clap_on_literals
 example_dis = refl
 
@@ -673,7 +678,8 @@ unfolding clap_on_literals
 example_help_of_free = refl
 
 -- a file may be called so
-example_help_file : command_of (codes "temu" ∷ codes "dis" ∷ codes "help" ∷ []) ≡ Some (command.Dis (codes "help") One None)
+example_help_file : command_of (codes "temu" ∷ codes "dis" ∷ codes "help" ∷ [])
+    ≡ Some (command.Dis (codes "help") One None)
 unfolding clap_on_literals
 example_help_file = refl
 

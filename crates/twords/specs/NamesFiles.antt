@@ -13,7 +13,8 @@ is_decimal byte = nat_le 48 byte && nat_le byte 57
 -- 1 to 3 decimal digits that write a number of at most 255
 abbrev pub is_number : Text → Bool
 is_number text =
-    nat_le 1 (length text) && (nat_le (length text) 3 && (list_all is_decimal text && nat_le (digits_value 10 text) 255))
+    nat_le 1 (length text) && (nat_le (length text) 3
+    && (list_all is_decimal text && nat_le (digits_value 10 text) 255))
 
 -- the number of a node that a text stands for, if it does
 abbrev pub node_of : Text → Option ℕ
@@ -23,7 +24,8 @@ node_of text = if is_number text then Some (digits_value 10 text) else None
 abbrev pub is_sign : ℕ → Bool
 is_sign byte = byte == 61
 
--- the names of a node, in the file whose name stands behind the sign; or those of each node, in the file of the whole word
+-- the names of a node, in the file whose name stands behind the sign; or those of each node, in the file of the whole
+-- word
 abbrev pub file_with : Option ℕ → (behind word : Text) → NamesFile
 file_with (Some n) behind word = record { node = Some n; file = behind }
 file_with None behind word = record { node = None; file = word }

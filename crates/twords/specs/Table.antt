@@ -1,6 +1,8 @@
--- The table of the commands: their names, the words that they take with their ranges and defaults, and what they ask for.
+-- The table of the commands: their names, the words that they take with their ranges and defaults, and what they ask
+-- for.
 -- Source: own choice.
-use Rattle.std.specs.Prelude.{ℕ, ◌≤◌, Bool, true, false, List, [], ◌∷◌, ◌++◌, ◌==◌, ◌&&◌, Option, Some, None, option_map}
+use Rattle.std.specs.Prelude.{ℕ, ◌≤◌, Bool, true, false, List, [], ◌∷◌, ◌++◌, ◌==◌, ◌&&◌, Option, Some, None}
+use Rattle.std.specs.Prelude.{option_map}
 use Rattle.std.specs.Prelude.{bytes_eq, codes, if◌then◌else◌, is_some, map, option_and_then}
 use Rattle.clap.specs.Words.{Text, Rule, Row, first_of}
 use Rattle.tplan.specs.declared.options.Options.{Options}

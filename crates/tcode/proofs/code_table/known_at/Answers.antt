@@ -16,4 +16,5 @@ returns-then-eq c =
     look.1 in
     let same : (e.address == c.args.iptr) ≡ true = sym c.if-eq.ensures in
     rw (← eqb-true e.address c.args.iptr same)
-    (known_so c.args.memory.now.kind _ c.args.marks.now e (c.requires.coded place e at).0 (c.requires.fetched place e at))
+    (known_so c.args.memory.now.kind _ c.args.marks.now e (c.requires.coded place e at).0
+    (c.requires.fetched place e at))

@@ -25,5 +25,6 @@ unlisted Two n other (o ∷ os) h = passed ((operation_entry o).code == n) o _ _
 pub returns-in_default : goal.returns-in_default
 unfolding operation_at
 returns-in_default c =
-    sym (unlisted c.args.kind c.args.operand (λ e. c.in_default.in_default-own.rest.1 (c.get.ensures ∙ e)) all_operations
+    sym (unlisted c.args.kind c.args.operand (λ e. c.in_default.in_default-own.rest.1 (c.get.ensures ∙ e))
+    all_operations
     c.requires)

@@ -15,7 +15,8 @@ loop-segment-preserved g c =
     let is : c.segment-item.result ≡ get_or c.args.image.now.segments c.loop-segment.segment-index
     c.segment-item.result = rw c.as_slice-segment-items.ensures at c.segment-item.is in
     goes_on-next _ _ c.loop-segment.invariant
-    (flat_map-next (segment_lines c.args.kind) c.args.image.now.segments c.loop-segment.segment-index c.segment-item.result below)
+    (flat_map-next (segment_lines c.args.kind) c.args.image.now.segments c.loop-segment.segment-index
+    c.segment-item.result below)
     (tells_as c.put_segment.ensures (ap (λ (s : Segment). segment_lines c.args.kind s) is))
 
 pub returns : goal.returns

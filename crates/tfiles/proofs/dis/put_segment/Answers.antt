@@ -45,7 +45,8 @@ loop-byte-preserved g c =
     goes_on-as
     (goes_on-next (at_address c.loop-byte.address (head_text c.decode_bytes-head.result c.in-Some.byte.now)) _
     c.loop-byte.invariant
-    (first_line c.args.kind c.loop-byte.address rest c.in-Some.byte.now c.decode_bytes-head.result c.in-Some.ensures.value
+    (first_line c.args.kind c.loop-byte.address rest c.in-Some.byte.now c.decode_bytes-head.result
+    c.in-Some.ensures.value
     c.decode_bytes-head.ensures) c.put_line.ensures)
     (ap₂ (λ (address : ℕ) (bytes : List ℕ). lines_at c.args.kind address bytes)
     (sym (c.plus-address.ensures
@@ -54,4 +55,5 @@ loop-byte-preserved g c =
 
 pub returns : goal.returns
 returns g c =
-    goes_on-end c.loop-byte.invariant (no_line c.args.kind c.loop-byte.address c.loop-byte.rest.now c.in_default.ensures.value)
+    goes_on-end c.loop-byte.invariant (no_line c.args.kind c.loop-byte.address c.loop-byte.rest.now
+    c.in_default.ensures.value)

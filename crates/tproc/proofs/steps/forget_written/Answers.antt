@@ -1,5 +1,6 @@
 use Rattle.tproc.proofs.Fetched.{forgotten_nothing}
-use Rattle.tproc.proofs.steps.forget_written.Goals.{else-may_keep_any-via-then-may_keep_any+else-may_write, else-may_keep_any-via-else-may_keep_any}
+use Rattle.tproc.proofs.steps.forget_written.Goals.{else-may_keep_any-via-then-may_keep_any+else-may_write}
+use Rattle.tproc.proofs.steps.forget_written.Goals.{else-may_keep_any-via-else-may_keep_any}
 use Rattle.tproc.proofs.steps.forget_written.Goals as goal
 
 pub returns-else-may_keep_any : goal.returns-else-may_keep_any

@@ -1,4 +1,5 @@
-use Rattle.std.proofs.Common.{◌≡◌, ◌∙◌, ◌++◌, ◌∷◌, [], ◌+◌, ◌-◌, ℕ, List, Bor, Some, ap, arith, drop, length, map, string_bytes, subst}
+use Rattle.std.proofs.Common.{◌≡◌, ◌∙◌, ◌++◌, ◌∷◌, [], ◌+◌, ◌-◌, ℕ, List, Bor, Some, ap, arith, drop, length, map}
+use Rattle.std.proofs.Common.{string_bytes, subst}
 use Rattle.std.proofs.lemmas.List.{length-drop, length-map, map-append}
 use Rattle.clap.specs.Words.{Text}
 use Rattle.twords.specs.CommandLines.{with_events_joined, IsFirst}
@@ -13,7 +14,8 @@ loop-preserved c =
     (behind (λ (w : Bor Text). w.now) c.args.words.now c.loop.place)
     (rw c.in-Some.is at c.in_ok-first.ensures) in
     let long : length (drop c.loop.place texts) ≡ length c.args.words.now - c.loop.place =
-    length-drop c.loop.place texts ∙ ap (λ (n : ℕ). n - c.loop.place) (length-map c.args.words.now (λ (w : Bor Text). w.now)) in
+    length-drop c.loop.place texts ∙ ap (λ (n : ℕ). n - c.loop.place)
+    (length-map c.args.words.now (λ (w : Bor Text). w.now)) in
     let more = one_more texts (map string_bytes c.loop.joined.items) c.loop.place c.in-Some.first.taken
     (string_bytes c.in-Some.first.word) c.loop.invariant.0 first.0 in
     let pushed : map string_bytes c.push.new.self.items

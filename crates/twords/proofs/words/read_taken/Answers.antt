@@ -33,7 +33,8 @@ pub returns-in_err-matches-clause-refused : goal.returns-in_err-matches-clause-r
 returns-in_err-matches-clause-refused c =
     let app : app_of c.in_ok-program.field-0 ≡ program = c.in_ok-program.ensures in
     let kind : HasKind (fault_of program (map (λ (w : Bor Text). w.now) c.args.words.now)) c.in_err-matches.field-0.0 =
-    subst (λ (a : App). HasKind (fault_of a (map (λ (w : Bor Text). w.now) c.args.words.now)) c.in_err-matches.field-0.0)
+    subst (λ (a : App). HasKind (fault_of a (map (λ (w : Bor Text). w.now) c.args.words.now))
+    c.in_err-matches.field-0.0)
     app (c.in_err-matches.ensures.kinds (ap is_simple_and_free app)) in
     let fault = err_from_is_err_and c.from_residual-in_err-matches.result c.from_residual-in_err-matches.ensures.1 in
     rw (fault.1, fault.2) kind

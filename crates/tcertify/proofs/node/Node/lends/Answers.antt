@@ -39,4 +39,5 @@ returns-in_ok-take_span-in-Input c =
     (lends_written c.args.self.now c.take_span.new.self c.args.buffer.now _ _ c.in_ok-take_span-in-Input.ensures.touched
     (subst (λ (l : List StoredWord). RunsAt (put (node_site c.take_span.new.self) Receiving span
     (replaced span (cells_from l (word_number span.start) (word_count span)) (replicate span.size None)))
-    c.take_span.new.self (Ok tt) c.forget_span.new.self) c.in_ok-take_span-in-Input.ensures.words c.forget_span.ensures))
+    c.take_span.new.self (Ok tt) c.forget_span.new.self) c.in_ok-take_span-in-Input.ensures.words
+    c.forget_span.ensures))

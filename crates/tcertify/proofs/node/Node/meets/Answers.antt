@@ -22,7 +22,8 @@ returns-then-input-output c =
 pub returns-in_err-expect_word : goal.returns-in_err-expect_word
 returns-in_err-expect_word c =
     let a = c.args.self.now in let chs = a.channels.items.items in
-    let there = slice_get_read chs (length chs) c.args.channel c.index.result.now refl c.requires.there c.index.ensures in
+    let there = slice_get_read chs (length chs) c.args.channel c.index.result.now refl c.requires.there c.index.ensures
+    in
     let at : c.word_number-word.result ≡ word_number (address_at a c.args.channel) =
     c.word_number-word.ensures ∙ ap word_number (sym (address_is a c.args.channel c.index.result.now there)) in
     let p = err_from_is_err_and c.from_residual.result c.from_residual.ensures.1 in
@@ -34,7 +35,8 @@ returns-in_err-expect_word c =
 pub returns-in_err-passes : goal.returns-in_err-passes
 returns-in_err-passes c =
     let a = c.args.self.now in let chs = a.channels.items.items in
-    let there = slice_get_read chs (length chs) c.args.channel c.index.result.now refl c.requires.there c.index.ensures in
+    let there = slice_get_read chs (length chs) c.args.channel c.index.result.now refl c.requires.there c.index.ensures
+    in
     let at : c.word_number-word.result ≡ word_number (address_at a c.args.channel) =
     c.word_number-word.ensures ∙ ap word_number (sym (address_is a c.args.channel c.index.result.now there)) in
     let word : Word = record { cells = cells_of c.known.result; used = Free } in
@@ -51,7 +53,8 @@ returns-in_err-passes c =
 pub returns : goal.returns
 returns c =
     let a = c.args.self.now in let chs = a.channels.items.items in
-    let there = slice_get_read chs (length chs) c.args.channel c.index.result.now refl c.requires.there c.index.ensures in
+    let there = slice_get_read chs (length chs) c.args.channel c.index.result.now refl c.requires.there c.index.ensures
+    in
     let at : c.word_number-word.result ≡ word_number (address_at a c.args.channel) =
     c.word_number-word.ensures ∙ ap word_number (sym (address_is a c.args.channel c.index.result.now there)) in
     let word : Word = record { cells = cells_of c.known.result; used = Free } in

@@ -28,7 +28,8 @@ returns-in-Absent c =
             (Err (Stops stop.HasNoStep)) (ap stand_of e) (runs_at_stopped HasNoStep b)
         | inr more ↦ elim more [
           | inl e ↦ steps a b c.args.process (stand_of c.stand.result) c.stand.ensures c.requires.there
-              (value.Waits (context_of e.0)) b (Err (Stops stop.HasNoStep)) (ap stand_of e.1) (runs_at_stopped HasNoStep b)
+              (value.Waits (context_of e.0)) b (Err (Stops stop.HasNoStep)) (ap stand_of e.1)
+              (runs_at_stopped HasNoStep b)
           | inr e ↦ steps a b c.args.process (stand_of c.stand.result) c.stand.ensures c.requires.there value.Ended b
               (Err (Stops stop.HasNoStep)) (ap stand_of e) (runs_at_stopped HasNoStep b)
         ]

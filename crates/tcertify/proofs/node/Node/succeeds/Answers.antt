@@ -42,8 +42,10 @@ returns c =
     succeeds_so c.args.self.now c.args.workspace (number_of c.args.priority) c.args.iptr
     c.successions.new.self c.in_ok-earlier.earlier c.in_ok-earlier.ensures c.set_successions.new.self
     c.comes.new.self c.comes.result (context_of c.fresh-context.result) c.fresh-context.ensures
-    (subst (λ (n : ℕ). RunsAt (change (Successions (node_site b).number c.args.workspace) (Put (IsCount n))) b (Ok tt) d)
+    (subst (λ (n : ℕ). RunsAt (change (Successions (node_site b).number c.args.workspace) (Put (IsCount n))) b (Ok tt)
+    d)
     more c.in_ok-set_successions.ensures)
     (subst (λ (l : List ℕ). Does (comes (node_site d) (named d.words.number (root.After c.args.workspace
-    c.in_ok-earlier.earlier) l) (context_of c.fresh-context.result) value.Runs) nothing d c.comes.result c.comes.new.self)
+    c.in_ok-earlier.earlier) l) (context_of c.fresh-context.result) value.Runs) nothing d c.comes.result
+    c.comes.new.self)
     c.new-path.ensures.items c.comes.ensures)

@@ -18,7 +18,8 @@ returns-in_err-number c =
     let p = err_from_is_err_and c.from_residual.result c.from_residual.ensures.1 in
     rw (p.1, p.2)
     (unmade (takes_half (node_site c.args.self.now) (name_at c.args.self.now c.args.process)
-    (context_of c.args.context.now) (side_of c.args.side) c.args.channel c.args.buffer) nothing (λ (n : ℕ). tt) c.args.self.now
+    (context_of c.args.context.now) (side_of c.args.side) c.args.channel c.args.buffer) nothing (λ (n : ℕ). tt)
+    c.args.self.now
     c.channel_at.new.self c.in_err-number.field-0.0 c.in_err-number.ensures.done)
 
 pub returns-then-is_some : goal.returns-then-is_some
@@ -47,6 +48,7 @@ returns c =
     let b = c.channel_at.new.self in
     takes_so c.args.self.now c.args.process (context_of c.args.context.now) (side_of c.args.side) c.args.channel
     c.args.buffer _ _ (sym c.in-Ok.ensures.checks) c.requires b c.in_ok-number.ensures.done c.in_ok-number.number
-    c.in_ok-number.ensures.there.1 _ c.half.new.self c.half.ensures.looks c.set_half.new.self c.marks_channel.new.self (Ok tt)
+    c.in_ok-number.ensures.there.1 _ c.half.new.self c.half.ensures.looks c.set_half.new.self c.marks_channel.new.self
+    (Ok tt)
     (asks_none (names b) c.half.result (sym c.is_some.ensures ∙ c.if-is_some.false)) c.in_ok-number.ensures.there.0
     c.set_half.ensures c.in_ok-marks_channel.ensures

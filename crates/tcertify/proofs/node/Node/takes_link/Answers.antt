@@ -30,7 +30,8 @@ pub returns-in_default : goal.returns-in_default
 returns-in_default c =
     links_busy c.args.self.now c.args.process (context_of c.args.context.now) (side_of c.args.side) c.args.channel
     c.args.buffer (sym c.is_aligned.ensures ∙ c.if-not-is_aligned.false)
-    (sym c.is_right_end.ensures ∙ c.if-not-is_right_end.false) (ap not (unlike _ _ c.if-buffer-eq0.false)) c.requires.there c.link_of-link.result
+    (sym c.is_right_end.ensures ∙ c.if-not-is_right_end.false) (ap not (unlike _ _ c.if-buffer-eq0.false))
+    c.requires.there c.link_of-link.result
     c.link_of-link.ensures.link _ c.link_half.new.self c.link_half.ensures.looks
     (is_taken (names c.args.self.now) c.link_half.result c.in_default.not-Empty)
 
@@ -38,6 +39,7 @@ pub returns : goal.returns
 returns c =
     links_so c.args.self.now c.args.process (context_of c.args.context.now) (side_of c.args.side) c.args.channel
     c.args.buffer (sym c.is_aligned.ensures ∙ c.if-not-is_aligned.false)
-    (sym c.is_right_end.ensures ∙ c.if-not-is_right_end.false) (ap not (unlike _ _ c.if-buffer-eq0.false)) c.requires.there c.link_of-link.result
+    (sym c.is_right_end.ensures ∙ c.if-not-is_right_end.false) (ap not (unlike _ _ c.if-buffer-eq0.false))
+    c.requires.there c.link_of-link.result
     c.link_of-link.ensures.link _ c.link_half.new.self c.link_half.ensures.looks c.set_link_half.new.self _ _
     (ap (λ h. is_empty (link_of (names c.args.self.now) h)) c.in-Empty.is) c.set_link_half.ensures c.offers.ensures

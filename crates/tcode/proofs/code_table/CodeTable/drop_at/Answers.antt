@@ -4,7 +4,8 @@ use Rattle.std.proofs.lemmas.Bool.{eq-eqb}
 use Rattle.std.proofs.lemmas.Option.{slice_get_read}
 use Rattle.tcode.specs.Known.{IsMarked, OfEachByte, TellsItsBytes, entry_count}
 use Rattle.tcode.proofs.Tables.{dropped, nowhere, other, set_all, without_bytes}
-use Rattle.tcode.proofs.code_table.CodeTable.drop_at.Goals.{else-place-len-via-then-place-len+else-eq, else-place-len-via-else-place-len}
+use Rattle.tcode.proofs.code_table.CodeTable.drop_at.Goals.{else-place-len-via-then-place-len+else-eq}
+use Rattle.tcode.proofs.code_table.CodeTable.drop_at.Goals.{else-place-len-via-else-place-len}
 use Rattle.tcode.proofs.code_table.CodeTable.drop_at.Goals as goal
 
 not_same : (a b : ℕ) → a ≡ b → false ≡ (a == b) → ⊥

@@ -35,11 +35,29 @@ returns c = λ k e g some.
       record {
         first = λ l.
             apart_closely e.address old.low old.last c.args.start c.args.size (c.max-first.result / 4) c.loop-word.word
-            (bounds.first l).0 (bounds.first l).1 (omega (arith, c.max-first.ensures, c.from-start.ensures, c.get.ensures, c.from-2.ensures))
-            (omega (arith, c.loop-word-test.false, c.min.ensures, c.from.ensures, c.from-3.ensures, c.from-start.ensures, c.get.ensures)) (λ w from to. (gone.1 w from to).first l);
+            (bounds.first l).0 (bounds.first l).1
+            (omega (arith, c.max-first.ensures, c.from-start.ensures, c.get.ensures, c.from-2.ensures))
+            (omega (
+              arith,
+              c.loop-word-test.false,
+              c.min.ensures,
+              c.from.ensures,
+              c.from-3.ensures,
+              c.from-start.ensures,
+              c.get.ensures,
+            )) (λ w from to. (gone.1 w from to).first l);
         second = λ l.
             apart_closely _ old.low old.last c.args.start c.args.size (c.max-first.result / 4) c.loop-word.word
-            (bounds.second l).0 (bounds.second l).1 (omega (arith, c.max-first.ensures, c.from-start.ensures, c.get.ensures, c.from-2.ensures))
-            (omega (arith, c.loop-word-test.false, c.min.ensures, c.from.ensures, c.from-3.ensures, c.from-start.ensures, c.get.ensures)) (λ w from to. (gone.1 w from to).second l);
+            (bounds.second l).0 (bounds.second l).1
+            (omega (arith, c.max-first.ensures, c.from-start.ensures, c.get.ensures, c.from-2.ensures))
+            (omega (
+              arith,
+              c.loop-word-test.false,
+              c.min.ensures,
+              c.from.ensures,
+              c.from-3.ensures,
+              c.from-start.ensures,
+              c.get.ensures,
+            )) (λ w from to. (gone.1 w from to).second l);
       },
     )

@@ -9,7 +9,8 @@ returns-then-not-is_marked-clause-forgets c = λ k e g some.
     let at : c.new-address.result ≡ 4 * c.args.word = omega (arith, c.new-address.ensures) in (
       g,
       avoids_word c.args.self.now.words.items c.args.word e
-          (ap₂ slice_index (sym c.as_slice.ensures.value) (ap word_place (sym at)) ∙ unmarked_so _ c.if-not-is_marked.ensures)
+          (ap₂ slice_index (sym c.as_slice.ensures.value) (ap word_place (sym at))
+          ∙ unmarked_so _ c.if-not-is_marked.ensures)
           (c.args.self.now.coded k e g).1,
     )
 

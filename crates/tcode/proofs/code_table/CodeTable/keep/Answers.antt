@@ -10,7 +10,8 @@ invariant_of-self c =
     let place : ℕ = c.get.result % 256 in
     record {
       coded =
-          set_all (λ k e. TellsItsBytes e × OfEachByte (IsMarked new.words.items) e) new.entries.items place c.args.entry
+          set_all (λ k e. TellsItsBytes e × OfEachByte (IsMarked new.words.items) e) new.entries.items place
+          c.args.entry
           new.coded (c.requires, c.mark_bytes.ensures.marked c.if-mark_bytes.true);
       placed =
           set_all

@@ -16,7 +16,8 @@ returns-in_err-open-in-None-clause-exact c =
 
 pub returns-in_ok-open-in-None-clause-exact : goal.returns-in_ok-open-in-None-clause-exact
 returns-in_ok-open-in-None-clause-exact c =
-    λ _. net_built c.args.plan (net_of_parts c.in_ok-open-in-None.field-0) c.in-None.ensures c.in_ok-open-in-None.ensures.is
+    λ _. net_built c.args.plan (net_of_parts c.in_ok-open-in-None.field-0) c.in-None.ensures
+    c.in_ok-open-in-None.ensures.is
     c.in_ok-open-in-None.ensures.no_fault
 
 pub returns-in_ok-open-in-None-clause-alike : goal.returns-in_ok-open-in-None-clause-alike

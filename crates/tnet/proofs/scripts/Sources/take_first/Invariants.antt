@@ -6,7 +6,8 @@ use Rattle.tnet.proofs.scripts.Sources.take_first.Given as goal
 abbrev pub invariant-loop-node : goal.invariant-loop-node
 invariant-loop-node l =
     record {
-      same : sources_from l.initial.self-inside.parts.now.wires l.initial.self-inside.number l.initial.self-inside.nodes.now
+      same : sources_from l.initial.self-inside.parts.now.wires l.initial.self-inside.number
+          l.initial.self-inside.nodes.now
           ≡ sources_from l.self-inside.parts.now.wires l.self-inside.number l.self-inside.nodes.now;
       few : l.self-inside.number + length l.self-inside.nodes.now ≤ 64;
     }
