@@ -1,7 +1,7 @@
 -- What is kept of all places, before and after one of them has an access more.
 use Rattle.std.proofs.Common.{◌≡◌, ◌≢◌, ℕ, ◌<◌, inl, inr, List, [], ◌∷◌, ◌++◌, map, length, ap, refl, sym, ◌∙◌}
 use Rattle.std.proofs.Common.{zero, suc, subst, arith, slice_index, slice_index_or, slice_set, replicate, Result, Ok}
-use Rattle.std.proofs.Common.{Err, OnOk}
+use Rattle.std.proofs.Common.{Err, OnOk, OnErr, Bool, true, false}
 use Rattle.std.proofs.lemmas.List.{get_or-map, map-append, length-map, ext_get_or}
 use Rattle.std.proofs.lemmas.List.{get_or-set_same, get_or-set_other, length-set, get_or_default}
 use Rattle.std.proofs.Math.Seq.{map-set_same}
@@ -10,11 +10,8 @@ use Rattle.tclocks.specs.declared.kept.Kept.{Kept}
 use Rattle.tclocks.specs.declared.kept.Kept.TheVariants.{OfOne, UpToTwo, InList}
 use Rattle.tclocks.specs.Places.{first_race, NotesAccess}
 use Rattle.tclocks.specs.Kept.{accesses_of, AreOwned, IsOwned, IsBrief, IsNotedBriefly, IsKeptAt, IsNotedAt}
+use Rattle.tclocks.specs.Tables.{kept_at, IsNotedOnly}
 use Rattle.tclocks.proofs.Accessing.{same-or-not}
-
--- what is kept of a place by its number
-abbrev pub kept_at : List Kept → ℕ → Kept
-kept_at kept place = slice_index_or kept place (OfOne 0 0 0 0)
 
 -- what is kept of all
 abbrev pub all_of : List (List Access) → List Kept → List (List Access)
@@ -23,11 +20,6 @@ all_of lists kept = map (accesses_of lists) kept
 pub at-place : (lists : List (List Access)) (kept : List Kept) (place : ℕ) → place < length kept
     → slice_index_or (all_of lists kept) place [] ≡ accesses_of lists (kept_at kept place)
 at-place lists kept place within = get_or-map (accesses_of lists) kept place (OfOne 0 0 0 0) [] within
-
--- what is read there
-pub read-at : (kept : List Kept) (place : ℕ) (k : Kept) → place < length kept → k ≡ slice_index_or kept place k
-    → kept_at kept place ≡ k
-read-at kept place k within e = get_or_default kept place (OfOne 0 0 0 0) k within ∙ sym e
 
 pub within-all : (lists : List (List Access)) (kept : List Kept) (all : List (List Access)) (place : ℕ)
     → all_of lists kept ≡ all → place < length all → place < length kept
@@ -162,6 +154,14 @@ pub kept-otherwise : (lists : List (List Access)) (kept : List Kept) (place : �
     → all_of lists (slice_set kept place after) ≡ all_of lists kept
 kept-otherwise lists kept place after e = map-set_same (accesses_of lists) kept place after (OfOne 0 0 0 0) e
 
+-- so it is, be there memory for it or not
+pub kept-or-not : {E : Type 0} (r : Result (Unit {0}) E) (lists : List (List Access)) (kept kept' : List Kept)
+    (place : ℕ) (after : Kept) → accesses_of lists after ≡ accesses_of lists (kept_at kept place)
+    → OnOk r (kept' ≡ slice_set kept place after) → OnErr r (kept' ≡ kept) → all_of lists kept' ≡ all_of lists kept
+kept-or-not (Ok x) lists kept kept' place after e ok err =
+    ap (λ (k : List Kept). all_of lists k) ok ∙ kept-otherwise lists kept place after e
+kept-or-not (Err x) lists kept kept' place after e ok err = ap (λ (k : List Kept). all_of lists k) err
+
 -- one more list is nothing to anybody
 more-lists : (lists : List (List Access)) (kept : Kept) → accesses_of (lists ++ [] ∷ []) kept ≡ accesses_of lists kept
 more-lists lists (OfOne agent put claim look) = refl
@@ -232,13 +232,12 @@ owned-briefly kept lists owners place after are brief = record {
 
 -- an access was noted in a copy of what is kept of a place
 pub notes-copy : (clock : List ℕ) (new : Access) (lists lists' : List (List Access)) (kept : List Kept) (place : ℕ)
-    (k : Kept) (copy copy' : List Access) → place < length kept → k ≡ slice_index_or kept place k → lists' ≡ lists
-    → copy ≡ accesses_of lists' k → NotesAccess clock new copy copy'
-    → NotesAccess clock new (accesses_of lists (kept_at kept place)) copy'
-notes-copy clock new lists lists' kept place k copy copy' within read same is notes =
+    (k : Kept) (copy copy' : List Access) → k ≡ kept_at kept place → lists' ≡ lists → copy ≡ accesses_of lists' k
+    → NotesAccess clock new copy copy' → NotesAccess clock new (accesses_of lists (kept_at kept place)) copy'
+notes-copy clock new lists lists' kept place k copy copy' read same is notes =
     subst (λ (list : List Access). NotesAccess clock new list copy')
     (is ∙ ap (λ (all : List (List Access)). accesses_of all k) same
-    ∙ ap (λ (own : Kept). accesses_of lists own) (sym (read-at kept place k within read))) notes
+    ∙ ap (λ (own : Kept). accesses_of lists own) read) notes
 
 -- where all that is kept is the same, so is what is kept of one place
 pub same-at : (lists lists' : List (List Access)) (kept : List Kept) (place : ℕ) → place < length kept
@@ -247,3 +246,21 @@ pub same-at : (lists lists' : List (List Access)) (kept : List Kept) (place : �
 same-at lists lists' kept place within e =
     sym (at-place lists' kept place within) ∙ ap (λ (all : List (List Access)). slice_index_or all place []) e
     ∙ at-place lists kept place within
+
+-- an access was noted at a place in the table, or nothing was
+pub owned-noted : (b : Bool) (new : Access) (place : ℕ) (kept kept' : List Kept) (lists : List (List Access))
+    (owners : List ℕ) → AreOwned kept lists owners → (b ≡ true → IsNotedOnly new place kept kept')
+    → (b ≡ false → kept' ≡ kept) → AreOwned kept' lists owners
+owned-noted true new place kept kept' lists owners are noted same =
+    subst (λ (k : List Kept). AreOwned k lists owners) (sym (noted refl).only)
+    (owned-briefly kept lists owners place (kept_at kept' place) are ((noted refl).noted []).brief)
+owned-noted false new place kept kept' lists owners are noted same =
+    subst (λ (k : List Kept). AreOwned k lists owners) (sym (same refl)) are
+
+pub noted-only : (clock : List ℕ) (new : Access) (lists : List (List Access)) (kept kept' : List Kept) (place : ℕ)
+    (now : List (List Access)) → place < length now → all_of lists kept ≡ now → IsNotedOnly new place kept kept'
+    → IsNotedAt clock new place now (all_of lists kept')
+noted-only clock new lists kept kept' place now h e is =
+    subst (λ (k : List Kept). IsNotedAt clock new place now (all_of lists k)) (sym is.only)
+    (noted-now clock new lists kept place (kept_at kept' place) now (within-all lists kept now place e h) e
+    (is.noted clock))

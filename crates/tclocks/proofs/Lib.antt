@@ -8,6 +8,8 @@ pub mod Lists
 pub mod Noting
 -- what is kept of a place without a list
 pub mod Briefly
+-- what pages keep of all places
+pub mod Tabling
 -- what is kept of all places
 pub mod Keeping
 -- joins

@@ -9,6 +9,8 @@ pub mod Places
 pub mod Checks
 -- how they are kept
 pub mod Kept
+-- how they are kept of all places
+pub mod Tables
 -- why an access is refused
 pub mod Refusals
 -- the numbers of what a machine has

@@ -1,6 +1,6 @@
 //! What is kept of a place, in 16 bytes or in a list.
 
-ghost use Rattle.std.specs.Prelude.{◌≡◌, ◌<◌, ◌++◌, ◌∷◌, ◌↔◌, [], ℕ, List, IfSome, IsSome, true};
+ghost use Rattle.std.specs.Prelude.{◌≡◌, ◌<◌, ◌++◌, ◌∷◌, [], ℕ, List, IfSome, false, true};
 ghost use Rattle.tclocks.specs.declared.step.Access.{Access};
 ghost use Rattle.tclocks.specs.Kept.{access_by, accesses_of, is_own, mode_of, unless_none, IsBrief, IsBriefly};
 ghost use Rattle.tclocks.specs.Kept.{IsNotedBriefly, ReplacesAll};
@@ -94,47 +94,41 @@ impl Way {
 }
 
 impl Kept {
-    /// What is kept behind an access, if all that is kept is of the same agent and it puts, claims or looks.
+    /// Notes an access, if all that is kept is of the same agent and it puts, claims or looks: whether it did.
     #[inline(always)]
-    pub fn with_own(self, step: Step, mode: Mode) -> Option<Kept>
+    pub fn note_own(&mut self, step: Step, mode: Mode) -> bool
         requires { 0 < step.number }
-        ensures own { IsSome result ↔ (is_own step.agent mode self ≡ true) }
-        ensures noted { IfSome result (λ kept. (clock : List ℕ)
-            → IsNotedBriefly clock (record { mode = mode; step = step }) self kept) }
+        ensures own { result ≡ is_own step.agent mode self.old }
+        ensures noted { result ≡ true → (clock : List ℕ)
+            → IsNotedBriefly clock (record { mode = mode; step = step }) self.old self.new }
+        ensures kept { result ≡ false → self.new ≡ self.old }
     {
         let Kept::OfOne {
             agent,
             put,
             claim,
-            look: _,
+            look,
         } = self
         else {
-            return None;
+            return false;
         };
-        if u32::from(agent) != step.agent {
-            return None;
+        if u32::from(*agent) != step.agent {
+            return false;
         }
         match mode {
-            Mode::Looks => Some(Kept::OfOne {
-                agent,
-                put,
-                claim,
-                look: step.number,
-            }),
-            Mode::Claims => Some(Kept::OfOne {
-                agent,
-                put,
-                claim: step.number,
-                look: 0,
-            }),
-            Mode::Puts => Some(Kept::OfOne {
-                agent,
-                put: step.number,
-                claim: 0,
-                look: 0,
-            }),
-            Mode::Checks | Mode::Lends | Mode::Commutes(_) => None,
+            Mode::Looks => *look = step.number,
+            Mode::Claims => {
+                *claim = step.number;
+                *look = 0;
+            }
+            Mode::Puts => {
+                *put = step.number;
+                *claim = 0;
+                *look = 0;
+            }
+            Mode::Checks | Mode::Lends | Mode::Commutes(_) => return false,
         }
+        true
     }
 
     /// What is kept behind an access that replaces all that is kept, or that its agent made before, where no list is

@@ -11,6 +11,7 @@
 mod access_list;
 mod clock;
 mod kept;
+mod kept_table;
 pub mod laws;
 pub mod mode;
 mod places;

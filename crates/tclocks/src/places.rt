@@ -1,6 +1,6 @@
 //! What is kept of all places.
 
-ghost use Rattle.std.specs.Prelude.{◌≡◌, ◌<◌, ◌++◌, [], List, ℕ, IfErr, IfOk, length, replicate, OnErr, OnOk};
+ghost use Rattle.std.specs.Prelude.{◌≡◌, ◌<◌, ◌++◌, [], List, IfErr, IfOk, length, replicate, OnErr, OnOk};
 ghost use Rattle.std.specs.Prelude.{◌≢◌, map, slice_index_or, true};
 ghost use Rattle.tclocks.specs.declared.kept.Kept.TheVariants.{InList};
 ghost use Rattle.tclocks.specs.declared.step.Access.{Access};
@@ -11,6 +11,7 @@ ghost use Rattle.tclocks.specs.Refusals.{IsDue};
 use crate::access_list::AccessList;
 use crate::clock::Clock;
 use crate::kept::{Kept, NOTHING};
+use crate::kept_table::KeptTable;
 use crate::mode::Mode;
 use crate::refusal::Refusal;
 use crate::step::{Access, Step};
@@ -18,10 +19,11 @@ use std::alloc::{AllocError, Global};
 use std::marker::Model;
 use std::mem;
 
-/// What is kept of all places. A place takes 16 bytes; those of which more has to be kept have a list besides.
+/// What is kept of all places. A place takes 16 bytes, once something is kept of it or of one of those around it; those
+/// of which more has to be kept have a list besides.
 #[derive(Drop)]
 pub struct Places {
-    kept: Vec<Kept>,
+    kept: KeptTable,
     lists: Vec<AccessList>,
     /// The place to which each list was given last.
     owners: Vec<usize>,
@@ -39,9 +41,9 @@ impl Model for Places {
 
     ghost use Rattle.tclocks.specs.Kept.{accesses_of, AreOwned};
 
-    ghost view = { λ p. map (accesses_of p.lists.items) p.kept.items };
+    ghost view = { λ p. map (accesses_of p.lists.items) p.kept };
 
-    ghost invariant = { λ p. AreOwned p.kept.items p.lists.items p.owners.items };
+    ghost invariant = { λ p. AreOwned p.kept p.lists.items p.owners.items };
 }
 
 impl Places {
@@ -50,7 +52,7 @@ impl Places {
         ensures { result ≡ [] }
     {
         Places {
-            kept: Vec::new(alloc),
+            kept: KeptTable::new(alloc),
             lists: Vec::new(alloc),
             owners: Vec::new(alloc),
             spare: Vec::new(alloc),
@@ -70,7 +72,7 @@ impl Places {
         ensures ok { OnOk result (self.new ≡ self.old ++ replicate count []) }
         ensures err { OnErr result (self.new ≡ self.old) }
     {
-        add_nothing(&mut self.kept, count)
+        self.kept.add(count)
     }
 
     /// An access of a step by an agent with this clock is noted at a place, if it races with none that is kept there.
@@ -92,8 +94,7 @@ impl Places {
         ensures refused { IfErr result (IsDue step.agent clock.now mode (slice_index_or self.old place [])) }
         ensures err { OnErr result (self.new ≡ self.old) }
     {
-        if let Some(kept) = self.kept[place].with_own(step, mode) {
-            self.kept[place] = kept;
+        if self.kept.note_own(place, step, mode) {
             return Ok(());
         }
         self.access_otherwise(alloc, clock, place, Access { mode, step })
@@ -115,8 +116,8 @@ impl Places {
             (IsDue access.step.agent clock.now access.mode (slice_index_or self.old place [])) }
         ensures err { OnErr result (self.new ≡ self.old) }
     {
-        if let Some(kept) = self.kept[place].with_known(clock, access) {
-            self.kept[place] = kept;
+        if let Some(kept) = self.kept.get(place).with_known(clock, access) {
+            self.kept.set(place, kept)?;
             return Ok(());
         }
         if let Some(race) = self.first_race(clock, place, access) {
@@ -132,7 +133,7 @@ impl Places {
         ensures { result
             ≡ first_race access.step.agent clock.now access.mode (slice_index_or self.now place []) }
     {
-        match self.kept[place] {
+        match self.kept.get(place) {
             Kept::InList(list) => self.lists[list].first_race(clock, access),
             kept => kept.first_race(clock, access),
         }
@@ -150,7 +151,7 @@ impl Places {
         ensures ok { OnOk result (IsKeptAt clock.now access place self.old self.new) }
         ensures err { OnErr result (self.new ≡ self.old) }
     {
-        if let Kept::InList(list) = self.kept[place] {
+        if let Kept::InList(list) = self.kept.get(place) {
             self.lists[list].note(clock, access)?;
             self.shorten(place);
             return Ok(());
@@ -171,22 +172,21 @@ impl Places {
         ensures err { OnErr result (self.new ≡ self.old) }
     {
         self.scratch
-            .copy_from(self.lists.as_slice(), self.kept[place])?;
+            .copy_from(self.lists.as_slice(), self.kept.get(place))?;
         self.scratch.note(clock, access)?;
         if let Some(kept) = Kept::of(self.scratch.as_slice()) {
-            self.kept[place] = kept;
-            return Ok(());
+            return self.kept.set(place, kept);
         }
         let list = spare_list(
             alloc,
-            self.kept.as_slice(),
+            &self.kept,
             &mut self.lists,
             &mut self.owners,
             &mut self.spare,
         )?;
+        self.kept.set(place, Kept::InList(list))?;
         mem::swap(&mut self.lists[list], &mut self.scratch);
         self.owners[list] = place;
-        self.kept[place] = Kept::InList(list);
         Ok(())
     }
 
@@ -195,33 +195,22 @@ impl Places {
         requires { place < length self.old }
         ensures { self.new ≡ self.old }
     {
-        let Kept::InList(list) = self.kept[place] else {
+        let Kept::InList(list) = self.kept.get(place) else {
             return;
         };
         if let Some(kept) = Kept::of(self.lists[list].as_slice()) {
-            self.kept[place] = kept;
-            // Without memory for its number the list is not used again.
-            let _ = self.spare.push(list);
+            if self.kept.set(place, kept).is_ok() {
+                // Without memory for its number the list is not used again.
+                let _ = self.spare.push(list);
+            }
         }
     }
-}
-
-/// So many places more, of which nothing is kept.
-fn add_nothing(kept: &mut Vec<Kept>, count: usize) -> Result<(), AllocError>
-    ensures ok { OnOk result (kept.new.items ≡ kept.old.items ++ replicate count NOTHING) }
-    ensures err { OnErr result (kept.new.items ≡ kept.old.items) }
-{
-    kept.reserve(count)?;
-    for _ in 0..count {
-        kept.push_reserved(NOTHING);
-    }
-    Ok(())
 }
 
 /// A list that no place has: one that was given back, or a new one.
 fn spare_list(
     alloc: Global,
-    kept: &[Kept],
+    kept: &KeptTable,
     lists: &mut Vec<AccessList>,
     owners: &mut Vec<usize>,
     spare: &mut Vec<usize>,
@@ -243,11 +232,14 @@ fn spare_list(
 }
 
 /// Whether a place does not have this list.
-fn is_spare(kept: &[Kept], place: usize, list: usize) -> bool
+fn is_spare(kept: &KeptTable, place: usize, list: usize) -> bool
     ensures { result ≡ true → place < length kept.now → slice_index_or kept.now place NOTHING ≢ InList list }
 {
+    if kept.len() <= place {
+        return true;
+    }
     match kept.get(place) {
-        Some(Kept::InList(other)) => *other != list,
+        Kept::InList(other) => other != list,
         _ => true,
     }
 }

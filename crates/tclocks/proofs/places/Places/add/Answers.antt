@@ -7,7 +7,7 @@ use Rattle.tclocks.proofs.places.Places.add.Goals as goal
 
 pub returns-clause-ok : goal.returns-clause-ok
 returns-clause-ok c =
-    on-ok c.add_nothing.result
+    on-ok c.add.result
     (λ e. ap (λ (kept : List Kept). map (accesses_of c.self.inside.lists.items) kept) e
-    ∙ more-places c.self.inside.lists.items c.self.inside.kept.items c.args.count
-    ∙ ap (λ (all : List (List Access)). all ++ replicate c.args.count []) c.self.view_is) c.add_nothing.ensures.ok
+    ∙ more-places c.self.inside.lists.items c.self.inside.kept c.args.count
+    ∙ ap (λ (all : List (List Access)). all ++ replicate c.args.count []) c.self.view_is) c.add.ensures.ok

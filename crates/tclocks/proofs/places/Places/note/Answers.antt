@@ -4,15 +4,16 @@ use Rattle.tclocks.specs.declared.step.Access.{Access}
 use Rattle.tclocks.specs.declared.kept.Kept.TheVariants.{InList}
 use Rattle.tclocks.specs.Places.{NotesAccess}
 use Rattle.tclocks.specs.Kept.{IsKeptAt}
-use Rattle.tclocks.proofs.Keeping.{kept_at, read-at, within-all, owned-list, changed-list, kept-now}
+use Rattle.tclocks.specs.Tables.{kept_at}
+use Rattle.tclocks.proofs.Keeping.{within-all, owned-list, changed-list, kept-now}
 use Rattle.tclocks.proofs.places.Places.note.Goals as goal
 
 pub returns-in-InList-clause-ok : goal.returns-in-InList-clause-ok
 returns-in-InList-clause-ok c =
-    let within : c.args.place < length c.self.inside.kept.items =
+    let within : c.args.place < length c.self.inside.kept =
     within-all c.self.inside.lists.items _ _ _ c.self.view_is c.requires in
-    let is : kept_at c.self.inside.kept.items c.args.place ≡ InList c.in-InList.list =
-    read-at _ _ _ within c.index.ensures ∙ c.in-InList.is in
+    let is : kept_at c.self.inside.kept c.args.place ≡ InList c.in-InList.list =
+    sym c.get.ensures ∙ c.in-InList.is in
     let there : c.in-InList.list < length c.self.inside.lists.items =
     (owned-list _ _ _ c.self.invariant _ _ within is).0 in
     subst (λ (after : List (List Access)).

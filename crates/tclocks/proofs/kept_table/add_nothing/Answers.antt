@@ -2,7 +2,7 @@ use Rattle.std.proofs.Common.{◌≡◌, ℕ, ◌+◌, List, [], ◌∷◌, ◌+
 use Rattle.std.proofs.lemmas.List.{replicate-append-replicate}
 use Rattle.tclocks.specs.declared.kept.Kept.{Kept}
 use Rattle.tclocks.specs.declared.kept.Kept.TheVariants.{OfOne}
-use Rattle.tclocks.proofs.places.add_nothing.Goals as goal
+use Rattle.tclocks.proofs.kept_table.add_nothing.Goals as goal
 
 one-more : (list : List Kept) (n : ℕ) (kept : Kept)
     → (list ++ replicate n kept) ++ kept ∷ [] ≡ list ++ replicate (n + 1) kept
