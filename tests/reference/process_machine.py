@@ -503,11 +503,14 @@ class ProcessMachine:
         for place, value in step.after.items():
             self.set(place, value)
 
+    def crowding(self):
+        """Returns why a run ends in which too many processes have lived at a node, and the node, or None."""
+        crowded = [number for number, names in self.names.items() if len(names) > MOST_LIVE]
+        return ("TooManyProcesses", min(crowded)) if crowded else None
+
     def refusal(self):
         """Returns why a run that is over is not certified, and the node, or None."""
         for number in range(len(self.sizes)):
-            if len(self.names.get(number, ())) > MOST_LIVE:
-                return "TooManyProcesses", number
             if number in self.flagged and len(self.priorities[number]) > 1:
                 return "FlagsChanged", number
         return None

@@ -124,7 +124,8 @@ class Verdict(NamedTuple):
 
 
 def certify(machine, most, choose=lambda ready: next(iter(ready)), tell=lambda step: None):
-    """Runs the process machine with the check, up to its end, a race, a step that stops, or so many steps."""
+    """Runs the process machine with the check, up to its end, a race, a step that stops, too many processes at a node,
+    or so many steps."""
     check, number, own = RaceCheck(machine), 0, collections.Counter()
     while machine.ready:
         if number == most:
@@ -141,5 +142,7 @@ def certify(machine, most, choose=lambda ready: next(iter(ready)), tell=lambda s
         tell(step)
         machine.do(step)
         number += 1
-    refusal, node = machine.refusal() or (None, None)
+        if machine.crowding():
+            break
+    refusal, node = machine.crowding() or machine.refusal() or (None, None)
     return Verdict(number, refusal=refusal, at=node)

@@ -9,10 +9,12 @@ use Rattle.tplan.specs.declared.plan.Plan.{Plan}
 use Rattle.tverdict.specs.declared.agent.Agent.{Agent}
 use Rattle.tverdict.specs.declared.agent.Agent.TheVariants as agent
 use Rattle.tverdict.specs.declared.machine.Machine.{Machine}
-use Rattle.tverdict.specs.Machines.{Follows, HasStep}
+use Rattle.tverdict.specs.declared.turn.Turn.{Turn}
+use Rattle.tverdict.specs.declared.turn.Turn.TheVariants as turn
+use Rattle.tverdict.specs.Machines.{Follows, HasNoStep, HasStep}
 use Rattle.tverdict.specs.Next.{IsLookedAt, IsLookedOver}
 use Rattle.tverdict.specs.Stepping.{KeepsAgents}
-use Rattle.tverdict.specs.Turns.{HasMade}
+use Rattle.tverdict.specs.Turns.{HasMade, IsTurned}
 use Rattle.tverdict.proofs.Keeping.{get_more}
 use Rattle.tverdict.proofs.Looked.{added_sound, follows_still, steps_stay}
 use Rattle.tverdict.proofs.Opens.{has_number}
@@ -62,3 +64,14 @@ cut plan old mid last number over f had same adds most enough = (
       (sym (ap (λ (m : Machine). m.done) same ∙ ap (λ (m : Machine). m.done) over.same)) enough,
   (number, steps_stay plan mid last same number had),
 )
+
+-- what a turn tells where an agent has made a step, and where no agent has one
+pub made_follows : (plan : Plan) (old new : Machine) (t : Turn) (n : ℕ) → t ≡ turn.Made n → IsTurned plan old t new
+    → Follows plan new
+made_follows plan old new t n is turned = (subst (λ (u : Turn). IsTurned plan old u new) is turned).follows
+
+pub over_follows : (plan : Plan) (old new : Machine) (t : Turn) → t ≡ turn.Over → IsTurned plan old t new
+    → Follows plan new × HasNoStep plan new
+over_follows plan old new t is turned =
+    let over : IsTurned plan old turn.Over new = subst (λ (u : Turn). IsTurned plan old u new) is turned in
+    (over.0, over.1)

@@ -1,10 +1,10 @@
 //! Runs that are over.
 
-ghost use Rattle.std.specs.Prelude.{◌≡◌, ℕ, position};
+ghost use Rattle.std.specs.Prelude.{◌≡◌, ℕ, position, IfSome};
 ghost use Rattle.tplan.specs.declared.plan.Plan.{Plan};
 ghost use Rattle.tverdict.specs.Machines.{Follows, HasNoStep};
 ghost use Rattle.tverdict.specs.Verdicts as spec;
-ghost use Rattle.tverdict.specs.Verdicts.{IsTold};
+ghost use Rattle.tverdict.specs.Verdicts.{IsRefusedBy, IsTold};
 
 use crate::machine::Machine;
 use crate::verdict::{Refusal, Verdict};
@@ -40,6 +40,17 @@ fn first_with_flags(nodes: &[Node]) -> Option<usize>
 }
 
 impl Machine {
+    /// The refusal of a run in which a node had more processes than it may.
+    pub fn crowding(&self) -> Option<Refusal>
+        ensures { IfSome result
+            (λ refusal. (plan : Plan) → Follows plan self.now → IsRefusedBy plan self.now refusal) }
+    {
+        let Some(node) = first_with_many(self.nodes.as_slice()) else {
+            return None;
+        };
+        Some(Refusal::TooManyProcesses { node })
+    }
+
     /// The verdict on a run after which no agent has a step.
     pub fn ending(&self) -> Verdict
         ensures { (plan : Plan) (most : ℕ) → Follows plan self.now → HasNoStep plan self.now

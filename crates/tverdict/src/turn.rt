@@ -64,8 +64,9 @@ impl Machine {
         Ok(Verdict::Cut)
     }
 
-    /// Goes on with the run, until no agent has a step, a step stops or has a race, or as many steps as permitted are
-    /// done in all and an agent has one more. Where it was cut it goes on with the same run, if it is called again.
+    /// Goes on with the run, until no agent has a step, a step stops or has a race, a node has had more processes than
+    /// it may, or as many steps as permitted are done in all and an agent has one more. Where it was cut it goes on
+    /// with the same run, if it is called again.
     ///
     /// # Errors
     /// Those of `turn`.
@@ -79,9 +80,17 @@ impl Machine {
         ensures told { IfOk result (λ verdict. IsTold plan.now most_steps self.new verdict) }
         ensures follows { IfOk result (λ verdict. verdict ≡ verdicts.Certified → Follows plan.now self.new) }
     {
+        let mut agents = self.agents.len();
         while self.done < most_steps {
             match self.turn(alloc, plan)? {
-                Turn::Made(_) => {}
+                Turn::Made(_) => {
+                    if agents < self.agents.len() {
+                        agents = self.agents.len();
+                        if let Some(refusal) = self.crowding() {
+                            return Ok(Verdict::Refused(refusal));
+                        }
+                    }
+                }
                 Turn::Over => return Ok(self.ending()),
                 Turn::Stops { agent, why } => {
                     return Ok(Verdict::Refused(Refusal::Stops { agent, why }));
