@@ -14,7 +14,9 @@ use Rattle.tnet.specs.Packets.{after_events}
 use Rattle.tfiles.specs.Outputs.{IsCut}
 use Rattle.tfiles.specs.declared.writing.output.WriteFault.{WriteFault}
 use Rattle.tnames.specs.declared.nodes.NodeNames.{NodeNames}
-use Rattle.tprocesses.specs.Certified.{IsCertificate}
+use Rattle.tprocesses.specs.Places.{Place}
+use Rattle.tprocesses.specs.Values.{Value}
+use Rattle.tprocesses.specs.Certified.{IsCertificate, ProcessStep}
 use Rattle.tseen.specs.Packets.{IsToldOfNet}
 use Rattle.tseen.proofs.AllRuns.{certificates_tell_of_the_net}
 use Rattle.tseen.proofs.PacketNets.{certificates_tell_of_packets}
@@ -30,7 +32,7 @@ use Rattle.tverdict.specs.Verdicts.{EndsCertified, IsTold}
 use Rattle.tfindings.specs.declared.finding.Finding.{Finding}
 use Rattle.tfindings.specs.declared.finding.Finding.TheVariants as finding
 use Rattle.tfindings.specs.Findings.{HasRun, IsRunOf, is_certified, outcome_of}
-use Rattle.tfindings.specs.Nets.{HasCertified, IsLineLeft, TellsOfAllRuns, WritesOfAllRuns}
+use Rattle.tfindings.specs.Nets.{HasCertified, IsLineLeft, TellsOfAllRuns, WritesOfAllRuns, with_timeslice}
 use Rattle.tfindings.specs.Telling.{certified_line, certified_text, finding_text}
 use Rattle.tfindings.proofs.Runs.{certified_only}
 
@@ -40,9 +42,14 @@ ends_certified : (plan : Plan) (most : ℕ) (m : Machine) (f : Finding) → HasR
 ends_certified plan most m f run is =
     subst (IsTold plan most m) (certified_only plan run.verdict f run.found (sym is)) run.true
 
--- all nets that a wiring and its files open are the opening of the plan
-module _ (w : Wiring) (files : List (List ℕ)) (plan : Plan) (planned : IsPlanOf w files plan)
-    (built : fault_of plan ≡ None) (opened : NetState) (opening : IsOpening w files opened) where
+of_fault : (net opened : NetState) (f : Option BuildFault) → unless_fault net f ≡ Ok opened
+    → (f ≡ None) × (opened ≡ net)
+of_fault net opened None made = (refl, cc)
+of_fault net opened (Some f) made = cc
+
+-- all nets that a wiring and its files open are the opening of the plan, which has no fault then
+module _ (w : Wiring) (files : List (List ℕ)) (plan : Plan) (planned : IsPlanOf w files plan) (opened : NetState)
+    (opening : IsOpening w files opened) where
   same_images : opening.images ≡ planned.images
   same_images =
       let read : ◌≡◌ {A = Result (List Image) Fault} (Ok opening.images) (Ok planned.images) =
@@ -52,13 +59,29 @@ module _ (w : Wiring) (files : List (List ℕ)) (plan : Plan) (planned : IsPlanO
   same_plan : plan_of w opening.images ≡ plan
   same_plan = ap (plan_of w) same_images ∙ sym planned.planned
 
-  opens : opened ≡ opening_net plan
-  opens =
-      let made : unless_fault (opening_net plan) (fault_of plan) ≡ Ok opened =
-      subst (λ (p : Plan). unless_fault (opening_net p) (fault_of p) ≡ Ok opened) same_plan opening.made in
-      let whole : unless_fault (opening_net plan) None ≡ Ok opened =
-      subst (λ (f : Option BuildFault). unless_fault (opening_net plan) f ≡ Ok opened) built made in
-      cc
+  opens : (fault_of plan ≡ None) × (opened ≡ opening_net plan)
+  opens = of_fault (opening_net plan) opened (fault_of plan)
+      (subst (λ (p : Plan). unless_fault (opening_net p) (fault_of p) ≡ Ok opened) same_plan opening.made)
+
+sliced_plan : (t : ℕ) (w : Wiring) (images : List Image)
+    → plan_of (record w { timeslice = t }) images ≡ with_timeslice t (plan_of w images)
+unfolding plan_of
+sliced_plan t w images = refl
+
+-- with another timeslice the process machine is the same
+sliced_words : (t : ℕ) (plan : Plan) → ArePlanWords plan → ArePlanWords (with_timeslice t plan)
+sliced_words t plan words = record { images = words.images; messages = words.messages }
+
+sliced_certificate : (t : ℕ) (plan : Plan) (steps : List ProcessStep) (end : Place → Value)
+    → IsCertificate plan steps end → IsCertificate (with_timeslice t plan) steps end
+sliced_certificate t plan steps end is = record {
+  run = is.run;
+  over = is.over;
+  takes_nothing = is.takes_nothing;
+  race_free = is.race_free;
+  few = is.few;
+  flags = is.flags;
+}
 
 pub tells_all : (w : Wiring) (files : List (List ℕ)) (most : ℕ) (plan : Plan) (m : Machine) (f : Finding)
     → IsPlanOf w files plan → fault_of plan ≡ None → ArePlanWords plan → HasRun plan most m f → f ≡ finding.Certified
@@ -69,7 +92,9 @@ tells_all w files most plan m f planned built words run is =
       steps = reverse ends.steps;
       count = length-reverse ends.steps ∙ ends.count;
       certificate = certificate;
-      runs = certificates_tell_of_the_net plan (reverse ends.steps) (machine_at plan m) built words certificate;
+      runs = λ t c taken notes good ran. certificates_tell_of_the_net (with_timeslice t plan) (reverse ends.steps)
+          (machine_at plan m) good (sliced_words t plan words)
+          (sliced_certificate t plan (reverse ends.steps) (machine_at plan m) certificate) c taken notes ran;
       nets = nets;
     }
   where
@@ -79,14 +104,24 @@ tells_all w files most plan m f planned built words run is =
     certificate : IsCertificate plan (reverse ends.steps) (machine_at plan m)
     certificate = ends.certified.certificate
 
-    nets : (opened net : NetState) (events : List Event) → IsOpening w files opened
+    sliced : (t : ℕ) → IsPlanOf (record w { timeslice = t }) files (with_timeslice t plan)
+    sliced t = record {
+      images = planned.images;
+      read = planned.read;
+      planned = ap (with_timeslice t) planned.planned ∙ sym (sliced_plan t w planned.images);
+    }
+
+    nets : (t : ℕ) (opened net : NetState) (events : List Event) → IsOpening (record w { timeslice = t }) files opened
         → after_events events opened ≡ Some net
-        → IsToldOfNet plan (reverse ends.steps) (machine_at plan m) opened events net
-    nets opened net events opening done =
-        let same : opened ≡ opening_net plan = opens w files plan planned built opened opening in
-        subst (λ (o : NetState). IsToldOfNet plan (reverse ends.steps) (machine_at plan m) o events net) (sym same)
-        (certificates_tell_of_packets plan (reverse ends.steps) (machine_at plan m) built words certificate events net
-        (subst (λ (o : NetState). after_events events o ≡ Some net) same done))
+        → IsToldOfNet (with_timeslice t plan) (reverse ends.steps) (machine_at plan m) opened events net
+    nets t opened net events opening done =
+        let same : (fault_of (with_timeslice t plan) ≡ None) × (opened ≡ opening_net (with_timeslice t plan)) =
+        opens (record w { timeslice = t }) files (with_timeslice t plan) (sliced t) opened opening in
+        subst (λ (o : NetState). IsToldOfNet (with_timeslice t plan) (reverse ends.steps) (machine_at plan m) o events net)
+        (sym same.1)
+        (certificates_tell_of_packets (with_timeslice t plan) (reverse ends.steps) (machine_at plan m) same.0
+        (sliced_words t plan words)
+        (sliced_certificate t plan (reverse ends.steps) (machine_at plan m) certificate) events net (subst (λ (o : NetState). after_events events o ≡ Some net) same.1 done))
 
 -- only a certificate is told as clear
 clear_certified : (f : Finding) → outcome_of f ≡ Clear → f ≡ finding.Certified

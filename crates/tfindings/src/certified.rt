@@ -10,6 +10,7 @@ ghost use Rattle.tfindings.specs.Telling.{certified_line as spec_line};
 
 use crate::certifying::find;
 use crate::finding::Finding;
+use crate::progress::RunProgress;
 use crate::telling::write_certified;
 use std::alloc::Global;
 use tfiles::CountedWrite;
@@ -19,16 +20,17 @@ use tword::Items;
 
 /// Runs the process machine of the net of a wiring and the files of its images as `certify_files` does, and if the net
 /// is certified, writes only the last line of what that writes. Else it writes nothing. Returns whether the net is
-/// certified.
+/// certified. progress: is told how far the run has come.
 ///
 /// # Errors
 /// Those of `certify_files`.
 #[tactic(auto, using(crate::proofs::Nets::has_certified))]
-pub fn certified_line<W: CountedWrite>(
+pub fn certified_line<P: RunProgress, W: CountedWrite>(
     alloc: Global,
     wiring: &Wiring,
     files: Items<Items<u8>>,
     most_steps: u64,
+    progress: &mut P,
     out: &mut W,
 ) -> Result<bool, Fault>
     requires { length files ≡ length wiring.now.nodes }
@@ -53,7 +55,7 @@ pub fn certified_line<W: CountedWrite>(
     ensures cause { IfErr result (HasOutputCause (W.failures out.old) (W.failures out.new)) }
     ensures stayed { OnOk result (HasStayed (W.failures out.old) (W.failures out.new)) }
 {
-    let found = find(alloc, wiring, files, most_steps)?;
+    let found = find(alloc, wiring, files, most_steps, progress)?;
     if !is_certified(&found.finding) {
         return Ok(false);
     }

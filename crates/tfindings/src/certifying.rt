@@ -14,6 +14,8 @@ ghost use Rattle.tfindings.specs.Nets.{TellsOfAllRuns, WritesOfAllRuns};
 ghost use Rattle.tfindings.specs.Telling.{certified_text};
 
 use crate::finding::{Finding, Touch};
+use crate::parts::certify_in_parts;
+use crate::progress::RunProgress;
 use crate::steps::made_by;
 use crate::telling::{body_of, write_finding};
 use std::alloc::{AllocError, Global};
@@ -30,20 +32,21 @@ use tword::Items;
 /// `temu certify`: runs the process machine of the net of a wiring and the files of its images, one file a node, once,
 /// for at most so many steps, and writes what was found: that all its runs end in one way, and this end; or two steps
 /// that have a race; or why there is no certificate; behind each address of a race or a refusal its name, where it has
-/// one. The wiring's holds are ignored. Nothing is written before the run has ended. Returns `Clear` if it is
-/// certified, `Marked` if there is a race, else `Cut`.
+/// one. The wiring's holds are ignored. Nothing is written before the run has ended. progress: is told how far it has
+/// come. Returns `Clear` if it is certified, `Marked` if there is a race, else `Cut`.
 ///
 /// # Errors
 /// The first of these: `Image` for the first file that is no image, `Net` for the lowest fault of the plan, `Output`
 /// where the writer failed. `Memory` where the allocator refused, or a number would not fit. But for `Output` nothing
 /// was written.
 #[tactic(auto, using(crate::proofs::Runs::has_found, crate::proofs::Runs::finding_cut, crate::proofs::Nets::writes))]
-pub fn certify_files<W: CountedWrite>(
+pub fn certify_files<P: RunProgress, W: CountedWrite>(
     alloc: Global,
     wiring: &Wiring,
     files: Items<Items<u8>>,
     most_steps: u64,
     names: &[NodeNames],
+    progress: &mut P,
     out: &mut W,
 ) -> Result<Outcome, Fault>
     requires { length files ≡ length wiring.now.nodes }
@@ -67,7 +70,7 @@ pub fn certify_files<W: CountedWrite>(
     ensures cause { IfErr result (HasOutputCause (W.failures out.old) (W.failures out.new)) }
     ensures stayed { OnOk result (HasStayed (W.failures out.old) (W.failures out.new)) }
 {
-    let found = find(alloc, wiring, files, most_steps)?;
+    let found = find(alloc, wiring, files, most_steps, progress)?;
     let Ok(body) = body_of(alloc, &found.machine, &found.finding) else {
         return Err(Fault::Memory);
     };
@@ -97,11 +100,12 @@ pub(crate) struct FoundRun {
 /// # Errors
 /// `Image` for the first file that is no image, `Net` for the lowest fault of the plan, `Memory`.
 #[tactic(auto, using(crate::proofs::Runs::opened_files, crate::proofs::Runs::due_of_files))]
-pub(crate) fn find(
+pub(crate) fn find<P: RunProgress>(
     alloc: Global,
     wiring: &Wiring,
     files: Items<Items<u8>>,
     most_steps: u64,
+    progress: &mut P,
 ) -> Result<FoundRun, Fault>
     requires { length files ≡ length wiring.now.nodes }
     ensures found { IfOk result (λ x. IsRunOf wiring.now files most_steps x.plan x.machine x.finding) }
@@ -112,7 +116,7 @@ pub(crate) fn find(
 {
     let plan = plan(alloc, wiring, files)?;
     know_plan(&plan);
-    let Ran { machine, finding } = run_plan(alloc, &plan, most_steps)?;
+    let Ran { machine, finding } = run_plan(alloc, &plan, most_steps, progress)?;
     Ok(FoundRun {
         plan,
         machine,
@@ -125,14 +129,19 @@ pub(crate) fn find(
 /// # Errors
 /// `Net` for the lowest fault of the plan; `Memory`.
 #[tactic(auto, using(crate::proofs::Runs::few_nodes, crate::proofs::Runs::opened_plan, crate::proofs::Runs::fault_due))]
-fn run_plan(alloc: Global, plan: &Plan, most_steps: u64) -> Result<Ran, Fault>
+fn run_plan<P: RunProgress>(
+    alloc: Global,
+    plan: &Plan,
+    most_steps: u64,
+    progress: &mut P,
+) -> Result<Ran, Fault>
     ensures ran { IfOk result (λ ran. HasRun plan.now most_steps ran.machine ran.finding) }
     ensures planned { OnOk result (fault_of plan.now ≡ None) }
     ensures few { OnOk result (node_count plan.now ≤ most_nodes) }
     ensures opened { OnOk result (IsOk (as_opened (built plan.now))) }
     ensures due { IfErr result (IsFaultOf (as_opened (built plan.now))) }
 {
-    Ok(run(alloc, plan, most_steps)?)
+    Ok(run(alloc, plan, most_steps, progress)?)
 }
 
 /// What the command comes to.
@@ -160,13 +169,20 @@ struct Ran {
 ///
 /// # Errors
 /// The lowest fault of the plan; `OutOfMemory`.
-fn run(alloc: Global, plan: &Plan, most_steps: u64) -> Result<Ran, BuildFault>
+fn run<P: RunProgress>(
+    alloc: Global,
+    plan: &Plan,
+    most_steps: u64,
+    progress: &mut P,
+) -> Result<Ran, BuildFault>
     ensures ran { IfOk result (λ ran. HasRun plan.now most_steps ran.machine ran.finding) }
     ensures planned { OnOk result (fault_of plan.now ≡ None) }
     ensures due { IfErr result (IsPlanFault (fault_of plan.now)) }
 {
     let mut machine = Machine::open(alloc, plan)?;
-    let verdict = machine.certify(alloc, plan, most_steps)?;
+    let verdict = certify_in_parts(alloc, plan, &mut machine, most_steps, progress);
+    progress.end();
+    let verdict = verdict?;
     let finding = finding_of(alloc, plan, &verdict)?;
     Ok(Ran { machine, finding })
 }

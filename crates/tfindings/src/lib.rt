@@ -8,6 +8,7 @@
 //! - `refusals`: why a step stops
 //! - `finding`, `telling`: what was found, and how it is printed
 //! - `steps`: where a step was made, by a second run
+//! - `progress`, `parts`: who is told how far the run has come
 //! - `certifying`: the call of the command
 //! - `certified`: whether the net is certified, in one line
 #![tactic(auto)]
@@ -18,10 +19,13 @@ mod certified;
 mod certifying;
 mod ends;
 pub mod finding;
+mod parts;
 mod places;
+mod progress;
 mod refusals;
 mod steps;
 mod telling;
 
 pub use certified::certified_line;
 pub use certifying::certify_files;
+pub use progress::RunProgress;

@@ -3,6 +3,7 @@
 ghost use Rattle.std.specs.Prelude.{IfOk};
 ghost use Rattle.tprogram.specs.Statuses.{IsCertifyVerdict};
 
+use crate::progress::StepsLine;
 use std::io;
 use tcommands::{NetFiles, flushed, load_names, load_net};
 use tfiles::Uncounted;
@@ -21,12 +22,14 @@ pub(crate) fn do_certify(rt: &HostRuntime, asked: &Certifying) -> Result<Verdict
     let NetFiles { wiring, images } = load_net(rt, asked.wiring.as_str())?;
     let names = load_names(rt, asked.names.as_slice())?;
     let mut out = Uncounted(io::writer(rt));
+    let mut progress = StepsLine::new(rt);
     let answer = certify_files(
         rt.alloc(),
         &wiring,
         images,
         asked.steps,
         names.as_slice(),
+        &mut progress,
         &mut out,
     );
     flushed(answer, &mut out)

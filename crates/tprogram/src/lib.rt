@@ -4,11 +4,13 @@
 //! - `program`: what is asked for is done, and its fault told
 //! - `commands`: which call does each command
 //! - `exploring`, `certifying`: `explore` with its logs, and `certify`
+//! - `progress`: how far the run of a certificate has come
 #![tactic(auto)]
 
 mod certifying;
 mod commands;
 mod exploring;
 mod program;
+mod progress;
 
 pub use program::do_asked;

@@ -41,6 +41,7 @@ module _ (p : Plan) (steps : List ProcessStep) (end : Place → Value) (built : 
         carried = told.carried;
         memories = λ quiet. told.memories (rests quiet);
         messages = λ quiet. told.messages (rests quiet);
+        left = λ quiet. (told.ends (rests quiet)).sources;
         carried_all = λ quiet. told.carried_all (rests quiet);
       }
 

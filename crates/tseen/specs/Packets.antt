@@ -14,12 +14,12 @@ use Rattle.tprocesses.specs.Places.{Place}
 use Rattle.tprocesses.specs.Values.{Value}
 use Rattle.tprocesses.specs.Certified.{ProcessStep, IsCertificate}
 use Rattle.tseen.specs.Carried.{arrived, handed, AreKnownAs}
-use Rattle.tseen.specs.Whole.{most_steps, HasCarried, HasKnownBytes, HasKnownMessages, NoneHalted}
+use Rattle.tseen.specs.Whole.{most_steps, HasCarried, HasKnownBytes, HasKnownMessages, HasMessagesLeft, NoneHalted}
 
 -- what is told of a net to which these events lead from another one: the steps that are seen of them are no more than
 -- the certificate allows, no node is frozen or has halted, and each wire has carried the first messages that it carries
--- in the certificate. Where no event is enabled, memories and sinks are as in the certified end, and each wire has
--- carried all of these messages
+-- in the certificate. Where no event is enabled, memories, sources and sinks are as in the certified end, and each wire
+-- has carried all of these messages
 pub record IsToldOfNet (p : Plan) (steps : List ProcessStep) (end : Place → Value) (opened : NetState)
     (events : List Event) (net : NetState) : Type 0 where
   pub bounded : length (images events opened) ≤ most_steps p steps
@@ -28,6 +28,7 @@ pub record IsToldOfNet (p : Plan) (steps : List ProcessStep) (end : Place → Va
   pub carried : (e : End) → HasCarried p steps e (notes events opened)
   pub memories : IsQuiet net → HasKnownBytes p (view net) end
   pub messages : IsQuiet net → HasKnownMessages p (view net) end
+  pub left : IsQuiet net → HasMessagesLeft p (view net) end
   pub carried_all : IsQuiet net → (e : End) → AreKnownAs (handed p e steps) (arrived e (notes events opened))
 
 -- of each net to which events lead from the opening of a plan this is told, if the plan has a certificate

@@ -9,6 +9,7 @@ use Rattle.tplan.specs.declared.event.Note.{Note}
 use Rattle.tplan.specs.declared.plan.End.{End}
 use Rattle.tplan.specs.declared.plan.NodePlan.{NodePlan}
 use Rattle.tplan.specs.declared.plan.SinkPlan.{SinkPlan}
+use Rattle.tplan.specs.declared.plan.SourcePlan.{SourcePlan}
 use Rattle.tplan.specs.declared.plan.Plan.{Plan}
 use Rattle.tnet.specs.Building.{fault_of, node_count, opening_configuration, ArePlanWords}
 use Rattle.tnet.specs.Rendezvous.{Node, Configuration, Step, node_of, IsRun}
@@ -20,7 +21,7 @@ use Rattle.tprocesses.specs.Values.{Value, AreKept, word_in}
 use Rattle.tprocesses.specs.Opening.{opening_state}
 use Rattle.tprocesses.specs.Certified.{ProcessStep, machine_of, IsCertificate}
 use Rattle.tseen.specs.Known.{KnowsCells, KnowsMessages}
-use Rattle.tseen.specs.Scripts.{messages_from}
+use Rattle.tseen.specs.Scripts.{messages_from, ShowsSource}
 use Rattle.tseen.specs.Shown.{Shows}
 use Rattle.tseen.specs.Carried.{arrived, handed, AreKnownAs}
 
@@ -56,6 +57,13 @@ HasKnownMessages p c s =
     (k : ℕ) (sink : SinkPlan) → slice_get p.sinks k ≡ Some sink
     → (node : Node) × (node_of c (length p.nodes + length p.sources + k) ≡ Some node)
     × HasKept s (end_at (length p.nodes + length p.sources + k) 0) node
+
+-- each source has the messages left that it has in a state
+abbrev pub HasMessagesLeft : Plan → Configuration → (Place → Value) → Type 0
+HasMessagesLeft p c s =
+    (k : ℕ) (source : SourcePlan) → slice_get p.sources k ≡ Some source
+    → (node : Node) × (node_of c (length p.nodes + k) ≡ Some node)
+    × ShowsSource s (end_at (length p.nodes + k) 0) node
 
 -- so many steps a run of a net has at most, if a certificate of its plan has these steps. Between two steps of the
 -- process machine each node may notice four offers, see four outputs to be over, and go back to a process that was
