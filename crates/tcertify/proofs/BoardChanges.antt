@@ -2,7 +2,7 @@
 use Rattle.std.proofs.Common.{◌≡◌, ℕ, refl, sym, ap, ◌∙◌, Bool, true, false, List, eq-eqb}
 use Rattle.std.specs.Prelude.{◌==◌, ◌&&◌, ℤ, pos, ◌+ℤ◌, Option, if◌then◌else◌}
 use Rattle.tproc.specs.declared.channels.Side.{Side}
-use Rattle.tnet.specs.Wires.{end_at}
+use Rattle.tplan.specs.Wires.{end_at}
 use Rattle.tprocesses.specs.Places.{Place, Name, Standing, Half, LinkHalf, Error, HaltOnError, Life, Successions}
 use Rattle.tprocesses.specs.Places.{Population, HasRun, FlagChanged, same_place, same_name, same_side}
 use Rattle.tprocesses.specs.Values.{Value, Stand, Request, Link, IsStand, IsHalf, IsLink, IsFlag, IsAmount, IsCount}

@@ -2,7 +2,7 @@
 use Rattle.std.proofs.Common.{◌≡◌, ℕ, sym, ap, ◌∙◌, ◌+◌, Some}
 use Rattle.std.specs.Prelude.{slice_get}
 use Rattle.tproc.specs.declared.channels.Side.TheVariants.{Input, Output}
-use Rattle.tnet.specs.Wires.{end_at}
+use Rattle.tplan.specs.Wires.{end_at}
 use Rattle.tprocesses.specs.Places.{Place, Name, WordAt, Sending, Standing, Half, LinkHalf, Error, HaltOnError, Life}
 use Rattle.tprocesses.specs.Places.{Successions, Population, HasRun, FlagChanged}
 use Rattle.tprocesses.specs.Touching.{Site}

@@ -9,7 +9,7 @@ use Rattle.tword.specs.Touches.{Reads, Writes, is_aligned}
 use Rattle.tproc.specs.declared.channels.Side.{Side}
 use Rattle.tproc.specs.declared.channels.Side.TheVariants.{Input, Output}
 use Rattle.tproc.specs.LinkChannels as links
-use Rattle.tnet.specs.Wires.{end_at}
+use Rattle.tplan.specs.Wires.{end_at}
 use Rattle.tprocesses.specs.LinkMessages.{is_empty, lends, takes_link}
 use Rattle.tprocesses.specs.Changes.{Put}
 use Rattle.tprocesses.specs.Parts.{Reason, Breaks, Doing, change, require, see}

@@ -8,7 +8,7 @@ use Rattle.tword.specs.Stores.{Store}
 use Rattle.tword.specs.Touches.{Reads}
 use Rattle.tplan.specs.declared.plan.End.{End}
 use Rattle.tproc.specs.declared.channels.Side.TheVariants.{Input, Output}
-use Rattle.tnet.specs.Wires.{end_at}
+use Rattle.tplan.specs.Wires.{end_at}
 use Rattle.tprocesses.specs.LinkMessages.{node_receives, node_sends, received_by, sent_by}
 use Rattle.tprocesses.specs.Changes.{Put}
 use Rattle.tprocesses.specs.Parts.{Reason, Breaks, HasNoStep, Part, Doing, gives, stopping, change, require, see}

@@ -6,7 +6,7 @@ use Rattle.std.specs.Prelude.{Contains, is_some, option_map, slice_get, slice_se
 use Rattle.std.proofs.lemmas.Bool.{cases_eq}
 use Rattle.std.proofs.lemmas.Option.{slice_get-get_or, slice_get-map, same_Some}
 use Rattle.tagents.specs.Walks.{Sight}
-use Rattle.tnet.specs.Wires.{end_at}
+use Rattle.tplan.specs.Wires.{end_at}
 use Rattle.tprocesses.specs.Machine.{is_offered}
 use Rattle.tprocesses.specs.Places as place
 use Rattle.tprocesses.specs.Places.{Name, Place}

@@ -1,7 +1,7 @@
 -- Outputs of links that are over.
 use Rattle.std.proofs.Common.{◌≡◌, ℕ, refl, sym, subst, Bool, false, List, Option, Some, None, Result, Ok, Err, negsuc}
 use Rattle.tproc.specs.declared.channels.Side.TheVariants.{Output}
-use Rattle.tnet.specs.Wires.{end_at}
+use Rattle.tplan.specs.Wires.{end_at}
 use Rattle.tprocesses.specs.Changes.{Put}
 use Rattle.tprocesses.specs.Parts.{Doing, HasNoStep, change, require, see, ◌>>◌}
 use Rattle.tprocesses.specs.Places as place

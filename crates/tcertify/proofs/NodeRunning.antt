@@ -7,7 +7,7 @@ use Rattle.std.proofs.lemmas.List.Elements.{All-append, All-weaker, Contains-app
 use Rattle.std.proofs.lemmas.List.{append-nil, length-map}
 use Rattle.std.proofs.lemmas.Option.{slice_get-get_or}
 use Rattle.tagents.specs.Walks.{Sight}
-use Rattle.tnet.specs.Wires.{end_at}
+use Rattle.tplan.specs.Wires.{end_at}
 use Rattle.tprocesses.specs.Places.{Place, Name, Image, WordAt, Half, LinkHalf}
 use Rattle.tprocesses.specs.Machine.{is_offered}
 use Rattle.tprocesses.specs.Changes.{Decrement}

@@ -5,7 +5,7 @@ use Rattle.std.specs.Prelude.{[], Contains, is_some, unwrap_or, ◌⊎◌}
 use Rattle.tagents.specs.Walks.{Sight}
 use Rattle.tproc.specs.declared.channels.Side as machine
 use Rattle.tproc.specs.declared.channels.Side.TheVariants.{Input, Output}
-use Rattle.tnet.specs.Wires.{end_at}
+use Rattle.tplan.specs.Wires.{end_at}
 use Rattle.tprocesses.specs.Places as place
 use Rattle.tprocesses.specs.Places.{Place, Name, WordAt}
 use Rattle.tprocesses.specs.Values.{Value, stand_in, half_in, link_in}

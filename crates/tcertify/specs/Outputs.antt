@@ -2,7 +2,7 @@
 -- Source: own choice, a part of `takes_back` of `tprocesses`.
 use Rattle.std.specs.Prelude.{ℕ}
 use Rattle.tproc.specs.declared.channels.Side.TheVariants.{Output}
-use Rattle.tnet.specs.Wires.{end_at}
+use Rattle.tplan.specs.Wires.{end_at}
 use Rattle.tprocesses.specs.Changes.{Put}
 use Rattle.tprocesses.specs.Parts.{Doing, HasNoStep, change, require, see, ◌>>=◌, ◌>>◌}
 use Rattle.tprocesses.specs.Places.{LinkHalf}

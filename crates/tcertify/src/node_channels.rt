@@ -1,7 +1,7 @@
 //! The halves of a node's channels and links.
 
 ghost use Rattle.std.specs.Prelude.{◌≡◌, ◌<◌, Ok, IfOk, List, None, length};
-ghost use Rattle.tnet.specs.Wires.{end_at};
+ghost use Rattle.tplan.specs.Wires.{end_at};
 ghost use Rattle.tprocesses.specs.Changes.{Put};
 ghost use Rattle.tprocesses.specs.Machine.{is_offered};
 ghost use Rattle.tprocesses.specs.Places.{Name};

@@ -1,7 +1,7 @@
 //! Messages on the links of a node.
 
 ghost use Rattle.std.specs.Prelude.{◌≡◌, ◌<◌, ◌+◌, true, length};
-ghost use Rattle.tnet.specs.Wires.{end_at};
+ghost use Rattle.tplan.specs.Wires.{end_at};
 ghost use Rattle.tproc.specs.LinkChannels as links;
 ghost use Rattle.tprocesses.specs.LinkMessages as spec;
 ghost use Rattle.tcertify.specs.Contexts.{context_of};

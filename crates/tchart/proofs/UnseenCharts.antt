@@ -26,7 +26,7 @@ use Rattle.tnet.specs.Packets.{NetAnswer, after_answer, answered, is_done, is_en
 use Rattle.tnet.specs.Rendezvous.{Configuration, IsRun, Step}
 use Rattle.tnet.specs.Sound.{IsSound}
 use Rattle.tnet.specs.View.{image, view}
-use Rattle.tnet.specs.Wires.{far_ends}
+use Rattle.tplan.specs.Wires.{far_ends}
 use Rattle.tnet.proofs.Determined.{run_is_determined}
 use Rattle.tnet.proofs.DoneEvents.{event_at}
 use Rattle.tnet.proofs.SeenEvents.{step_simulation}

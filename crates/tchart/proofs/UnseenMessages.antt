@@ -22,7 +22,7 @@ use Rattle.tnet.specs.Net.{NetState, node_at, with_node}
 use Rattle.tnet.specs.Notes.{event_note}
 use Rattle.tnet.specs.Packets.{after_event, answered, delivered, net_happens, sent_off}
 use Rattle.tnet.specs.Stations.{input_bytes, listed, message_note}
-use Rattle.tnet.specs.Wires.{end_at, far_end, far_ends}
+use Rattle.tplan.specs.Wires.{end_at, far_end, far_ends}
 use Rattle.tnet.proofs.DoneEvents.{Done as Happened, Freezes, Goes, Taking, TookLast, TookOne, WrongMark, acknowledge}
 use Rattle.tnet.proofs.DoneEvents.{done as happened, event_at}
 use Rattle.tnet.proofs.Places.{slice_get-set_same}

@@ -8,7 +8,7 @@ use Rattle.std.specs.Prelude.{if◌then◌else◌}
 use Rattle.tword.specs.declared.breaks.Break.{Break}
 use Rattle.tword.specs.Limits.{most_nodes}
 use Rattle.tplan.specs.declared.plan.End.{End}
-use Rattle.tnet.specs.Wires.{end_at}
+use Rattle.tplan.specs.Wires.{end_at}
 use Rattle.tfiles.specs.Outputs.{counted}
 use Rattle.tchart.specs.declared.shown.Awaited.{Awaited}
 use Rattle.tchart.specs.declared.shown.Message.{Message}

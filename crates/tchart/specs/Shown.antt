@@ -18,7 +18,7 @@ use Rattle.tplan.specs.declared.event.Act.TheVariants as act
 use Rattle.tplan.specs.declared.event.Event.{Event}
 use Rattle.tplan.specs.declared.plan.End.{End}
 use Rattle.tnet.specs.Net.{NetState, node_at}
-use Rattle.tnet.specs.Wires.{far_ends}
+use Rattle.tplan.specs.Wires.{far_ends}
 use Rattle.tnet.specs.Packets.{is_enabled}
 use Rattle.thistory.specs.declared.deed.Deed.{Deed}
 use Rattle.thistory.specs.declared.deed.Deed.TheVariants as deed

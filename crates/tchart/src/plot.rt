@@ -2,7 +2,7 @@
 
 ghost use Rattle.std.specs.Prelude.{◌≡◌, OnOk, IfOk};
 ghost use Rattle.tword.specs.Limits.{most_nodes};
-ghost use Rattle.tnet.specs.Wires as wires;
+ghost use Rattle.tplan.specs.Wires as wires;
 ghost use Rattle.tchart.specs.Plots as spec;
 
 use crate::marks::{Bar, Begun, Mark, Pause, Track, Way};

@@ -3,7 +3,7 @@
 ghost use Rattle.std.specs.Prelude.{◌≡◌, ◌<◌, IfOk, OnOk, min, option_copied};
 ghost use Rattle.tword.specs.Stores.{bytes_at};
 ghost use Rattle.tnet.specs.Net.{node_at};
-ghost use Rattle.tnet.specs.Wires.{far_ends};
+ghost use Rattle.tplan.specs.Wires.{far_ends};
 ghost use Rattle.thistory.specs.Deeds.{net_behind, processor_in as processor_of};
 ghost use Rattle.tchart.specs.Shown as spec;
 

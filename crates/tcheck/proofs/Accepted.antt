@@ -7,7 +7,8 @@ use Rattle.tplan.specs.declared.plan.Plan.{Plan}
 use Rattle.tplan.specs.declared.plan.BuildFault.{BuildFault}
 use Rattle.tplan.specs.declared.wiring.Wiring.{Wiring}
 use Rattle.tnet.specs.Net.{NetState}
-use Rattle.tnet.specs.Building.{all_wires, built, fault_of, opening_net, unless_fault}
+use Rattle.tplan.specs.Wires.{all_wires}
+use Rattle.tnet.specs.Building.{built, fault_of, opening_net, unless_fault}
 use Rattle.trounds.specs.Rounds.{bad_hold}
 use Rattle.tfiles.specs.declared.image.ImageFault.{ImageFault}
 use Rattle.tfiles.specs.Images.{image_of}

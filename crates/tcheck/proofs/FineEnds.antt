@@ -8,7 +8,7 @@ use Rattle.std.proofs.lemmas.Option.{slice_get-get_or}
 use Rattle.std.proofs.lemmas.List.FromFn.{length-range_with_len, get_or-range_with_len}
 use Rattle.tplan.specs.declared.plan.End.{End}
 use Rattle.tplan.specs.declared.plan.Wire.{Wire}
-use Rattle.tnet.specs.Wires.{joins}
+use Rattle.tplan.specs.Wires.{joins}
 use Rattle.tnet.specs.Building.{first_end_twice, has_end_twice, share_an_end}
 use Rattle.tnet.proofs.FirstFaults.{no_position, twice_at, twice_none}
 use Rattle.tcheck.specs.Wrongs.{found_at, first_sharing, shared_wrongs, twice_wrongs}

@@ -8,7 +8,7 @@ use Rattle.tword.specs.Limits.{most_holds}
 use Rattle.tplan.specs.declared.event.Hold.{Hold}
 use Rattle.tplan.specs.declared.event.PacketKind.TheVariants.{Data}
 use Rattle.tnet.specs.Net.{NetState}
-use Rattle.tnet.specs.Wires.{far_end}
+use Rattle.tplan.specs.Wires.{far_end}
 use Rattle.tnet.proofs.FirstFaults.{no_position, position_none}
 use Rattle.trounds.specs.Rounds.{bad_hold, is_good_hold}
 use Rattle.tcheck.specs.HoldWrongs.{NoHoldIsRefused, one_hold_wrongs}

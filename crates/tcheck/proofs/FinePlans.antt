@@ -16,10 +16,12 @@ use Rattle.tplan.specs.declared.plan.BuildFault.{BuildFault}
 use Rattle.tplan.specs.declared.plan.BuildFault.TheVariants.{BadSize, BadEnd, SameEnd, EndTwice}
 use Rattle.tplan.specs.declared.plan.BuildFault.TheVariants.{BadSegment, BadProcess, BadCapacity}
 use Rattle.tnet.specs.Net.{NetState}
-use Rattle.tnet.specs.Wires.{same_end}
-use Rattle.tnet.specs.Building.{all_wires, bad_process, bad_segment, fault_of, first_end_twice, first_with_fault}
+use Rattle.tplan.specs.Wires.{same_end}
+use Rattle.tplan.specs.Wires.{all_wires}
+use Rattle.tnet.specs.Building.{bad_process, bad_segment, fault_of, first_end_twice, first_with_fault}
 use Rattle.tnet.specs.Building.{has_too_many, is_bad_capacity, is_bad_end, is_bad_size, is_bad_timeslice, is_too_large}
-use Rattle.tnet.specs.Building.{named_ends, opening_net, or_else, script_ends, too_many, unless_fault, when}
+use Rattle.tplan.specs.Wires.{script_ends}
+use Rattle.tnet.specs.Building.{named_ends, opening_net, or_else, too_many, unless_fault, when}
 use Rattle.tnet.proofs.FirstFaults.{no_fault, no_position, none_faulty, position_none}
 use Rattle.tcheck.specs.declared.flaws.Place.TheVariants as place
 use Rattle.tcheck.specs.declared.flaws.Plenty.TheVariants as plenty

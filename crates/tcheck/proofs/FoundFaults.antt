@@ -23,13 +23,15 @@ use Rattle.tplan.specs.declared.plan.BuildFault.{BuildFault}
 use Rattle.tplan.specs.declared.plan.BuildFault.TheVariants.{TooMany, BadSize, BadTimeslice, BadEnd, SameEnd, EndTwice}
 use Rattle.tplan.specs.declared.plan.BuildFault.TheVariants.{BadSegment, BadProcess, BadCapacity}
 use Rattle.tnet.specs.Net.{NetState}
-use Rattle.tnet.specs.Wires.{same_end}
-use Rattle.tnet.specs.Building.{added_from, added_rest, all_wires, bad_process, bad_segment, built_machine}
+use Rattle.tplan.specs.Wires.{same_end}
+use Rattle.tplan.specs.Wires.{all_wires}
+use Rattle.tnet.specs.Building.{added_from, added_rest, bad_process, bad_segment, built_machine}
 use Rattle.tnet.specs.Building.{fault_at, fault_in, fault_of, first_end_twice, first_with_fault, has_end_twice}
 use Rattle.tnet.specs.Building.{has_too_many}
 use Rattle.tnet.specs.Building.{is_bad_capacity, is_bad_end, is_bad_segment, is_bad_size, is_bad_timeslice}
 use Rattle.tnet.specs.Building.{is_too_large}
-use Rattle.tnet.specs.Building.{late_fault, named_ends, opening_net, or_else, refused_process, script_ends}
+use Rattle.tplan.specs.Wires.{script_ends}
+use Rattle.tnet.specs.Building.{late_fault, named_ends, opening_net, or_else, refused_process}
 use Rattle.tnet.specs.Building.{share_an_end}
 use Rattle.tnet.specs.Building.{too_many, unless_fault, when}
 use Rattle.tnet.proofs.FirstFaults.{no_fault, no_position, twice_at}

@@ -10,7 +10,8 @@ use Rattle.tplan.specs.declared.event.Hold.{Hold}
 use Rattle.tplan.specs.declared.wiring.Wiring.{Wiring}
 use Rattle.tplan.specs.declared.wiring.WiringNode.{WiringNode}
 use Rattle.tnet.specs.Net.{NetState}
-use Rattle.tnet.specs.Building.{all_wires, built}
+use Rattle.tplan.specs.Wires.{all_wires}
+use Rattle.tnet.specs.Building.{built}
 use Rattle.trounds.specs.Rounds.{bad_hold}
 use Rattle.tfiles.specs.declared.image.ImageFault.{ImageFault}
 use Rattle.tfiles.specs.Images.{image_of}

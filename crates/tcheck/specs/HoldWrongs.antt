@@ -4,7 +4,7 @@ use Rattle.std.specs.Prelude.{ℕ, ◌≡◌, not, nat_le, nat_lt, List, [], ◌
 use Rattle.tword.specs.Limits.{most_holds}
 use Rattle.tplan.specs.declared.event.Hold.{Hold}
 use Rattle.tplan.specs.declared.plan.Wire.{Wire}
-use Rattle.tnet.specs.Wires.{far_end}
+use Rattle.tplan.specs.Wires.{far_end}
 use Rattle.tnet.specs.Net.{NetState}
 use Rattle.trounds.specs.Rounds.{bad_hold}
 use Rattle.tcheck.specs.declared.flaws.Place.TheVariants as place

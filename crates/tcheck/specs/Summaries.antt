@@ -13,7 +13,7 @@ use Rattle.tplan.specs.declared.plan.SinkPlan.{SinkPlan}
 use Rattle.tplan.specs.declared.plan.SourcePlan.{SourcePlan}
 use Rattle.tplan.specs.declared.plan.Wire.{Wire}
 use Rattle.tplan.specs.declared.wiring.WiringNode.{WiringNode}
-use Rattle.tnet.specs.Wires.{end_at, far_end}
+use Rattle.tplan.specs.Wires.{end_at, far_end}
 use Rattle.tfiles.specs.Logs.{line}
 use Rattle.tfiles.specs.Texts.{end_text}
 use Rattle.tnames.specs.Escapes.{escaped_text}

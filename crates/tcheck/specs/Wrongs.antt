@@ -14,9 +14,10 @@ use Rattle.tplan.specs.declared.plan.NodePlan.{NodePlan}
 use Rattle.tplan.specs.declared.plan.SourcePlan.{SourcePlan}
 use Rattle.tplan.specs.declared.plan.SinkPlan.{SinkPlan}
 use Rattle.tplan.specs.declared.plan.Plan.{Plan}
-use Rattle.tnet.specs.Wires.{same_end, joins}
+use Rattle.tplan.specs.Wires.{same_end, joins}
 use Rattle.tnet.specs.Building.{node_count, is_bad_size, is_bad_timeslice, is_bad_end, is_bad_capacity, is_bad_segment}
-use Rattle.tnet.specs.Building.{all_wires, built}
+use Rattle.tplan.specs.Wires.{all_wires}
+use Rattle.tnet.specs.Building.{built}
 use Rattle.tcheck.specs.declared.flaws.Place.{Place}
 use Rattle.tcheck.specs.declared.flaws.Place.TheVariants as place
 use Rattle.tcheck.specs.declared.flaws.Plenty.TheVariants as plenty

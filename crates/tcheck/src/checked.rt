@@ -3,7 +3,7 @@
 ghost use Rattle.std.specs.Prelude.{◌≡◌, ◌++◌, ◌↔◌, [], false, IfErr, IfOk, IsTrue, OnOk, length};
 ghost use Rattle.tfiles.specs.Failures.{HasRisen, HasStayed};
 ghost use Rattle.tfiles.specs.Outputs.{IsOut, Tells};
-ghost use Rattle.tnet.specs.Building.{all_wires as spec_all_wires};
+ghost use Rattle.tplan.specs.Wires.{all_wires as spec_all_wires};
 ghost use Rattle.tcheck.specs.Checks as spec;
 
 use crate::ends::{all_wires, is_crowded};

@@ -1,9 +1,8 @@
 //! All wires of a plan, and the ends that are named twice.
 
 ghost use Rattle.std.specs.Prelude.{◌≡◌, ◌<◌, ◌≤◌, ◌++◌, false, length, slice_get, take, Some, IfOk, OnOk};
-ghost use Rattle.tnet.specs.Building.{script_ends};
-ghost use Rattle.tnet.specs.Building.{all_wires as spec_all_wires};
-ghost use Rattle.tnet.specs.Wires as wires_spec;
+ghost use Rattle.tplan.specs.Wires.{all_wires as spec_all_wires, script_ends};
+ghost use Rattle.tplan.specs.Wires as wires_spec;
 ghost use Rattle.tcheck.specs.Wrongs as spec;
 
 use crate::finding::is_same_end;

@@ -2,7 +2,7 @@
 
 ghost use Rattle.std.specs.Prelude.{◌≡◌, ◌++◌, OnOk};
 ghost use Rattle.tnet.specs.Building as spec;
-ghost use Rattle.tnet.specs.Wires.{same_end};
+ghost use Rattle.tplan.specs.Wires.{same_end};
 ghost use Rattle.tcheck.specs.Wrongs.{end_wrongs, wrong_if};
 
 use crate::flaws::{Flaw, Place, Wrong};

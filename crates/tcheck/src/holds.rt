@@ -1,7 +1,7 @@
 //! What is wrong with the holds of a run.
 
 ghost use Rattle.std.specs.Prelude.{◌≡◌, ◌++◌, [], IfOk, OnOk, is_some};
-ghost use Rattle.tnet.specs.Wires.{far_end};
+ghost use Rattle.tplan.specs.Wires.{far_end};
 ghost use Rattle.tcheck.specs.HoldWrongs as spec;
 ghost use Rattle.tcheck.specs.Wrongs.{each_from};
 

@@ -2,7 +2,7 @@
 
 ghost use Rattle.std.specs.Prelude.{◌≡◌, is_some};
 ghost use Rattle.std.specs.List.{list_any};
-ghost use Rattle.tnet.specs.Wires.{end_at, far_end, same_end};
+ghost use Rattle.tplan.specs.Wires.{end_at, far_end, same_end};
 ghost use Rattle.tfiles.specs.Outputs.{Tells};
 ghost use Rattle.tcheck.specs.Summaries as spec;
 ghost use Rattle.tcheck.specs.Summaries.{texts_from};

@@ -23,7 +23,7 @@ use Rattle.tlink.specs.Events.{ended}
 use Rattle.tplan.specs.declared.event.Act.{Act}
 use Rattle.tplan.specs.declared.event.Act.TheVariants.{Run, Send, Data, Take, Ack}
 use Rattle.tplan.specs.declared.event.Event.{Event}
-use Rattle.tnet.specs.Wires.{end_at}
+use Rattle.tplan.specs.Wires.{end_at}
 use Rattle.tnet.specs.Net.{NetState, inbox_at, node_at}
 use Rattle.tnet.specs.Packets.{NetAnswer, node_event, net_answer, net_happens, after_answer, after_event}
 use Rattle.tnet.specs.Packets.{answered, is_done, is_enabled}

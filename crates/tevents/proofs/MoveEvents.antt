@@ -9,7 +9,7 @@ use Rattle.tproc.specs.Steps.{step}
 use Rattle.tproc.specs.LinkChannels.{link_end}
 use Rattle.tlink.specs.Node.{output_at}
 use Rattle.tplan.specs.declared.plan.End.{End}
-use Rattle.tnet.specs.Wires.{far_end}
+use Rattle.tplan.specs.Wires.{far_end}
 use Rattle.tnet.specs.Net.{NetState}
 use Rattle.tnet.specs.Rendezvous.{Node, Configuration, Step, Copy, Freeze_at, Lawful, IsLocal, IsWake, IsCopy, node_of}
 use Rattle.tnet.specs.Sound.{IsSound}

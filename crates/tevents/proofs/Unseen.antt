@@ -21,7 +21,7 @@ use Rattle.tplan.specs.declared.event.Act.{Act}
 use Rattle.tplan.specs.declared.event.Act.TheVariants.{Run, Send, Data, Take, Ack}
 use Rattle.tplan.specs.declared.event.Event.{Event}
 use Rattle.tplan.specs.declared.plan.End.{End}
-use Rattle.tnet.specs.Wires.{end_at, far_end}
+use Rattle.tplan.specs.Wires.{end_at, far_end}
 use Rattle.tnet.specs.Net.{NetState, node_at, with_node}
 use Rattle.tnet.specs.Packets.{after_event, received, delivered, sent_off}
 use Rattle.tnet.specs.View.{view, image, data_image}

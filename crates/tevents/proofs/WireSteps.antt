@@ -15,7 +15,7 @@ use Rattle.tplan.specs.declared.event.Act.TheVariants.{Send, Data, Take, Ack}
 use Rattle.tplan.specs.declared.event.Event.{Event}
 use Rattle.tplan.specs.declared.plan.End.{End}
 use Rattle.tplan.specs.declared.plan.Wire.{Wire}
-use Rattle.tnet.specs.Wires.{far_end}
+use Rattle.tplan.specs.Wires.{far_end}
 use Rattle.tnet.specs.Net.{NetState, inbox_at, node_at}
 use Rattle.tnet.specs.Packets.{after_event, answered, net_happens}
 use Rattle.tnet.specs.Rendezvous.{Step, Copy, Freeze_at, Fits, Differs}

@@ -10,7 +10,7 @@ use Rattle.tplan.specs.declared.plan.NodePlan.{NodePlan}
 use Rattle.tplan.specs.declared.plan.SourcePlan.{SourcePlan}
 use Rattle.tplan.specs.declared.plan.SinkPlan.{SinkPlan}
 use Rattle.tplan.specs.declared.plan.Plan.{Plan}
-use Rattle.tnet.specs.Wires.{end_at}
+use Rattle.tplan.specs.Wires.{end_at}
 use Rattle.tfiles.specs.Texts.{node_line, source_line}
 use Rattle.tprocesses.specs.Machine as machine
 use Rattle.tprocesses.specs.Opening.{opening_state, messages_of, source_at, sink_at}

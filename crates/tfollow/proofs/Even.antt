@@ -19,7 +19,7 @@ use Rattle.tproc.specs.Channels.{mode_of}
 use Rattle.tproc.specs.Queues.{not_process}
 use Rattle.tproc.specs.LinkChannels.{link_of, is_right_end, is_link}
 use Rattle.tplan.specs.declared.plan.End.{End}
-use Rattle.tnet.specs.Wires.{end_at}
+use Rattle.tplan.specs.Wires.{end_at}
 use Rattle.tprocesses.specs.Places.{Place, Name, WordAt, Sending, Standing, Half, LinkHalf, Messages, Kept, Life}
 use Rattle.tprocesses.specs.Places.{Population, HasRun, Error, HaltOnError, FlagChanged, Successions, After, child_of}
 use Rattle.tprocesses.specs.Values.{Use, Free, Saved, Receiving, Engaged, Last, Spoilt, Context, Lent, Stand, Absent}

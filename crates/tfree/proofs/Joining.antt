@@ -6,7 +6,7 @@ use Rattle.std.proofs.lemmas.Bool.{cases_eq}
 use Rattle.std.proofs.lemmas.List.{append-nil}
 use Rattle.std.proofs.lemmas.Option.{same_Some}
 use Rattle.tplan.specs.declared.plan.End.{End}
-use Rattle.tnet.specs.Wires.{end_at, far_end}
+use Rattle.tplan.specs.Wires.{end_at, far_end}
 use Rattle.tnet.specs.Net.{NetState, inbox_at}
 use Rattle.tnet.specs.Sound.{AreWires, IsEnd}
 use Rattle.tnet.proofs.OpenedWires.{wired_ends}

@@ -12,13 +12,13 @@ use Rattle.tlink.specs.declared.event.StepFault.TheVariants.{NotEnabled, Frozen}
 use Rattle.tlink.specs.Node.{NodeState, frozen}
 use Rattle.tlink.specs.Events.{Answer, happens, is_node_done}
 use Rattle.tplan.specs.declared.plan.End.{End}
-use Rattle.tnet.specs.Wires.{end_at, same_end, far_end}
+use Rattle.tplan.specs.Wires.{end_at, same_end, far_end}
 use Rattle.tnet.specs.Net.{NetState, empty_inbox, inbox_at, with_inbox, node_at, with_node}
 use Rattle.tnet.specs.Packets.{node_event, received, net_answer, net_happens}
 use Rattle.tnet.specs.Stations.{put_in}
 use Rattle.tnet.specs.Sound.{IsSound, IsEnd}
 use Rattle.tnet.proofs.WireRooms.{HasPacketRoom, FindsRoom, finds_room}
-use Rattle.tnet.proofs.Ends.{same_end-true, same_end-self}
+use Rattle.tplan.proofs.Ends.{same_end-true, same_end-self}
 use Rattle.tnet.proofs.OpenedWires.{wired_ends}
 use Rattle.tfree.specs.Stamps.{Clocks, stamps_at, with_stamps, stamp_taken, ticked}
 use Rattle.tfree.specs.Lists.{Sent, act_of, taken_packet}

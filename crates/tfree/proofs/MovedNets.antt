@@ -12,12 +12,12 @@ use Rattle.tlink.specs.Node.{NodeState}
 use Rattle.tlink.specs.Events.{Answer, happens, node_left_by, is_node_enabled}
 use Rattle.tplan.specs.declared.event.Event.{Event}
 use Rattle.tplan.specs.declared.plan.End.{End}
-use Rattle.tnet.specs.Wires.{end_at, same_end, far_end}
+use Rattle.tplan.specs.Wires.{end_at, same_end, far_end}
 use Rattle.tnet.specs.Net.{NetState, inbox_at, node_at, with_node}
 use Rattle.tnet.specs.declared.inbox.Inbox.{Inbox}
 use Rattle.tnet.specs.Packets.{node_event, received, net_answer, net_happens, after_event}
 use Rattle.tnet.specs.Sound.{IsSound}
-use Rattle.tnet.proofs.Ends.{same_end-true, same_end-self, same_end-false, other_part}
+use Rattle.tplan.proofs.Ends.{same_end-true, same_end-self, same_end-false, other_part}
 use Rattle.tfree.specs.Merge.{Stamped}
 use Rattle.tfree.specs.Stamps.{Clocks, stamps_at, with_stamps, stamp_taken, stamped_packet, ticked}
 use Rattle.tfree.specs.Lists.{Sent, act_of, taken_packet}

@@ -17,7 +17,7 @@ use Rattle.tlink.specs.Events.{Answer, happens, unless_frozen, emitting, after_s
 use Rattle.tlink.specs.Events.{node_left_by, node_answered}
 use Rattle.tplan.specs.declared.plan.End.{End}
 use Rattle.tplan.specs.declared.plan.Wire.{Wire}
-use Rattle.tnet.specs.Wires.{far_ends}
+use Rattle.tplan.specs.Wires.{far_ends}
 use Rattle.tnet.specs.FarEnds.{far_in_row, IsRow}
 use Rattle.tnet.specs.Stations.{mark_note, answer_note, note_of, listed}
 use Rattle.tnet.proofs.AnswerKinds.{Brings, Runs, data_brings, ack_brings, run_runs, note_by_far}

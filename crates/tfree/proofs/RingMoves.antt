@@ -10,9 +10,9 @@ use Rattle.tlink.specs.declared.event.NodeEvent.{NodeEvent}
 use Rattle.tlink.specs.declared.event.NodeEvent.TheVariants.{Run, Send, Data, Take, Ack}
 use Rattle.tlink.specs.Events.{Answer}
 use Rattle.tplan.specs.declared.plan.End.{End}
-use Rattle.tnet.specs.Wires.{end_at, same_end, far_end}
+use Rattle.tplan.specs.Wires.{end_at, same_end, far_end}
 use Rattle.tnet.specs.Net.{NetState}
-use Rattle.tnet.proofs.Ends.{same_end-self}
+use Rattle.tplan.proofs.Ends.{same_end-self}
 use Rattle.tfree.specs.declared.stamp.Sent.{Sent}
 use Rattle.tfree.specs.Lists.{taken_packet}
 use Rattle.tfree.specs.Lists.{event_taking}

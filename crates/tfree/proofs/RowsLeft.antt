@@ -8,7 +8,7 @@ use Rattle.std.proofs.lemmas.List.Elements.{All-push}
 use Rattle.std.proofs.Math.ListN.{get_or-append}
 use Rattle.std.proofs.Math.Seq.{get_or-append_seam, map-set_same}
 use Rattle.tplan.specs.declared.plan.Wire.{Wire}
-use Rattle.tnet.specs.Wires.{end_at}
+use Rattle.tplan.specs.Wires.{end_at}
 use Rattle.tnet.specs.Net.{empty_inbox}
 use Rattle.tnet.specs.declared.inbox.Inbox.{Inbox}
 use Rattle.tfree.specs.Drained.{IsLeftAt, AreLeftAt}

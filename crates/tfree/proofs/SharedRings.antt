@@ -6,7 +6,7 @@ use Rattle.std.proofs.lemmas.List.{length-map, map-append}
 use Rattle.std.proofs.lemmas.List.Elements.{All-nil, All-head, All-tail, All-append, All-cons, All-map, All-weaker}
 use Rattle.std.proofs.lemmas.Option.{same_Some, slice_get-map, slice_get_within}
 use Rattle.tplan.specs.declared.plan.End.{End}
-use Rattle.tnet.specs.Wires.{far_end}
+use Rattle.tplan.specs.Wires.{far_end}
 use Rattle.tnet.specs.Net.{NetState}
 use Rattle.tnet.specs.Sound.{IsSound}
 use Rattle.tfree.specs.Views.{InView, OutView, Share}

@@ -4,7 +4,7 @@ use Rattle.std.specs.Prelude.{ℕ, ◌≡◌, ◌<◌, ◌≤◌, List, [], ◌+
 use Rattle.std.specs.Prelude.{slice_index_or}
 use Rattle.tplan.specs.declared.plan.End.{End}
 use Rattle.tplan.specs.declared.plan.Wire.{Wire}
-use Rattle.tnet.specs.Wires.{end_at, far_end}
+use Rattle.tplan.specs.Wires.{end_at, far_end}
 use Rattle.tnet.specs.Net.{empty_inbox}
 use Rattle.tnet.specs.declared.inbox.Inbox.{Inbox}
 use Rattle.tfree.specs.declared.stamp.Sent.{Sent}

@@ -11,7 +11,7 @@ use Rattle.tlink.specs.Events.{happens, node_left_by}
 use Rattle.tword.specs.Limits.{most_nodes}
 use Rattle.tplan.specs.declared.plan.End.{End}
 use Rattle.tplan.specs.declared.plan.Wire.{Wire}
-use Rattle.tnet.specs.Wires.{end_at, far_end}
+use Rattle.tplan.specs.Wires.{end_at, far_end}
 use Rattle.tnet.specs.Net.{NetState, inbox_at}
 use Rattle.tnet.specs.Sound.{IsSound}
 use Rattle.tfree.specs.declared.stamp.Sent.{Sent}

@@ -4,7 +4,7 @@ use Rattle.std.specs.Prelude.{ℕ, ◌≡◌, ◌≢◌, ◌+◌, ◌*◌, ◌-�
 use Rattle.std.specs.Prelude.{take, drop, Option, Some, None, slice_get, if◌then◌else◌}
 use Rattle.tword.specs.Limits.{most_nodes, most_workers}
 use Rattle.tplan.specs.declared.plan.End.{End}
-use Rattle.tnet.specs.Wires.{far_end}
+use Rattle.tplan.specs.Wires.{far_end}
 use Rattle.tnet.specs.Net.{NetState}
 use Rattle.tplan.specs.declared.event.Event.{Event}
 use Rattle.tplan.specs.declared.event.Note.{Note}

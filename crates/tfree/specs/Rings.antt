@@ -2,7 +2,7 @@
 -- Source: own choice.
 use Rattle.std.specs.Prelude.{ℕ, ◌≡◌, ◌<◌, ◌⊎◌, List, [], length, take, drop, Option, Some, None, is_some, option_map}
 use Rattle.tplan.specs.declared.plan.End.{End}
-use Rattle.tnet.specs.Wires.{far_end}
+use Rattle.tplan.specs.Wires.{far_end}
 use Rattle.tnet.specs.Net.{NetState}
 use Rattle.tfree.specs.Slots.{slot_of_end, AreRowsOfFour}
 use Rattle.tfree.specs.Views.{InView, OutView, got_of, put_of}

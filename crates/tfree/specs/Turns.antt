@@ -10,7 +10,7 @@ use Rattle.tlink.specs.declared.event.NodeEvent.TheVariants.{Run, Send, Data, Ta
 use Rattle.tlink.specs.Node.{NodeState}
 use Rattle.tlink.specs.Events.{is_node_enabled}
 use Rattle.tplan.specs.declared.plan.End.{End}
-use Rattle.tnet.specs.Wires.{end_at, far_end}
+use Rattle.tplan.specs.Wires.{end_at, far_end}
 use Rattle.tfree.specs.declared.stamp.Sent.{Sent}
 use Rattle.tfree.specs.declared.stamp.OwnEvent.{OwnEvent}
 use Rattle.tfree.specs.declared.log.TurnFault.{TurnFault}

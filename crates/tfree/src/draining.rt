@@ -2,7 +2,7 @@
 
 ghost use Rattle.std.specs.Prelude.{◌≡◌, ◌<◌, ◌≤◌, ℕ, length, vec_len, vec_capacity, None, Some};
 ghost use Rattle.std.specs.Prelude.{option_map, slice_index_or};
-ghost use Rattle.tnet.specs.Wires.{end_at};
+ghost use Rattle.tplan.specs.Wires.{end_at};
 ghost use Rattle.tnet.specs.Net.{empty_inbox};
 ghost use Rattle.tword.specs.Limits.{most_nodes};
 ghost use Rattle.tfree.specs.Ends.{in_view, out_view, ins_view, outs_view};

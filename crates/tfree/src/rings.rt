@@ -3,7 +3,7 @@
 ghost use Rattle.std.specs.Prelude.{◌≡◌, ◌+◌, ◌<◌, [], None, length, replicate, IfOk, IfSome, OnOk};
 ghost use Rattle.tnet.specs.NetParts.{net_of_parts};
 ghost use Rattle.tnet.specs.Sound.{AreWires, IsEnd};
-ghost use Rattle.tnet.specs.Wires.{far_end};
+ghost use Rattle.tplan.specs.Wires.{far_end};
 ghost use Rattle.tfree.specs.Ends.{in_view, out_view, ins_view, outs_view};
 ghost use Rattle.tfree.specs.Lists.{lying};
 ghost use Rattle.tfree.specs.Views.{with_put};

@@ -10,7 +10,7 @@ use Rattle.tlink.specs.declared.event.Emitted.{Emitted}
 use Rattle.tlink.specs.declared.event.StepFault.{StepFault}
 use Rattle.tplan.specs.declared.plan.End.{End}
 use Rattle.tnet.specs.Net.{NetState}
-use Rattle.tnet.specs.Wires.{far_ends}
+use Rattle.tplan.specs.Wires.{far_ends}
 use Rattle.twhere.specs.Unseen.{hidden_net}
 use Rattle.thistory.specs.declared.deed.Deed.{Deed}
 use Rattle.thistory.specs.declared.deed.Deed.TheVariants.{Instruction, Dispatch, Send, Data, Take, Ack}

@@ -28,7 +28,7 @@ use Rattle.tnet.specs.Packets.{net_answer, net_happens, net_left_by, node_event,
 use Rattle.tnet.specs.Rendezvous.{Configuration, IsRun, Node, Step}
 use Rattle.tnet.specs.Sound.{IsSound}
 use Rattle.tnet.specs.View.{image, image_at, is_copied, link_copied, run_image, view, view_node}
-use Rattle.tnet.specs.Wires.{end_at, far_end}
+use Rattle.tplan.specs.Wires.{end_at, far_end}
 use Rattle.tnet.proofs.BlindRoles.{step-blind}
 use Rattle.tnet.proofs.Determined.{run_is_determined}
 use Rattle.tnet.proofs.SeenEvents.{step_simulation}

@@ -8,7 +8,7 @@ use Rattle.tlink.specs.Node.{NodeState, counts_at}
 use Rattle.tplan.specs.declared.event.Act.{Act}
 use Rattle.tplan.specs.declared.event.Act.TheVariants as act
 use Rattle.tplan.specs.declared.event.Event.{Event}
-use Rattle.tnet.specs.Wires.{end_at}
+use Rattle.tplan.specs.Wires.{end_at}
 use Rattle.tnet.specs.Net.{NetState, inbox_at, node_at}
 use Rattle.tnet.specs.Packets.{answered, net_happens, net_left_by}
 use Rattle.twhere.specs.Standing.{fetched_at}

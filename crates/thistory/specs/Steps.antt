@@ -15,7 +15,7 @@ use Rattle.tlink.specs.declared.event.StepFault.{StepFault}
 use Rattle.tlink.specs.declared.event.StepFault.TheVariants.{NotEnabled, Frozen}
 use Rattle.tplan.specs.declared.event.Event.{Event}
 use Rattle.tplan.specs.declared.plan.End.{End}
-use Rattle.tnet.specs.Wires.{far_ends}
+use Rattle.tplan.specs.Wires.{far_ends}
 use Rattle.tnet.specs.Net.{NetState}
 use Rattle.twhere.specs.Standing.{word_text}
 use Rattle.thistory.specs.declared.deed.Deed.{Deed}

@@ -8,7 +8,7 @@ use Rattle.tword.specs.Stores.{byte_at}
 use Rattle.tproc.specs.Machine.{Machine}
 use Rattle.tproc.specs.Hidden.{hidden}
 use Rattle.tplan.specs.declared.event.Event.{Event}
-use Rattle.tnet.specs.Wires.{far_ends}
+use Rattle.tplan.specs.Wires.{far_ends}
 use Rattle.tnet.specs.Net.{NetState}
 use Rattle.tfiles.specs.Logs.{line}
 use Rattle.tfiles.specs.Texts.{cell_text}

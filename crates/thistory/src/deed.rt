@@ -2,7 +2,7 @@
 
 ghost use Rattle.std.specs.Prelude.{◌≡◌, ◌<◌, ◌%◌, option_copied};
 ghost use Rattle.tnet.specs.Net.{inbox_at, node_at};
-ghost use Rattle.tnet.specs.Wires.{end_at};
+ghost use Rattle.tplan.specs.Wires.{end_at};
 ghost use Rattle.thistory.specs.Deeds as spec;
 
 use tcode::Instruction;

@@ -1,7 +1,7 @@
 //! The line of an event: its number, what its node did, and what came of it.
 
 ghost use Rattle.std.specs.Prelude.{◌≡◌, ◌++◌, codes, decimal, option_copied, replicate};
-ghost use Rattle.tnet.specs.Wires.{far_ends};
+ghost use Rattle.tplan.specs.Wires.{far_ends};
 ghost use Rattle.tfiles.specs.Outputs.{Tells};
 ghost use Rattle.tfiles.specs.Texts as texts;
 ghost use Rattle.twhere.specs.Standing.{word_text};

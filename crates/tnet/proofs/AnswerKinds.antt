@@ -37,7 +37,7 @@ use Rattle.tplan.specs.declared.event.Act.TheVariants as act
 use Rattle.tplan.specs.declared.plan.End.{End}
 use Rattle.tnet.specs.declared.inbox.Inbox.{Inbox}
 use Rattle.tnet.specs.declared.station.Done.{Done}
-use Rattle.tnet.specs.Wires.{end_at}
+use Rattle.tplan.specs.Wires.{end_at}
 use Rattle.tnet.specs.Stations.{box_at, with_carried, asked, emptied, input_of, input_bytes, message_note, mark_note}
 use Rattle.tnet.specs.Stations.{answer_note, note_of, answer_done, done_of}
 use Rattle.tnet.specs.Answers.{KeepsInput}

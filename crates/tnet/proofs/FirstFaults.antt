@@ -12,12 +12,13 @@ use Rattle.std.proofs.lemmas.List.Sums.{position_or_len_is, fails_before_first}
 use Rattle.std.proofs.lemmas.Option.{slice_get_read, slice_get-get_or}
 use Rattle.std.proofs.lemmas.List.Quantifiers.{position-Some}
 use Rattle.tplan.specs.declared.plan.Wire.{Wire}
-use Rattle.tnet.specs.Wires.{same_end}
+use Rattle.tplan.specs.Wires.{same_end}
 use Rattle.tplan.specs.declared.plan.Plan.{Plan}
 use Rattle.tplan.specs.declared.plan.BuildFault.{BuildFault}
 use Rattle.tplan.specs.declared.plan.BuildFault.TheVariants.{OutOfMemory, TooMany, BadSize, BadTimeslice, BadEnd}
 use Rattle.tplan.specs.declared.plan.BuildFault.TheVariants.{SameEnd, EndTwice, BadSegment, BadProcess, BadCapacity}
-use Rattle.tnet.specs.Building.{too_many, is_bad_size, is_bad_timeslice, is_bad_end, bad_segment, named_ends, all_wires}
+use Rattle.tplan.specs.Wires.{all_wires}
+use Rattle.tnet.specs.Building.{too_many, is_bad_size, is_bad_timeslice, is_bad_end, bad_segment, named_ends}
 use Rattle.tnet.specs.Building.{is_bad_capacity, bad_process, or_else, when, fault_of, share_an_end, has_end_twice}
 use Rattle.tnet.specs.Building.{first_end_twice, fault_in, fault_at, first_with_fault}
 

@@ -19,7 +19,7 @@ use Rattle.tplan.specs.declared.plan.Plan.{Plan}
 use Rattle.tplan.specs.declared.plan.BuildFault.{BuildFault}
 use Rattle.tplan.specs.declared.plan.BuildFault.TheVariants.{TooMany}
 use Rattle.tnet.specs.Building.{too_many, when, or_else, fault_of, opening_net, unless_fault}
-use Rattle.tnet.specs.Wires.{end_at, far_end}
+use Rattle.tplan.specs.Wires.{end_at, far_end}
 use Rattle.tnet.specs.Net.{NetState, node_at, with_node}
 use Rattle.tnet.specs.Packets.{NetAnswer, node_event, received, delivered, sent_off, net_answer, answer_of, net_happens}
 use Rattle.tnet.specs.Packets.{with_frozen, after_answer, after_event, then_after, after_events, is_done, is_enabled}

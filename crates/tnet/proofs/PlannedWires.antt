@@ -11,8 +11,9 @@ use Rattle.std.proofs.Math.Seq.{take-suc}
 use Rattle.tplan.specs.declared.plan.End.{End}
 use Rattle.tplan.specs.declared.plan.Wire.{Wire}
 use Rattle.tplan.specs.declared.plan.Plan.{Plan}
-use Rattle.tnet.specs.Wires.{end_at}
-use Rattle.tnet.specs.Building.{has_too_many, too_many, node_count, script_wires, script_ends, all_wires}
+use Rattle.tplan.specs.Wires.{end_at}
+use Rattle.tplan.specs.Wires.{script_wires, script_ends, all_wires}
+use Rattle.tnet.specs.Building.{has_too_many, too_many, node_count}
 use Rattle.tnet.specs.Building.{is_bad_end, named_ends}
 
 -- an element of the first of two lists, and of the second

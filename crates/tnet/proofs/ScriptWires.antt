@@ -10,10 +10,11 @@ use Rattle.std.proofs.lemmas.Option.{same_Some}
 use Rattle.tplan.specs.declared.plan.End.{End}
 use Rattle.tplan.specs.declared.plan.Wire.{Wire}
 use Rattle.tplan.specs.declared.plan.Plan.{Plan}
-use Rattle.tnet.specs.Wires.{end_at, same_end, far_end}
-use Rattle.tnet.specs.Building.{is_bad_end, node_count, script_wires, script_ends, all_wires}
+use Rattle.tplan.specs.Wires.{end_at, same_end, far_end}
+use Rattle.tplan.specs.Wires.{script_wires, script_ends, all_wires}
+use Rattle.tnet.specs.Building.{is_bad_end, node_count}
 use Rattle.tnet.specs.Sound.{IsEnd, AreWires}
-use Rattle.tnet.proofs.Ends.{same_end-true, same_end-self}
+use Rattle.tplan.proofs.Ends.{same_end-true, same_end-self}
 use Rattle.tnet.proofs.OpenedPlans.{HasGoodWires}
 use Rattle.tnet.proofs.OpenedWires.{good_end, far_end-none, wired_ends, are_wires}
 use Rattle.tnet.proofs.PlannedWires.{script_wire, length-script_ends}

@@ -28,7 +28,7 @@ use Rattle.tplan.specs.declared.plan.Plan.{Plan}
 use Rattle.tplan.specs.declared.plan.SourcePlan.{SourcePlan}
 use Rattle.tplan.specs.declared.plan.SinkPlan.{SinkPlan}
 use Rattle.tplan.specs.declared.event.Note.{Note}
-use Rattle.tnet.specs.Wires.{end_at}
+use Rattle.tplan.specs.Wires.{end_at}
 use Rattle.tnet.specs.Rendezvous.{Node, Configuration, Step, Local, Notice, Copy, Wake, Freeze_at, node_of, put_node}
 use Rattle.tnet.specs.Rendezvous.{copied_at, given, marked, Lawful, IsRun}
 use Rattle.tnet.specs.Building.{machines_of, opened_machine, opening_configuration, opening_node, fresh_scripts}

@@ -13,13 +13,14 @@ use Rattle.tplan.specs.declared.plan.Plan.{Plan}
 use Rattle.tplan.specs.declared.plan.BuildFault.{BuildFault}
 use Rattle.tplan.specs.declared.plan.BuildFault.TheVariants.{OutOfMemory, BadProcess, BadCapacity}
 use Rattle.tnet.specs.declared.inbox.Inbox.{Inbox}
-use Rattle.tnet.specs.Wires.{same_end}
+use Rattle.tplan.specs.Wires.{same_end}
 use Rattle.tnet.specs.Net.{NetState, empty_inbox}
 use Rattle.tnet.specs.Sound.{IsSound, IsSoundNode, IsEnd}
 use Rattle.tnet.specs.Building.{AreBytes, has_too_many, IsFaultOf, AreBuildable, AreOpened, IsWellFormed, is_bad_size}
 use Rattle.tnet.specs.Building.{is_bad_end}
 use Rattle.tnet.specs.Building.{bad_segment, bad_process, refused_process, late_fault, fault_of, opening_net, built}
-use Rattle.tnet.specs.Building.{machines_of, all_wires, named_ends, node_count, is_bad_capacity}
+use Rattle.tplan.specs.Wires.{all_wires}
+use Rattle.tnet.specs.Building.{machines_of, named_ends, node_count, is_bad_capacity}
 use Rattle.tnet.specs.Building.{fresh_nodes, fresh_scripts, IsOpening}
 use Rattle.tnet.proofs.OpenedPlans.{IsFaultless, HasGoodWires, mapped-none}
 use Rattle.tnet.proofs.FirstFaults.{no_position, no_fault}

@@ -22,7 +22,7 @@ use Rattle.tplan.specs.declared.event.Act.TheVariants.{Run, Send, Data, Take, Ac
 use Rattle.tplan.specs.declared.event.Note.{Note}
 use Rattle.tplan.specs.declared.event.Note.TheVariants.{Msg, Halt, Freeze}
 use Rattle.tplan.specs.declared.plan.End.{End}
-use Rattle.tnet.specs.Wires.{end_at}
+use Rattle.tplan.specs.Wires.{end_at}
 use Rattle.tnet.specs.Net.{empty_inbox}
 use Rattle.tnet.specs.declared.inbox.Inbox.{Inbox}
 use Rattle.tnet.specs.declared.station.Done.{Done}

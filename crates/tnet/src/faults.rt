@@ -5,9 +5,10 @@ ghost use Rattle.std.specs.Prelude.{slice_index_or, MatchOption};
 ghost use Rattle.std.specs.List.{list_any};
 ghost use Rattle.tword.specs.Limits.{most_nodes};
 ghost use Rattle.tword.specs.Limits.{is_bad_message as spec_is_bad_message};
-ghost use Rattle.tnet.specs.Wires.{same_end};
+ghost use Rattle.tplan.specs.Wires.{same_end};
 ghost use Rattle.tnet.specs.Building as spec;
-ghost use Rattle.tnet.specs.Building.{too_many, named_ends, all_wires, first_with_fault};
+ghost use Rattle.tplan.specs.Wires.{all_wires};
+ghost use Rattle.tnet.specs.Building.{too_many, named_ends, first_with_fault};
 ghost use Rattle.tnet.specs.Building.{fault_of, IsWellFormed};
 
 use crate::plan_wires::{wire_at, wire_count};

@@ -10,7 +10,7 @@ ghost use Rattle.tnet.specs.Answers.{Did};
 ghost use Rattle.tnet.specs.View.{view};
 ghost use Rattle.tplan.specs.declared.plan.BuildFault.TheVariants.{OutOfMemory};
 ghost use Rattle.tnet.specs.Building.{built, opening_configuration, IsWellFormed};
-ghost use Rattle.tnet.specs.Wires.{far_end};
+ghost use Rattle.tplan.specs.Wires.{far_end};
 ghost use Rattle.tnet.specs.FarEnds.{IsRow};
 ghost use Rattle.tnet.specs.NetParts.{net_of_parts};
 ghost use Rattle.tnet.specs.Runs.{IsSeenRun, done, done_one};

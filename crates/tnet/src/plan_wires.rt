@@ -1,7 +1,8 @@
 //! The wires of a plan: its own, and those between its nodes and its sources and sinks.
 
 ghost use Rattle.std.specs.Prelude.{◌≡◌, ◌<◌, false, length, slice_get, Some, IfOk};
-ghost use Rattle.tnet.specs.Building.{too_many, script_ends, all_wires, IsWellFormed};
+ghost use Rattle.tplan.specs.Wires.{script_ends, all_wires};
+ghost use Rattle.tnet.specs.Building.{too_many, IsWellFormed};
 ghost use Rattle.tnet.specs.Building as spec;
 
 use crate::wires::Wires;

@@ -3,7 +3,7 @@
 ghost use Rattle.std.specs.Prelude.{◌≡◌, [], ◌∷◌, MatchOption};
 ghost use Rattle.tnet.specs.Net.{sources_in, sinks_in};
 ghost use Rattle.tnet.specs.NetParts.{net_of_parts};
-ghost use Rattle.tnet.specs.Wires.{end_at, far_end};
+ghost use Rattle.tplan.specs.Wires.{end_at, far_end};
 
 use crate::parts::NetParts;
 use crate::wires::end_of;

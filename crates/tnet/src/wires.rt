@@ -2,7 +2,7 @@
 
 ghost use Rattle.std.specs.Prelude.{◌≡◌, All, IfOk};
 ghost use Rattle.tnet.specs.Sound.{IsEnd};
-ghost use Rattle.tnet.specs.Wires as spec;
+ghost use Rattle.tplan.specs.Wires as spec;
 ghost use Rattle.tnet.specs.FarEnds.{row_of, IsRow};
 
 use std::alloc::{AllocError, Global};

@@ -6,9 +6,9 @@ use Rattle.tproc.specs.declared.channels.Side.{Side}
 use Rattle.tproc.specs.declared.channels.Side.TheVariants.{Input, Output}
 use Rattle.tplan.specs.declared.plan.End.{End}
 use Rattle.tplan.specs.declared.plan.Plan.{Plan}
-use Rattle.tnet.specs.Wires.{same_end, far_end}
-use Rattle.tnet.specs.Building.{all_wires}
-use Rattle.tnet.proofs.Ends.{same_end-true}
+use Rattle.tplan.specs.Wires.{same_end, far_end}
+use Rattle.tplan.specs.Wires.{all_wires}
+use Rattle.tplan.proofs.Ends.{same_end-true}
 use Rattle.tagents.specs.Tidy.{IsOneOf, IsGate}
 use Rattle.tprocesses.specs.Places.{Name, Place, WordAt, Standing, Half, LinkHalf, Error, HaltOnError, Successions}
 use Rattle.tprocesses.specs.Places.{Messages, Kept}

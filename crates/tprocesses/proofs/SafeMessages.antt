@@ -14,7 +14,7 @@ use Rattle.tproc.specs.Queues.{not_process}
 use Rattle.tproc.specs.LinkChannels.{link_of, is_right_end}
 use Rattle.tplan.specs.declared.plan.End.{End}
 use Rattle.tplan.specs.declared.plan.Plan.{Plan}
-use Rattle.tnet.specs.Wires.{end_at}
+use Rattle.tplan.specs.Wires.{end_at}
 use Rattle.tprocesses.specs.Places.{Place, Name, Half, LinkHalf, Messages, Kept}
 use Rattle.tprocesses.specs.Values.{Free, Receiving, Engaged, Context, Waits, Request, Link, Empty, Offered, Copied}
 use Rattle.tprocesses.specs.Values.{Value, IsWord, IsHalf, IsLink, AreMessages, AreKept, half_in, link_in}

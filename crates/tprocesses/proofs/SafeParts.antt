@@ -11,7 +11,7 @@ use Rattle.tword.specs.Actions.{Action, answer, breaks, requiring, touching_word
 use Rattle.tword.specs.Actions.{writing_word, writing_byte, copying, descheduling, reading_saved, setting_saved}
 use Rattle.tproc.specs.declared.channels.Side.TheVariants.{Output}
 use Rattle.tplan.specs.declared.plan.Plan.{Plan}
-use Rattle.tnet.specs.Wires.{end_at}
+use Rattle.tplan.specs.Wires.{end_at}
 use Rattle.tprocesses.specs.Places.{Name, Standing, LinkHalf, Life, Population, HasRun}
 use Rattle.tprocesses.specs.Values.{Free, Saved, Context, Lent, Stand, Absent, Rests, Runs, Waits, Ended, Link}
 use Rattle.tprocesses.specs.Values.{Empty, Offered, Copied, Value, IsWord, IsStand, IsLink, stand_in, link_in}

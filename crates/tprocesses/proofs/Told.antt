@@ -5,8 +5,8 @@ use Rattle.std.proofs.lemmas.Bool.{and_parts, and_from, eqb-true, eq-eqb}
 use Rattle.tproc.specs.declared.channels.Side.{Side}
 use Rattle.tproc.specs.declared.channels.Side.TheVariants.{Input, Output}
 use Rattle.tplan.specs.declared.plan.End.{End}
-use Rattle.tnet.specs.Wires.{same_end}
-use Rattle.tnet.proofs.Ends.{same_end-true, same_end-self}
+use Rattle.tplan.specs.Wires.{same_end}
+use Rattle.tplan.proofs.Ends.{same_end-true, same_end-self}
 use Rattle.tprocesses.specs.Places.{Root, Image, After, Name, Place, WordAt, Sending, Standing, Half, LinkHalf}
 use Rattle.tprocesses.specs.Places.{Error, HaltOnError, Life, Successions, Messages, Kept, Population, HasRun}
 use Rattle.tprocesses.specs.Places.{FlagChanged, same_path, same_root, same_name, same_side, same_place}

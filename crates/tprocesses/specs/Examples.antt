@@ -8,8 +8,8 @@ use Rattle.tproc.specs.Steps.{computes}
 use Rattle.tplan.specs.declared.plan.Segment.{Segment}
 use Rattle.tplan.specs.declared.plan.Process.{Process as Started}
 use Rattle.tplan.specs.declared.plan.Plan.{Plan}
-use Rattle.tnet.specs.Wires.{end_at}
-use Rattle.tnet.specs.Examples.{node_plan, sender, receiver}
+use Rattle.tplan.specs.Wires.{end_at}
+use Rattle.tplan.specs.Examples.{node_plan, sender, receiver}
 use Rattle.tagents.specs.Walks.{next_step, steps_clash, step_leads}
 use Rattle.tprocesses.specs.Places.{Place, Name, Image, After, WordAt, Sending, Standing, Messages, Kept}
 use Rattle.tprocesses.specs.Places.{FlagChanged}

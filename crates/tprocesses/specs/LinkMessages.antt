@@ -11,7 +11,7 @@ use Rattle.tproc.specs.declared.channels.Side.{Side}
 use Rattle.tproc.specs.declared.channels.Side.TheVariants.{Input, Output}
 use Rattle.tproc.specs.LinkChannels.{link_of, is_right_end}
 use Rattle.tplan.specs.declared.plan.End.{End}
-use Rattle.tnet.specs.Wires.{end_at}
+use Rattle.tplan.specs.Wires.{end_at}
 use Rattle.tprocesses.specs.Places.{Name, LinkHalf, Messages, Kept}
 use Rattle.tprocesses.specs.Values.{Free, Receiving, Context, Waits, Link, Empty, Offered, Copied, Value, IsLink}
 use Rattle.tprocesses.specs.Values.{AreMessages, AreKept, link_in}

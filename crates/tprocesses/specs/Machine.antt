@@ -8,8 +8,8 @@ use Rattle.tplan.specs.declared.plan.End.{End}
 use Rattle.tplan.specs.declared.plan.NodePlan.{NodePlan}
 use Rattle.tplan.specs.declared.plan.Plan.{Plan}
 use Rattle.tagents.specs.Walks.{Walkers}
-use Rattle.tnet.specs.Wires.{same_end, far_end}
-use Rattle.tnet.specs.Building.{all_wires}
+use Rattle.tplan.specs.Wires.{same_end, far_end}
+use Rattle.tplan.specs.Wires.{all_wires}
 use Rattle.tprocesses.specs.Places.{Place, Name, WordAt, Standing, Half, LinkHalf, Messages, Kept, same_name}
 use Rattle.tprocesses.specs.Places.{same_place}
 use Rattle.tprocesses.specs.Values.{Value, Use, Last, Spoilt, Stand, Rests, Runs, Link, Offered, IsWord, IsStand}

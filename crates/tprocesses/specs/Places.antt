@@ -4,7 +4,7 @@ use Rattle.std.specs.Prelude.{ℕ, ◌==◌, ◌&&◌, Bool, true, false, List, 
 use Rattle.tplan.specs.declared.plan.End.{End}
 use Rattle.tproc.specs.declared.channels.Side.{Side}
 use Rattle.tproc.specs.declared.channels.Side.TheVariants.{Input, Output}
-use Rattle.tnet.specs.Wires.{same_end}
+use Rattle.tplan.specs.Wires.{same_end}
 
 -- where a name begins: at a process of the image, by its number, or at a successor, by its workspace and by how many
 -- successors went on there before it

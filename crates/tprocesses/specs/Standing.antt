@@ -6,7 +6,7 @@ use Rattle.tword.specs.declared.breaks.Break.TheVariants.{Unaligned, AlreadyLive
 use Rattle.tword.specs.Words.{word_below}
 use Rattle.tword.specs.Touches.{is_aligned}
 use Rattle.tproc.specs.declared.channels.Side.TheVariants.{Output}
-use Rattle.tnet.specs.Wires.{end_at}
+use Rattle.tplan.specs.Wires.{end_at}
 use Rattle.tprocesses.specs.Places.{Name, Standing, LinkHalf, Life, Population, HasRun}
 use Rattle.tprocesses.specs.Values.{Free, Saved, Context, Lent, Stand, Absent, Rests, Runs, Waits, Ended, Link}
 use Rattle.tprocesses.specs.Values.{Empty, Copied, IsWord, IsStand, IsLink, stand_in, link_in, amount_in}

@@ -14,7 +14,7 @@ use Rattle.tplan.specs.declared.event.Note.{Note}
 use Rattle.tplan.specs.declared.plan.End.{End}
 use Rattle.trounds.specs.declared.report.Ending.TheVariants as ending
 use Rattle.tnet.specs.Net.{NetState}
-use Rattle.tnet.specs.Wires.{end_at, same_end}
+use Rattle.tplan.specs.Wires.{end_at, same_end}
 use Rattle.tnet.specs.Packets.{after_event}
 use Rattle.tnet.specs.Notes.{event_note}
 use Rattle.tnet.specs.Quiet.{is_quiet}

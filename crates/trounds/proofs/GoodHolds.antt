@@ -12,7 +12,7 @@ use Rattle.tplan.specs.declared.event.Hold.{Hold}
 use Rattle.tplan.specs.declared.event.PacketKind.TheVariants as kind
 use Rattle.trounds.specs.declared.report.NetFault.TheVariants.{BadWorkers, BadHold}
 use Rattle.tnet.specs.Net.{NetState}
-use Rattle.tnet.specs.Wires.{far_end}
+use Rattle.tplan.specs.Wires.{far_end}
 use Rattle.tnet.specs.Packets.{after_event, after_events, then_after}
 use Rattle.tnet.proofs.DoneEvents.{done}
 use Rattle.tnet.proofs.OpenedPlans.{no_position, mapped-none}

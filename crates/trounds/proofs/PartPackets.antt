@@ -5,7 +5,7 @@ use Rattle.tplan.specs.declared.event.Hold.{Hold}
 use Rattle.tplan.specs.declared.event.PacketKind.{PacketKind}
 use Rattle.tplan.specs.declared.plan.End.{End}
 use Rattle.tnet.specs.declared.inbox.Inbox.{Inbox}
-use Rattle.tnet.specs.Wires.{end_at}
+use Rattle.tplan.specs.Wires.{end_at}
 use Rattle.trounds.specs.Rounds.{is_held, taking}
 use Rattle.trounds.specs.Parts.{Part, part_does, lies, part_packet}
 

@@ -13,7 +13,7 @@ use Rattle.tplan.specs.declared.event.Note.{Note}
 use Rattle.tplan.specs.declared.event.PacketKind.{PacketKind}
 use Rattle.tplan.specs.declared.event.PacketKind.TheVariants as kind
 use Rattle.tnet.specs.declared.inbox.Inbox.{Inbox}
-use Rattle.tnet.specs.Wires.{end_at}
+use Rattle.tplan.specs.Wires.{end_at}
 use Rattle.tnet.specs.Net.{four_links}
 use Rattle.tnet.specs.Stations.{asked, answer_done, note_of}
 use Rattle.trounds.specs.Rounds.{is_held, taking}

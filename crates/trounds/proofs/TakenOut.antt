@@ -11,7 +11,7 @@ use Rattle.tplan.specs.declared.plan.End.{End}
 use Rattle.tplan.specs.declared.plan.Wire.{Wire}
 use Rattle.tnet.specs.declared.inbox.Inbox.{Inbox}
 use Rattle.trounds.specs.declared.round_node.RoundNode.{RoundNode}
-use Rattle.tnet.specs.Wires.{end_at, far_end}
+use Rattle.tplan.specs.Wires.{end_at, far_end}
 use Rattle.tnet.specs.Sound.{IsEnd}
 use Rattle.tnet.specs.FarEnds.{IsRow, row_of}
 use Rattle.tnet.proofs.Tables.{link_of_row, nowhere}

@@ -19,7 +19,7 @@ use Rattle.tplan.specs.declared.plan.End.{End}
 use Rattle.tplan.specs.declared.plan.Wire.{Wire}
 use Rattle.tnet.specs.declared.inbox.Inbox.{Inbox}
 use Rattle.trounds.specs.declared.round_node.Sending.{Sending}
-use Rattle.tnet.specs.Wires.{end_at, far_end}
+use Rattle.tplan.specs.Wires.{end_at, far_end}
 use Rattle.tnet.specs.Net.{NetState, empty_inbox}
 use Rattle.tnet.specs.declared.station.Done.{Done}
 use Rattle.tnet.specs.FarEnds.{far_in_row}

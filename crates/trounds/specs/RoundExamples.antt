@@ -11,11 +11,12 @@ use Rattle.tplan.specs.declared.event.Note.TheVariants.{Msg, Freeze}
 use Rattle.tplan.specs.declared.event.Hold.{Hold}
 use Rattle.trounds.specs.declared.report.Ending.{Ending}
 use Rattle.trounds.specs.declared.report.Ending.TheVariants as ending
-use Rattle.tnet.specs.Wires.{end_at}
+use Rattle.tplan.specs.Wires.{end_at}
 use Rattle.tnet.specs.Net.{NetState}
 use Rattle.tnet.specs.Packets.{net_happens}
 use Rattle.tnet.specs.Building.{opening_net, machines_of}
-use Rattle.tnet.specs.Examples.{pair, sender, receiver, node_plan}
+use Rattle.tplan.specs.Examples.{sender, receiver, node_plan}
+use Rattle.tnet.specs.Examples.{pair}
 use Rattle.trounds.specs.Rounds.{Rounds, rounds, bad_hold}
 
 -- rounds: how many, how many events, and what they told

@@ -27,14 +27,14 @@ use Rattle.tplan.specs.declared.plan.End.{End}
 use Rattle.tplan.specs.declared.plan.SourcePlan.{SourcePlan}
 use Rattle.tplan.specs.declared.plan.SinkPlan.{SinkPlan}
 use Rattle.tplan.specs.declared.plan.Plan.{Plan}
-use Rattle.tnet.specs.Building.{all_wires}
+use Rattle.tplan.specs.Wires.{all_wires}
 use Rattle.tnet.specs.Rendezvous.{Node, Configuration, Step, Local, Notice, Copy, Wake, Freeze_at, node_of}
 use Rattle.tnet.specs.Rendezvous.{put_node, marked}
 use Rattle.tnet.specs.Rendezvous.{IsLocal, IsNotice, IsWake, IsCopy, IsFreeze, IsMismatch, IsStep, Lawful}
 use Rattle.tnet.specs.Corollaries.{IsReached}
-use Rattle.tnet.specs.Wires.{end_at, far_end, same_end}
+use Rattle.tplan.specs.Wires.{end_at, far_end, same_end}
 use Rattle.tnet.specs.Rendezvous.{note_of, local_note, halts}
-use Rattle.tnet.proofs.Ends.{end_same}
+use Rattle.tplan.proofs.Ends.{end_same}
 use Rattle.treduction.specs.Firsts.{IsScript}
 use Rattle.tprocesses.specs.Machine.{Wire}
 use Rattle.tprocesses.specs.Certified.{ProcessStep, IsCertificate}

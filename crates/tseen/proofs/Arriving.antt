@@ -10,7 +10,7 @@ use Rattle.tproc.specs.Machine.{Control, Machine, descheduled}
 use Rattle.tproc.specs.ProcessStatus.{live}
 use Rattle.tplan.specs.declared.plan.NodePlan.{NodePlan}
 use Rattle.tplan.specs.declared.plan.Plan.{Plan}
-use Rattle.tnet.specs.Wires.{end_at}
+use Rattle.tplan.specs.Wires.{end_at}
 use Rattle.tnet.specs.Rendezvous.{Node}
 use Rattle.tprocesses.specs.Places.{Place, Name, WordAt, Sending, Standing, Half, LinkHalf, Life, Successions}
 use Rattle.tprocesses.specs.Places.{Population, HasRun, Error, HaltOnError, same_name}

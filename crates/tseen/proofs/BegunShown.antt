@@ -15,7 +15,7 @@ use Rattle.tproc.specs.Steps.{step}
 use Rattle.tproc.specs.SavedWords.{WordStands}
 use Rattle.tproc.proofs.SavedWords.{saved_words_stand}
 use Rattle.tplan.specs.declared.plan.Plan.{Plan}
-use Rattle.tnet.specs.Wires.{end_at}
+use Rattle.tplan.specs.Wires.{end_at}
 use Rattle.tnet.specs.Rendezvous.{Node, Configuration}
 use Rattle.tprocesses.specs.Places.{Place, Name, WordAt, Standing, Half, LinkHalf, Error, HaltOnError, Life, Population}
 use Rattle.tprocesses.specs.Places.{HasRun, same_name}

@@ -12,11 +12,12 @@ use Rattle.tplan.specs.declared.plan.SinkPlan.{SinkPlan}
 use Rattle.tplan.specs.declared.plan.Plan.{Plan}
 use Rattle.tproc.specs.Hidden.{hidden}
 use Rattle.tproc.specs.LinkChannels.{link_end}
-use Rattle.tnet.specs.Building.{all_wires, fault_of}
+use Rattle.tplan.specs.Wires.{all_wires}
+use Rattle.tnet.specs.Building.{fault_of}
 use Rattle.tnet.specs.Rendezvous.{Node, Configuration, node_of, put_node, marked, marked_at, copied_at, was_copied}
 use Rattle.tnet.specs.Rendezvous.{given}
 use Rattle.tnet.specs.Rendezvous.{IsCopy}
-use Rattle.tnet.specs.Wires.{end_at, far_end}
+use Rattle.tplan.specs.Wires.{end_at, far_end}
 use Rattle.tnet.proofs.Puts.{put-same, put-other}
 use Rattle.tprocesses.specs.Parts.{Part}
 use Rattle.tprocesses.specs.Touching.{Site}

@@ -24,7 +24,7 @@ use Rattle.tproc.specs.Machine.{Control, Machine, descheduled, workspace_of, pri
 use Rattle.tproc.specs.ProcessStatus.{live, is_queued, reason_of}
 use Rattle.tproc.specs.LinkChannels.{link_end, quiet_end}
 use Rattle.tplan.specs.declared.plan.Plan.{Plan}
-use Rattle.tnet.specs.Wires.{end_at}
+use Rattle.tplan.specs.Wires.{end_at}
 use Rattle.tnet.specs.Rendezvous.{Node, Configuration, was_copied}
 use Rattle.tprocesses.specs.Places.{Place, Name, WordAt, Sending, Standing, Half, LinkHalf, Error, HaltOnError, Life}
 use Rattle.tprocesses.specs.Places.{Population, HasRun, same_name}

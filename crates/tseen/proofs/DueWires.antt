@@ -11,9 +11,10 @@ use Rattle.tplan.specs.declared.plan.Plan.{Plan}
 use Rattle.tproc.specs.declared.offer.Offer.{Offer}
 use Rattle.tproc.specs.declared.channels.Side.TheVariants.{Input, Output}
 use Rattle.tproc.specs.LinkChannels.{link_end}
-use Rattle.tnet.specs.Building.{all_wires, fault_of}
+use Rattle.tplan.specs.Wires.{all_wires}
+use Rattle.tnet.specs.Building.{fault_of}
 use Rattle.tnet.specs.Rendezvous.{Node, Configuration, node_of, was_copied, IsCopy}
-use Rattle.tnet.specs.Wires.{end_at, far_end}
+use Rattle.tplan.specs.Wires.{end_at, far_end}
 use Rattle.tprocesses.specs.Places.{LinkHalf, Messages, Kept}
 use Rattle.tprocesses.specs.Values.{IsLink}
 use Rattle.tprocesses.specs.Machine.{Wire, Processor, Source, Sink, role_at}

@@ -8,9 +8,10 @@ use Rattle.tplan.specs.declared.plan.NodePlan.{NodePlan}
 use Rattle.tplan.specs.declared.plan.SourcePlan.{SourcePlan}
 use Rattle.tplan.specs.declared.plan.SinkPlan.{SinkPlan}
 use Rattle.tplan.specs.declared.plan.Plan.{Plan}
-use Rattle.tnet.specs.Building.{all_wires, fault_of, node_count}
+use Rattle.tplan.specs.Wires.{all_wires}
+use Rattle.tnet.specs.Building.{fault_of, node_count}
 use Rattle.tnet.specs.Sound.{AreWires}
-use Rattle.tnet.specs.Wires.{far_end}
+use Rattle.tplan.specs.Wires.{far_end}
 use Rattle.tnet.proofs.OpenedPlans.{faultless}
 use Rattle.tnet.proofs.OpenedWires.{wired_ends}
 use Rattle.tnet.proofs.ScriptWires.{all_are_wires}

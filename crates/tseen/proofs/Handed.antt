@@ -10,9 +10,10 @@ use Rattle.tplan.specs.declared.plan.SinkPlan.{SinkPlan}
 use Rattle.tplan.specs.declared.plan.Plan.{Plan}
 use Rattle.tproc.specs.declared.offer.Offer.{Offer}
 use Rattle.tproc.specs.LinkChannels.{link_end}
-use Rattle.tnet.specs.Building.{all_wires, fault_of}
+use Rattle.tplan.specs.Wires.{all_wires}
+use Rattle.tnet.specs.Building.{fault_of}
 use Rattle.tnet.specs.Rendezvous.{Node, Configuration, node_of, was_copied, IsCopy}
-use Rattle.tnet.specs.Wires.{end_at, far_end}
+use Rattle.tplan.specs.Wires.{end_at, far_end}
 use Rattle.tagents.specs.Walks.{deed_of, are_open, label_of, next_step, state_after}
 use Rattle.tprocesses.specs.Parts.{Part, gives, stopping, seeing, changing, telling, done, Doing, Deed, walk_from}
 use Rattle.tprocesses.specs.Parts.{◌>>=◌}

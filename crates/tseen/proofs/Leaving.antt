@@ -17,7 +17,7 @@ use Rattle.tproc.specs.SavedWords.{WordStands, SavedStand}
 use Rattle.tproc.specs.Steps.{step}
 use Rattle.tproc.proofs.SavedWords.{saved_words_stand}
 use Rattle.tplan.specs.declared.plan.Plan.{Plan}
-use Rattle.tnet.specs.Wires.{end_at}
+use Rattle.tplan.specs.Wires.{end_at}
 use Rattle.tnet.specs.Rendezvous.{Node, Configuration}
 use Rattle.tprocesses.specs.Places.{Place, Name, WordAt, Sending, Standing, Half, LinkHalf, Error, HaltOnError, Life}
 use Rattle.tprocesses.specs.Places.{Population, HasRun, same_name}

@@ -23,7 +23,7 @@ use Rattle.tproc.specs.Queues.{iptr_word, not_process}
 use Rattle.tproc.specs.SavedWords.{WordStands, SavedStand}
 use Rattle.tproc.proofs.SavedWords.{saved_words_stand}
 use Rattle.tplan.specs.declared.plan.Plan.{Plan}
-use Rattle.tnet.specs.Wires.{end_at}
+use Rattle.tplan.specs.Wires.{end_at}
 use Rattle.tnet.specs.Rendezvous.{Node, Configuration}
 use Rattle.tprocesses.specs.Values.{IsFlag, Value, Free, Saved, Receiving, Engaged, Context, Lent, Stand, Rests, Runs}
 use Rattle.tprocesses.specs.Values.{Waits, Request, IsStand, IsAmount, IsHalf, word_in, half_in}

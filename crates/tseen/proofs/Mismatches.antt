@@ -14,9 +14,10 @@ use Rattle.tplan.specs.declared.plan.Plan.{Plan}
 use Rattle.tproc.specs.declared.offer.Offer.{Offer}
 use Rattle.tproc.specs.declared.channels.Side.TheVariants.{Input, Output}
 use Rattle.tproc.specs.LinkChannels.{link_end}
-use Rattle.tnet.specs.Building.{all_wires, fault_of}
+use Rattle.tplan.specs.Wires.{all_wires}
+use Rattle.tnet.specs.Building.{fault_of}
 use Rattle.tnet.specs.Rendezvous.{Node, Configuration, node_of, was_copied, IsMismatch, Differs}
-use Rattle.tnet.specs.Wires.{end_at, far_end}
+use Rattle.tplan.specs.Wires.{end_at, far_end}
 use Rattle.tagents.specs.Walks.{are_open, label_of, state_after, deed_of}
 use Rattle.tprocesses.specs.Places.{LinkHalf, Messages}
 use Rattle.tprocesses.specs.Values.{Value, IsLink, Offered, link_in}

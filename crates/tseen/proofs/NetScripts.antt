@@ -7,7 +7,7 @@ use Rattle.tplan.specs.declared.plan.SourcePlan.{SourcePlan}
 use Rattle.tplan.specs.declared.plan.SinkPlan.{SinkPlan}
 use Rattle.tplan.specs.declared.plan.Plan.{Plan}
 use Rattle.tnet.specs.Rendezvous.{Node, Configuration, node_of, put_node}
-use Rattle.tnet.specs.Wires.{end_at}
+use Rattle.tplan.specs.Wires.{end_at}
 use Rattle.tnet.proofs.Puts.{put-same, put-other}
 use Rattle.tprocesses.specs.Places.{Place, Standing, Messages, Kept}
 use Rattle.tseen.specs.Scripts.{ShowsSource, ShowsSink}

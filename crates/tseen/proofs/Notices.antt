@@ -20,7 +20,7 @@ use Rattle.tproc.specs.Links.{notice, notify}
 use Rattle.tproc.specs.LinkChannels.{link_end, quiet_end}
 use Rattle.tproc.proofs.LinkClaims.{noticing, noticing-claims, set_same}
 use Rattle.tnet.specs.Building.{fault_of}
-use Rattle.tnet.specs.Wires.{far_end}
+use Rattle.tplan.specs.Wires.{far_end}
 use Rattle.tnet.specs.Rendezvous.{Node, Configuration, node_of, IsNotice}
 use Rattle.tnet.proofs.Puts.{put-other}
 use Rattle.tprocesses.specs.Places.{Name}

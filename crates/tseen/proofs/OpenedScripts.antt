@@ -23,7 +23,7 @@ use Rattle.tplan.specs.declared.plan.SinkPlan.{SinkPlan}
 use Rattle.tplan.specs.declared.plan.Plan.{Plan}
 use Rattle.tnet.specs.Building.{machines_of, opened_machine, opening_node, opening_configuration, fresh_scripts}
 use Rattle.tnet.specs.Rendezvous.{Node, node_of}
-use Rattle.tnet.specs.Wires.{end_at}
+use Rattle.tplan.specs.Wires.{end_at}
 use Rattle.tnet.proofs.PlannedWires.{slice_left, slice_past}
 use Rattle.tlink.specs.Roles.{Processor}
 use Rattle.tprocesses.specs.Values.{AreMessages, AreKept}

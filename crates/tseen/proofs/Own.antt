@@ -24,7 +24,7 @@ use Rattle.tproc.specs.Steps.{step}
 use Rattle.tproc.proofs.Placed.{step_keeps_placed}
 use Rattle.tproc.proofs.SavedWords.{saved_words_stand}
 use Rattle.tnet.specs.Rendezvous.{Node}
-use Rattle.tnet.specs.Wires.{end_at}
+use Rattle.tplan.specs.Wires.{end_at}
 use Rattle.tprocesses.specs.Places.{Place, Name, WordAt, Sending, Standing, Half, LinkHalf, Life, Population, HasRun}
 use Rattle.tprocesses.specs.Places.{Error, HaltOnError, same_name}
 use Rattle.tprocesses.specs.Values.{Value, Free, Saved, Engaged, Context, Stand, Absent, Rests, Runs, Waits, Ended}

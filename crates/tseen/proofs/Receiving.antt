@@ -40,7 +40,7 @@ use Rattle.tproc.proofs.Opening.{placed_alike}
 use Rattle.tproc.proofs.SavedWords.{saved_words_stand}
 use Rattle.tproc.proofs.WordsApart.{LiesWord}
 use Rattle.tnet.specs.Rendezvous.{Node}
-use Rattle.tnet.specs.Wires.{end_at, same_end}
+use Rattle.tplan.specs.Wires.{end_at, same_end}
 use Rattle.treduction.proofs.LinkActions.{dropped, finish_input_is, linked, last_before, without_in}
 use Rattle.tprocesses.specs.Places.{Place, Name, WordAt, Sending, Standing, Half, LinkHalf, same_name, same_side}
 use Rattle.tprocesses.specs.Values.{Value, Use, Free, Saved, Receiving, Engaged, Context, Rests, Waits, Empty, Offered}

@@ -19,10 +19,11 @@ use Rattle.tplan.specs.declared.plan.NodePlan.{NodePlan}
 use Rattle.tplan.specs.declared.plan.SourcePlan.{SourcePlan}
 use Rattle.tplan.specs.declared.plan.SinkPlan.{SinkPlan}
 use Rattle.tplan.specs.declared.plan.Plan.{Plan}
-use Rattle.tnet.specs.Building.{all_wires, fault_of}
+use Rattle.tplan.specs.Wires.{all_wires}
+use Rattle.tnet.specs.Building.{fault_of}
 use Rattle.tnet.specs.Rendezvous.{Node, Configuration, Copy, Wake, Freeze_at, Offers, Asks, Fits, Differs, node_of}
 use Rattle.tnet.specs.Rendezvous.{was_copied}
-use Rattle.tnet.specs.Wires.{end_at, far_end, same_end}
+use Rattle.tplan.specs.Wires.{end_at, far_end, same_end}
 use Rattle.treduction.specs.Ends.{IsOver as IsAtEnd}
 use Rattle.tagents.specs.Walks.{are_open}
 use Rattle.tprocesses.specs.Places.{Place, Name, WordAt, LinkHalf, Messages, Kept, Standing}

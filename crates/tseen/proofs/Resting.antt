@@ -24,7 +24,7 @@ use Rattle.tproc.proofs.Resting.{step_is_there}
 use Rattle.tplan.specs.declared.plan.NodePlan.{NodePlan}
 use Rattle.tplan.specs.declared.plan.Plan.{Plan}
 use Rattle.tnet.specs.Rendezvous.{Node, Configuration, Local, Wake, Freeze_at, node_of, was_copied}
-use Rattle.tnet.specs.Wires.{end_at}
+use Rattle.tplan.specs.Wires.{end_at}
 use Rattle.treduction.specs.Ends.{IsOver as IsAtEnd}
 use Rattle.tagents.specs.Agents.{IsOver, Does}
 use Rattle.tagents.specs.Walks.{are_open, label_of, state_after}

@@ -22,7 +22,7 @@ use Rattle.tproc.specs.Placement.{IsBuffer, WaitsFor}
 use Rattle.tproc.specs.ProcessStatus.{reason_of}
 use Rattle.tproc.proofs.Handing.{Lies, buffer_lies}
 use Rattle.tnet.specs.Rendezvous.{Node, marked, was_copied}
-use Rattle.tnet.specs.Wires.{end_at, same_end}
+use Rattle.tplan.specs.Wires.{end_at, same_end}
 use Rattle.tprocesses.specs.Places.{Place, Name, WordAt, Sending, Standing, Half, LinkHalf, Error, HaltOnError, Life}
 use Rattle.tprocesses.specs.Places.{Population, HasRun, FlagChanged, same_name}
 use Rattle.tprocesses.specs.Values.{Value, Context, Lent, Stand, Absent, Rests, Runs, Waits, Ended, Copied, Offered}

@@ -18,7 +18,7 @@ use Rattle.tproc.specs.LinkChannels.{link_end, quiet_end}
 use Rattle.tproc.specs.Scripts.{output_set}
 use Rattle.tproc.proofs.Scripted.{output_set-hidden}
 use Rattle.tnet.specs.Rendezvous.{Node, Configuration, node_of, put_node, marked, was_copied}
-use Rattle.tnet.specs.Wires.{end_at}
+use Rattle.tplan.specs.Wires.{end_at}
 use Rattle.tnet.proofs.Puts.{put-same, put-other}
 use Rattle.tprocesses.specs.Places.{Messages}
 use Rattle.tprocesses.specs.Values.{AreMessages}

@@ -13,7 +13,7 @@ use Rattle.tproc.specs.Machine.{Control, Machine, descheduled, buffer_of}
 use Rattle.tproc.specs.ProcessStatus.{reason_of}
 use Rattle.tproc.specs.LinkChannels.{link_end}
 use Rattle.tnet.specs.Rendezvous.{Node, was_copied}
-use Rattle.tnet.specs.Wires.{end_at}
+use Rattle.tplan.specs.Wires.{end_at}
 use Rattle.tprocesses.specs.Places.{Name, WordAt, Sending, Half, LinkHalf}
 use Rattle.tprocesses.specs.Values.{Value, Saved, Receiving, Engaged, Offered, IsAmount, IsLink, word_in, unknown}
 use Rattle.tprocesses.specs.Touching.{word_number}

@@ -6,7 +6,7 @@ use Rattle.std.proofs.lemmas.Bool.{eq-eqb, ne_eqb, cases_eq, and_parts, and_from
 use Rattle.std.proofs.lemmas.Int.{ints}
 use Rattle.tproc.specs.declared.channels.Side.TheVariants.{Input, Output}
 use Rattle.tplan.specs.declared.plan.End.{End}
-use Rattle.tnet.specs.Wires.{end_at, same_end}
+use Rattle.tplan.specs.Wires.{end_at, same_end}
 use Rattle.tprocesses.specs.Places.{Place, Sending, LinkHalf}
 use Rattle.tprocesses.specs.Values.{Value, Lent, Empty, IsAmount, IsLink, link_in}
 use Rattle.tprocesses.specs.Changes.{Add, Put, apply}

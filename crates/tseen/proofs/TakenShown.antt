@@ -30,7 +30,7 @@ use Rattle.tproc.specs.Steps.{step}
 use Rattle.tproc.proofs.WordsApart.{LiesWord}
 use Rattle.tplan.specs.declared.plan.Plan.{Plan}
 use Rattle.tnet.specs.Rendezvous.{Node, Configuration, put_node, was_copied, IsStep}
-use Rattle.tnet.specs.Wires.{end_at, same_end}
+use Rattle.tplan.specs.Wires.{end_at, same_end}
 use Rattle.tprocesses.specs.Places.{Place, Name, WordAt, Sending, Standing, Half, LinkHalf, Error, HaltOnError, Life}
 use Rattle.tprocesses.specs.Places.{Population, HasRun, same_name, same_side}
 use Rattle.tprocesses.specs.Values.{Value, Use, Free, Saved, Receiving, Engaged, Context, Lent, Stand, Rests, Runs}

@@ -13,7 +13,7 @@ use Rattle.tproc.specs.declared.channels.Side.{Side}
 use Rattle.tproc.specs.declared.channels.Side.TheVariants.{Input, Output}
 use Rattle.tproc.specs.Channels.{mode_of}
 use Rattle.tproc.specs.LinkChannels.{link_of, is_right_end}
-use Rattle.tnet.specs.Wires.{end_at}
+use Rattle.tplan.specs.Wires.{end_at}
 use Rattle.tprocesses.specs.Places.{Place, Name, WordAt, LinkHalf}
 use Rattle.tprocesses.specs.Values.{Saved, Receiving, Context, Waits, Offered, Request, IsLink, link_in}
 use Rattle.tprocesses.specs.Values.{word_in, unknown}

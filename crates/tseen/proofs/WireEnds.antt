@@ -8,9 +8,10 @@ use Rattle.std.proofs.lemmas.Option.{slice_get_within}
 use Rattle.tplan.specs.declared.plan.End.{End}
 use Rattle.tplan.specs.declared.plan.Wire.{Wire}
 use Rattle.tplan.specs.declared.plan.Plan.{Plan}
-use Rattle.tnet.specs.Building.{all_wires, script_wires, script_ends, named_ends, fault_of, is_bad_end}
-use Rattle.tnet.specs.Wires.{far_end, same_end}
-use Rattle.tnet.proofs.Ends.{same_end-true}
+use Rattle.tplan.specs.Wires.{all_wires, script_wires, script_ends}
+use Rattle.tnet.specs.Building.{named_ends, fault_of, is_bad_end}
+use Rattle.tplan.specs.Wires.{far_end, same_end}
+use Rattle.tplan.proofs.Ends.{same_end-true}
 use Rattle.tnet.proofs.OpenedPlans.{HasGoodWires, faultless}
 use Rattle.tnet.proofs.PlannedWires.{slice_past, of_script_wires, bad_end_of_wire, bad_end_of_script}
 use Rattle.tnet.proofs.PlannedWires.{length-named_ends}

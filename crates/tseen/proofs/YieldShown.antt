@@ -22,7 +22,7 @@ use Rattle.tproc.specs.Queues.{iptr_word}
 use Rattle.tproc.specs.SavedWords.{WordStands, SavedStand}
 use Rattle.tproc.proofs.SavedWords.{saved_words_stand}
 use Rattle.tplan.specs.declared.plan.Plan.{Plan}
-use Rattle.tnet.specs.Wires.{end_at}
+use Rattle.tplan.specs.Wires.{end_at}
 use Rattle.tnet.specs.Rendezvous.{Node, Configuration}
 use Rattle.tprocesses.specs.Places.{Place, Name, Standing, Half, LinkHalf, Error, HaltOnError, Life, Population, HasRun}
 use Rattle.tprocesses.specs.Places.{same_name}

@@ -7,7 +7,7 @@ use Rattle.tplan.specs.declared.plan.End.{End}
 use Rattle.tplan.specs.declared.plan.Plan.{Plan}
 use Rattle.tplan.specs.declared.event.Note.{Note}
 use Rattle.tplan.specs.declared.event.Note.TheVariants.{Msg}
-use Rattle.tnet.specs.Wires.{same_end}
+use Rattle.tplan.specs.Wires.{same_end}
 use Rattle.tagents.specs.Agents.{own}
 use Rattle.tprocesses.specs.Machine.{Wire}
 use Rattle.tprocesses.specs.Certified.{ProcessStep, machine_of}

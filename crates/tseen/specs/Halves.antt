@@ -13,7 +13,7 @@ use Rattle.tproc.specs.Machine.{Machine, buffer_of}
 use Rattle.tproc.specs.ProcessStatus.{reason_of}
 use Rattle.tproc.specs.LinkChannels.{link_end}
 use Rattle.tnet.specs.Rendezvous.{Node, was_copied}
-use Rattle.tnet.specs.Wires.{end_at}
+use Rattle.tplan.specs.Wires.{end_at}
 use Rattle.tprocesses.specs.Places.{Place, Name, WordAt, Half, LinkHalf}
 use Rattle.tprocesses.specs.Values.{Value, Request, Engaged, Link, Empty, Offered, IsHalf, IsLink, word_in}
 use Rattle.tprocesses.specs.Touching.{word_number}

@@ -10,7 +10,7 @@ use Rattle.tplan.specs.declared.plan.Plan.{Plan}
 use Rattle.tproc.specs.LinkChannels.{is_link}
 use Rattle.tnet.specs.Building.{fault_of}
 use Rattle.tnet.specs.Rendezvous.{Configuration, IsCopy, IsWake, IsMismatch}
-use Rattle.tnet.specs.Wires.{end_at}
+use Rattle.tplan.specs.Wires.{end_at}
 use Rattle.tagents.specs.Agents.{Does}
 use Rattle.tprocesses.specs.Places.{Place, Name}
 use Rattle.tprocesses.specs.Values.{Value}

@@ -6,9 +6,10 @@ use Rattle.tplan.specs.declared.plan.NodePlan.{NodePlan}
 use Rattle.tplan.specs.declared.plan.SourcePlan.{SourcePlan}
 use Rattle.tplan.specs.declared.plan.SinkPlan.{SinkPlan}
 use Rattle.tplan.specs.declared.plan.Plan.{Plan}
-use Rattle.tnet.specs.Building.{all_wires, fault_of, opening_configuration, ArePlanWords}
+use Rattle.tplan.specs.Wires.{all_wires}
+use Rattle.tnet.specs.Building.{fault_of, opening_configuration, ArePlanWords}
 use Rattle.tnet.specs.Rendezvous.{Node, Configuration, node_of}
-use Rattle.tnet.specs.Wires.{end_at}
+use Rattle.tplan.specs.Wires.{end_at}
 use Rattle.std.specs.Int.{w32, from_le_bytes}
 use Rattle.tword.specs.Stores.{shown, word_at}
 use Rattle.tprocesses.specs.Changes.{are_known}

@@ -29,7 +29,7 @@ use Rattle.tplan.specs.declared.plan.SourcePlan.{SourcePlan}
 use Rattle.tlink.specs.Roles.{Processor}
 use Rattle.tnet.specs.Building.{fault_of, opening_configuration, ArePlanWords}
 use Rattle.tnet.specs.Rendezvous.{Node, Configuration, Step, Lawful, node_of, IsLocal, IsNotice, IsRun, IsWake}
-use Rattle.tnet.specs.Wires.{end_at}
+use Rattle.tplan.specs.Wires.{end_at}
 use Rattle.tprocesses.specs.Places.{Place, Name}
 use Rattle.tprocesses.specs.Values.{Value}
 use Rattle.tprocesses.specs.Machine.{Process}

@@ -13,7 +13,7 @@ use Rattle.tplan.specs.declared.plan.SourcePlan.{SourcePlan}
 use Rattle.tplan.specs.declared.plan.Plan.{Plan}
 use Rattle.tnet.specs.Building.{fault_of, node_count, opening_configuration, ArePlanWords}
 use Rattle.tnet.specs.Rendezvous.{Node, Configuration, Step, node_of, IsRun}
-use Rattle.tnet.specs.Wires.{end_at}
+use Rattle.tplan.specs.Wires.{end_at}
 use Rattle.treduction.specs.Ends.{IsOver as IsAtEnd, NoneFrozen}
 use Rattle.tagents.specs.Certificates.{IsReached}
 use Rattle.tprocesses.specs.Places.{Place, WordAt, Kept}

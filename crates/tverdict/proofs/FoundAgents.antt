@@ -14,9 +14,9 @@ use Rattle.std.proofs.lemmas.Option.{get_or_from_slice_get, same_Some, slice_get
 use Rattle.tplan.specs.declared.plan.End.{End}
 use Rattle.tplan.specs.declared.plan.Plan.{Plan}
 use Rattle.tplan.specs.declared.plan.Wire.{Wire}
-use Rattle.tnet.specs.Building.{all_wires}
-use Rattle.tnet.specs.Wires.{far_end, same_end}
-use Rattle.tnet.proofs.Ends.{same_end-true}
+use Rattle.tplan.specs.Wires.{all_wires}
+use Rattle.tplan.specs.Wires.{far_end, same_end}
+use Rattle.tplan.proofs.Ends.{same_end-true}
 use Rattle.tprocesses.specs.Machine.{joined_to}
 use Rattle.tcertify.specs.declared.node.Node.{Node}
 use Rattle.tcertify.specs.Finding.{AreApart}

@@ -11,7 +11,7 @@ use Rattle.tplan.specs.declared.plan.End.{End}
 use Rattle.tplan.specs.declared.plan.NodePlan.{NodePlan}
 use Rattle.tplan.specs.declared.plan.Plan.{Plan}
 use Rattle.tword.specs.Stores.{Store}
-use Rattle.tnet.specs.Wires.{end_at}
+use Rattle.tplan.specs.Wires.{end_at}
 use Rattle.tprocesses.specs.LinkMessages.{node_receives, node_sends}
 use Rattle.tprocesses.specs.Machine.{Nothing, Processor, Role, Sink, Source, receives, role_at, sends, site_of}
 use Rattle.tprocesses.specs.Parts.{HasNoStep, Part, Reason, stopping}

@@ -3,7 +3,7 @@ use Rattle.std.proofs.Common.{◌≡◌, ℕ, refl, ap, ◌∙◌, List, Some}
 use Rattle.std.specs.Prelude.{◌==◌, find, slice_get}
 use Rattle.std.proofs.lemmas.Bool.{eq-eqb, eqb-true}
 use Rattle.tproc.specs.declared.channels.Side.TheVariants.{Input, Output}
-use Rattle.tnet.specs.Wires.{end_at}
+use Rattle.tplan.specs.Wires.{end_at}
 use Rattle.tprocesses.specs.Places as place
 use Rattle.tprocesses.specs.Places.{Name, Place, same_name}
 use Rattle.tcertify.specs.declared.channel.Channel.{Channel}

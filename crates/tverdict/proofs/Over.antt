@@ -12,7 +12,7 @@ use Rattle.tclocks.specs.Checks.{Check}
 use Rattle.tclocks.proofs.Lists.{contains-first, contains-rest}
 use Rattle.tclocks.specs.declared.step.Step.{Step}
 use Rattle.tclocks.specs.Followed.{IsStep}
-use Rattle.tnet.specs.Wires.{end_at}
+use Rattle.tplan.specs.Wires.{end_at}
 use Rattle.tprocesses.specs.Places.{Name, Image}
 use Rattle.tprocesses.specs.Parts.{Reason}
 use Rattle.tprocesses.specs.Machine as machine

@@ -13,7 +13,7 @@ use Rattle.tplan.specs.declared.plan.Plan.{Plan}
 use Rattle.tplan.specs.declared.plan.SinkPlan.{SinkPlan}
 use Rattle.tplan.specs.declared.plan.SourcePlan.{SourcePlan}
 use Rattle.tword.specs.Stores.{Store, as_cells}
-use Rattle.tnet.specs.Wires.{same_end}
+use Rattle.tplan.specs.Wires.{same_end}
 use Rattle.tprocesses.specs.LinkMessages.{sink_receives, source_sends}
 use Rattle.tprocesses.specs.Machine.{Role, Processor, Source, Sink, Nothing, role_at}
 use Rattle.tprocesses.specs.Opening.{messages_of, source_at, sink_at}

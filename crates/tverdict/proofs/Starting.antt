@@ -13,7 +13,7 @@ use Rattle.std.proofs.lemmas.Option.{get_or_from_slice_get, same_Some, slice_get
 use Rattle.tplan.specs.declared.plan.NodePlan.{NodePlan}
 use Rattle.tplan.specs.declared.plan.Plan.{Plan}
 use Rattle.tplan.specs.declared.plan.SinkPlan.{SinkPlan}
-use Rattle.tnet.specs.Building.{all_wires}
+use Rattle.tplan.specs.Wires.{all_wires}
 use Rattle.tclocks.specs.Checks.{Check, nothing_checked, with_places}
 use Rattle.tprocesses.specs.Opening.{capacity_of, messages_of, opening_state, source_at}
 use Rattle.tprocesses.specs.Places.{Place, Messages, Kept}

@@ -8,7 +8,7 @@ use Rattle.tplan.specs.declared.plan.End.{End}
 use Rattle.tplan.specs.declared.plan.NodePlan.{NodePlan}
 use Rattle.tplan.specs.declared.plan.SinkPlan.{SinkPlan}
 use Rattle.tplan.specs.declared.plan.Plan.{Plan}
-use Rattle.tnet.specs.Building.{all_wires}
+use Rattle.tplan.specs.Wires.{all_wires}
 use Rattle.tprocesses.specs.Places.{Messages, Kept}
 use Rattle.tprocesses.specs.Values.{Value, AreMessages, AreKept}
 use Rattle.tprocesses.specs.Machine as machine

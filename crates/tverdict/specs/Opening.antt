@@ -10,7 +10,8 @@ use Rattle.tplan.specs.declared.plan.NodePlan.{NodePlan}
 use Rattle.tplan.specs.declared.plan.Plan.{Plan}
 use Rattle.tplan.specs.declared.plan.SinkPlan.{SinkPlan}
 use Rattle.tplan.specs.declared.plan.Wire.{Wire}
-use Rattle.tnet.specs.Building.{all_wires, fault_of, node_count}
+use Rattle.tplan.specs.Wires.{all_wires}
+use Rattle.tnet.specs.Building.{fault_of, node_count}
 use Rattle.tclocks.specs.Checks.{Check, nothing_checked, with_agent, with_places, with_slot}
 use Rattle.tcertify.specs.declared.node.Node.{Node}
 use Rattle.tcertify.specs.declared.sink.Sink.{Sink}

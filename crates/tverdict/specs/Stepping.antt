@@ -4,8 +4,8 @@ use Rattle.std.specs.Prelude.{ℕ, ◌≡◌, ◌≢◌, ◌+◌, ◌<◌, ◌^�
 use Rattle.std.specs.Prelude.{Result, Ok, Err, Some, slice_get}
 use Rattle.tplan.specs.declared.plan.End.{End}
 use Rattle.tplan.specs.declared.plan.Plan.{Plan}
-use Rattle.tnet.specs.Building.{all_wires}
-use Rattle.tnet.specs.Wires.{end_at}
+use Rattle.tplan.specs.Wires.{all_wires}
+use Rattle.tplan.specs.Wires.{end_at}
 use Rattle.tagents.specs.Walks.{are_open}
 use Rattle.tclocks.specs.Checks.{with_added, with_cleared, with_places}
 use Rattle.tprocesses.specs.Parts.{Reason}

@@ -2,7 +2,7 @@
 
 ghost use Rattle.std.specs.Prelude.{◌≡◌, ◌<◌, IfSome, OnOk, length};
 ghost use Rattle.tplan.specs.declared.plan.Plan.{Plan};
-ghost use Rattle.tnet.specs.Building.{all_wires};
+ghost use Rattle.tplan.specs.Wires.{all_wires};
 ghost use Rattle.tverdict.specs.Agents.{IsThere};
 ghost use Rattle.tverdict.specs.Stepping.{HandsOn, HasLead, IsLedTo, IsTelling, KeepsTold, Receives};
 

@@ -6,7 +6,7 @@ ghost use Rattle.tplan.specs.declared.plan.Plan.{Plan};
 ghost use Rattle.tagents.specs.Walks.{are_open};
 ghost use Rattle.tprocesses.specs.Machine.{awaits_successor, is_offered, is_ready, process_machine, role_at};
 ghost use Rattle.tprocesses.specs.Machine.{sender_to};
-ghost use Rattle.tnet.specs.Building.{all_wires};
+ghost use Rattle.tplan.specs.Wires.{all_wires};
 ghost use Rattle.tcertify.specs.Channels.{link_of, link_or_empty};
 ghost use Rattle.tcertify.specs.Standing.{stand_of};
 ghost use Rattle.tcertify.specs.Words.{use_of};

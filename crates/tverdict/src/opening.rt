@@ -3,7 +3,8 @@
 ghost use Rattle.std.specs.Prelude.{◌≡◌, ◌+◌, ◌≤◌, ◌^◌, IfOk, IfSome, MatchResult, None, OnOk, length};
 ghost use Rattle.std.specs.List.{range_with_len};
 ghost use Rattle.tword.specs.Accesses.{IsMemorySize};
-ghost use Rattle.tnet.specs.Building.{all_wires, fault_of, IsFaultOf};
+ghost use Rattle.tplan.specs.Wires.{all_wires};
+ghost use Rattle.tnet.specs.Building.{fault_of, IsFaultOf};
 ghost use Rattle.tcertify.specs.NodeOpened.{HaveOwnWorkspaces, IsOpen};
 ghost use Rattle.tverdict.specs.Machines.{IsAtStart};
 ghost use Rattle.tverdict.specs.Opening.{AllMayHaveSteps, AreAgents, AreEmpty, AreOpen, AreScriptPlaces};

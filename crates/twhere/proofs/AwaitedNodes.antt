@@ -18,7 +18,7 @@ use Rattle.tlink.specs.Node.{NodeState}
 use Rattle.tplan.specs.declared.plan.End.{End}
 use Rattle.tplan.specs.declared.plan.Wire.{Wire}
 use Rattle.tnet.specs.Net.{NetState}
-use Rattle.tnet.specs.Wires.{far_ends}
+use Rattle.tplan.specs.Wires.{far_ends}
 use Rattle.twhere.specs.declared.node_set.NodeSet.{NodeSet}
 use Rattle.twhere.specs.declared.waits.Wait.{Wait}
 use Rattle.twhere.specs.declared.waits.Want.{Want}

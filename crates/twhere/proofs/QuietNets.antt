@@ -6,7 +6,7 @@ use Rattle.tnet.specs.Net.{NetState}
 use Rattle.tnet.specs.Packets.{IsQuiet}
 use Rattle.tnet.specs.Quiet.{is_quiet}
 use Rattle.tnet.specs.Sound.{IsSound}
-use Rattle.tnet.specs.Wires.{far_end}
+use Rattle.tplan.specs.Wires.{far_end}
 use Rattle.tnet.proofs.Ends.{far_end-is_end}
 use Rattle.tnet.proofs.QuietEvents.{quiet_agrees}
 

@@ -7,7 +7,7 @@ use Rattle.tlink.specs.Roles.{Role, Processor, Source, Sink}
 use Rattle.tlink.specs.Node.{NodeState}
 use Rattle.tplan.specs.declared.plan.End.{End}
 use Rattle.tnet.specs.Net.{NetState}
-use Rattle.tnet.specs.Wires.{far_ends}
+use Rattle.tplan.specs.Wires.{far_ends}
 use Rattle.tfiles.specs.Logs.{line}
 use Rattle.twhere.specs.declared.stuck.Who.{Who}
 use Rattle.twhere.specs.declared.stuck.Who.TheVariants.{Process, TheSource, TheSink}

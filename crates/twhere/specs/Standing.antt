@@ -32,7 +32,7 @@ use Rattle.tlink.specs.Node.{NodeState, counts_at, input_at, output_at}
 use Rattle.tnet.specs.declared.inbox.Inbox.{Inbox}
 use Rattle.tnet.specs.Net.{NetState, four_links, inbox_at}
 use Rattle.tplan.specs.declared.plan.End.{End}
-use Rattle.tnet.specs.Wires.{end_at, far_ends}
+use Rattle.tplan.specs.Wires.{end_at, far_ends}
 use Rattle.tnet.specs.Quiet.{is_quiet}
 use Rattle.tfiles.specs.Logs.{line}
 use Rattle.tfiles.specs.Texts.{break_name, end_text, node_line, source_line, sink_line}

@@ -13,7 +13,7 @@ use Rattle.tlink.specs.Node.{NodeState, counts_at, output_at, input_at}
 use Rattle.tplan.specs.declared.plan.End.{End}
 use Rattle.tplan.specs.declared.plan.Wire.{Wire}
 use Rattle.tnet.specs.Net.{NetState, four_links, node_at}
-use Rattle.tnet.specs.Wires.{far_ends}
+use Rattle.tplan.specs.Wires.{far_ends}
 use Rattle.twhere.specs.declared.waits.Want.{Want}
 use Rattle.twhere.specs.declared.waits.Want.TheVariants.{Output, Input, Alternative}
 use Rattle.twhere.specs.declared.waits.Wait.{Wait}

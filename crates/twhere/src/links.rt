@@ -3,7 +3,7 @@
 ghost use Rattle.std.specs.Prelude.{◌≡◌, ◌<◌};
 ghost use Rattle.tlink.specs.Whole.{IsWhole};
 ghost use Rattle.tnet.specs.Net.{inbox_at};
-ghost use Rattle.tnet.specs.Wires.{end_at};
+ghost use Rattle.tplan.specs.Wires.{end_at};
 ghost use Rattle.tfiles.specs.Outputs.{Tells};
 ghost use Rattle.twhere.specs.Standing as spec;
 

@@ -1,6 +1,6 @@
 //! The processes that wait, and for what.
 
-ghost use Rattle.tnet.specs.Wires.{far_ends};
+ghost use Rattle.tplan.specs.Wires.{far_ends};
 ghost use Rattle.tfiles.specs.Outputs.{Tells};
 ghost use Rattle.twhere.specs.Standing as spec;
 ghost use Rattle.twhere.specs.Waits.{wait_at};

@@ -4,7 +4,7 @@ ghost use Rattle.std.specs.Prelude.{◌≡◌, ◌<◌, is_some};
 ghost use Rattle.tproc.specs.LinkChannels.{link_end};
 ghost use Rattle.tlink.specs.Node.{input_at, output_at};
 ghost use Rattle.tlink.specs.Whole.{IsWhole};
-ghost use Rattle.tnet.specs.Wires as wires;
+ghost use Rattle.tplan.specs.Wires as wires;
 ghost use Rattle.twhere.specs.Waits as spec;
 
 use crate::net_node::NetNode;

@@ -1,5 +1,5 @@
 use Rattle.std.proofs.Common.{◌≡◌, take}
-use Rattle.tnet.specs.Building.{all_wires}
+use Rattle.tplan.specs.Wires.{all_wires}
 use Rattle.tcheck.proofs.ends.all_wires.Given as goal
 
 -- the wires so far

@@ -1,7 +1,7 @@
 use Rattle.std.proofs.Common.{◌≡◌, ◌+◌, ◌<◌, ◌∙◌, sym, ap, subst, arith, List, length, length-set, []}
 use Rattle.std.specs.Prelude.{Option, option_map, slice_index_or}
 use Rattle.tnet.specs.Net.{empty_inbox}
-use Rattle.tnet.specs.Wires.{end_at}
+use Rattle.tplan.specs.Wires.{end_at}
 use Rattle.tfree.specs.Drained.{IsLeftAt, AreLeftAt}
 use Rattle.tfree.specs.Ends.{in_view, ins_view, outs_view}
 use Rattle.tfree.specs.Slots.{slot_at, slot_of_end}

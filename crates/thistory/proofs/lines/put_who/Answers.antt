@@ -1,6 +1,6 @@
 use Rattle.std.proofs.Common.{sym, ap, ◌∙◌}
 use Rattle.std.specs.Prelude.{codes}
-use Rattle.tnet.specs.Wires.{far_ends}
+use Rattle.tplan.specs.Wires.{far_ends}
 use Rattle.tfiles.proofs.Told.{tells_as}
 use Rattle.thistory.specs.declared.deed.Deed.{Deed}
 use Rattle.thistory.specs.Deeds.{processor_in}

@@ -1,6 +1,6 @@
 use Rattle.std.proofs.Common.{sym, ap, ◌∙◌, Bool, []}
 use Rattle.std.specs.Prelude.{if◌then◌else◌}
-use Rattle.tnet.specs.Wires.{far_ends}
+use Rattle.tplan.specs.Wires.{far_ends}
 use Rattle.tfiles.proofs.Told.{tells_as, tells_none, tells_then}
 use Rattle.thistory.specs.Deeds.{processor_in}
 use Rattle.thistory.specs.Steps.{left_text, step_line}

@@ -1,7 +1,8 @@
 use Rattle.std.proofs.Common.{◌≡◌, ℕ, ◌+◌, ◌<◌, ◌≤◌, ◌⊎◌, inl, inr, false, sym, ◌∙◌, arith}
 use Rattle.std.proofs.lemmas.Bool.{cases_lt}
 use Rattle.std.proofs.lemmas.Option.{slice_get_within}
-use Rattle.tnet.specs.Building.{all_wires, has_end_twice}
+use Rattle.tplan.specs.Wires.{all_wires}
+use Rattle.tnet.specs.Building.{has_end_twice}
 use Rattle.tnet.proofs.FirstFaults.{twice_is, twice_none, twice_at}
 use Rattle.tnet.proofs.faults.first_end_twice.Goals as goal
 

@@ -1,5 +1,6 @@
 use Rattle.std.proofs.Common.{◌≡◌, ℕ, ◌<◌, false}
-use Rattle.tnet.specs.Building.{all_wires, has_end_twice}
+use Rattle.tplan.specs.Wires.{all_wires}
+use Rattle.tnet.specs.Building.{has_end_twice}
 use Rattle.tnet.proofs.faults.first_end_twice.Given as goal
 
 -- no wire so far has an end of an earlier one

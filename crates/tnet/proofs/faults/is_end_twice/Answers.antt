@@ -1,7 +1,8 @@
 use Rattle.std.proofs.Common.{sym, ◌∙◌}
 use Rattle.std.proofs.lemmas.List.Folds.{list_any_more}
 use Rattle.std.proofs.lemmas.Option.{get_or_from_slice_get, slice_get_within}
-use Rattle.tnet.specs.Building.{all_wires, share_an_end}
+use Rattle.tplan.specs.Wires.{all_wires}
+use Rattle.tnet.specs.Building.{share_an_end}
 use Rattle.tnet.proofs.PlannedWires.{any_below}
 use Rattle.tnet.proofs.faults.is_end_twice.Goals as goal
 

@@ -1,6 +1,7 @@
 use Rattle.std.proofs.Common.{◌≡◌, take, false}
 use Rattle.std.specs.List.{list_any}
-use Rattle.tnet.specs.Building.{all_wires, share_an_end}
+use Rattle.tplan.specs.Wires.{all_wires}
+use Rattle.tnet.specs.Building.{share_an_end}
 use Rattle.tnet.proofs.faults.is_end_twice.Given as goal
 
 -- none of the wires so far has one of the ends

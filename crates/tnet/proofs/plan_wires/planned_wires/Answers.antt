@@ -1,6 +1,6 @@
 use Rattle.std.proofs.Common.{◌≤◌, length, arith}
 use Rattle.std.proofs.lemmas.List.{take_all}
-use Rattle.tnet.specs.Building.{all_wires}
+use Rattle.tplan.specs.Wires.{all_wires}
 use Rattle.tnet.proofs.PlannedWires.{one_more}
 use Rattle.tnet.proofs.StartingNets.{good_ends}
 use Rattle.tnet.proofs.plan_wires.planned_wires.Goals as goal

@@ -1,5 +1,5 @@
 use Rattle.std.proofs.Common.{◌≡◌, ap, ◌∙◌, sym, arith}
-use Rattle.tnet.specs.Wires.{end_at, far_end, far_ends}
+use Rattle.tplan.specs.Wires.{end_at, far_end, far_ends}
 use Rattle.tnet.proofs.Ends.{far_end-is_end}
 use Rattle.twhere.proofs.AwaitedNodes.{adds_far, adds_no_far}
 use Rattle.twhere.proofs.awaited.with_far_node.Goals as goal

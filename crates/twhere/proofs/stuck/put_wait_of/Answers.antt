@@ -1,5 +1,5 @@
 use Rattle.std.proofs.Common.{◌≡◌, ap, ◌∙◌}
-use Rattle.tnet.specs.Wires.{end_at, far_end, far_ends}
+use Rattle.tplan.specs.Wires.{end_at, far_end, far_ends}
 use Rattle.tfiles.proofs.Told.{tells_as, tells_none, tells_then}
 use Rattle.twhere.specs.Standing.{lacking_text, wait_text}
 use Rattle.twhere.specs.Waits.{wait_at}

@@ -1,5 +1,5 @@
 use Rattle.std.proofs.Common.{◌∙◌, inl, refl, sym}
-use Rattle.tnet.specs.Wires.{end_at}
+use Rattle.tplan.specs.Wires.{end_at}
 use Rattle.tprocesses.specs.Places as place
 use Rattle.tprocesses.specs.Values.{IsLink}
 use Rattle.tcertify.specs.declared.lead.Lead.TheVariants.{Link}

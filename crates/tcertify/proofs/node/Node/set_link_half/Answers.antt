@@ -1,6 +1,6 @@
 use Rattle.std.proofs.Common.{◌<◌, ◌∙◌, arith, length, refl, sym}
 use Rattle.tprocesses.specs.Changes.{Put}
-use Rattle.tnet.specs.Wires.{end_at}
+use Rattle.tplan.specs.Wires.{end_at}
 use Rattle.tprocesses.specs.Places as place
 use Rattle.tprocesses.specs.Values.{IsLink}
 use Rattle.tcertify.specs.declared.notes.Mode.TheVariants.{Puts}

@@ -1,7 +1,7 @@
 use Rattle.std.proofs.Common.{length, refl, subst, sym}
 use Rattle.std.proofs.lemmas.Option.{slice_get_read}
 use Rattle.std.specs.Vec.{with_item}
-use Rattle.tnet.specs.Wires.{end_at}
+use Rattle.tplan.specs.Wires.{end_at}
 use Rattle.tprocesses.specs.LinkMessages.{node_receives}
 use Rattle.tprocesses.specs.Parts.{Doing}
 use Rattle.tcertify.specs.Nodes.{node_site, nothing}

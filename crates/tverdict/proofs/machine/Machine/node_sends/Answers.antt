@@ -2,7 +2,7 @@ use Rattle.std.proofs.Common.{length, refl, subst, sym}
 use Rattle.std.proofs.lemmas.Option.{slice_get_read}
 use Rattle.std.specs.Vec.{with_item}
 use Rattle.tword.specs.Stores.{Store}
-use Rattle.tnet.specs.Wires.{end_at}
+use Rattle.tplan.specs.Wires.{end_at}
 use Rattle.tprocesses.specs.LinkMessages.{node_sends}
 use Rattle.tprocesses.specs.Parts.{Part}
 use Rattle.tcertify.specs.Nodes.{node_site}

@@ -1,0 +1,2 @@
+-- ends
+pub mod Ends
