@@ -23,18 +23,6 @@ none_left [] (suc n) h = refl
 none_left (x ∷ xs) zero h = absurd (omega (arith, h))
 none_left (x ∷ xs) (suc n) h = none_left xs n (omega (arith, h))
 
--- before it the first of what is left stands there
-first_at : {X Y : Type 0} (f : X → Y) (xs : List X) (n : ℕ) (x : X) → slice_get xs n ≡ Some x
-    → drop n (map f xs) ≡ f x ∷ drop (suc n) (map f xs)
-first_at f [] n x e = cc
-first_at f (y ∷ ys) zero x e = let same : y ≡ x = cc in ap (λ z. f z ∷ map f ys) same
-first_at f (y ∷ ys) (suc n) x e = first_at f ys n x e
-
-pub first_left : {X Y : Type 0} (f : X → Y) (xs : List X) (n : ℕ) (x : X) → slice_get xs n ≡ Some x
-    → drop n (map f xs) ≡ f x ∷ drop (n + 1) (map f xs)
-first_left f xs n x e =
-    let more : suc n ≡ n + 1 = omega arith in first_at f xs n x e ∙ ap (λ (k : ℕ). f x ∷ drop k (map f xs)) more
-
 -- a source sends
 module _ (e : End) (place : ℕ) (before notes : Notes) (kept : Keeps before notes)
     (tells : Tells notes place noted.Puts) where

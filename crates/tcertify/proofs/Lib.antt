@@ -28,10 +28,6 @@ pub mod Loops
 pub mod Blind
 -- Local instructions.
 pub mod Locals
--- What instructions need.
-pub mod Needing
--- Processes behind jumps.
-pub mod Jumps
 -- Memories in which nothing was loaded.
 pub mod Fresh
 -- Calls on a node.

@@ -8,7 +8,6 @@ use Rattle.tcertify.specs.declared.fault.Fault.{Fault}
 use Rattle.tcertify.specs.declared.fault.Fault.TheVariants as fault
 use Rattle.tcertify.specs.declared.notes.Notes.{Notes}
 use Rattle.tcertify.specs.declared.sink.Sink.{Sink}
-use Rattle.tcertify.specs.declared.source.Source.{Source}
 use Rattle.tcertify.specs.Notes.{AreNoted, Keeps, Numbering}
 use Rattle.tcertify.specs.Running.{State, run_part}
 use Rattle.tcertify.specs.Walked.{accesses}
@@ -39,10 +38,6 @@ abbrev pub DoesThere : {X A : Type 0} → Place → ℕ → Part A → (X → A)
 DoesThere p place part f old (Ok x) new = RunsThere p place part old (Ok (f x)) new
 DoesThere p place part f old (Err (fault.Stops why)) new = RunsThere p place part old (Err (reason_of why)) new
 DoesThere p place part f old (Err fault.OutOfMemory) new = Unit {0}
-
--- the messages of a source that have not gone over, and those that a sink has kept
-abbrev pub messages_left : Source → Value
-messages_left s = AreMessages (drop s.gone (map (λ m. m.items) s.messages.items))
 
 abbrev pub messages_kept : Sink → Value
 messages_kept s = AreKept s.room (map (λ m. m.items) s.messages.items)

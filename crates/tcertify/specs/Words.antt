@@ -108,15 +108,6 @@ pub record IsSet (old : Words) (k : ℕ) (cells : Cells) (used : WordUse) (new :
   pub first : new.first_place ≡ old.first_place
   pub notes : new.notes ≡ old.notes
 
--- the words are as they were, and nothing is noted
-pub record IsCleared (old new : Words) : Type 0 where
-  pub items : new.items.items ≡ old.items.items
-  pub number : new.number ≡ old.number
-  pub kind : new.kind ≡ old.kind
-  pub first : new.first_place ≡ old.first_place
-  pub notes : new.notes.items.items ≡ []
-  pub none : new.notes.is_lost ≡ false
-
 -- a call answered what a part does and left the words as it does, whatever stands elsewhere; it noted what the part
 -- accesses, which is all in these words
 pub record Runs {A : Type 0} (part : Part A) (old : Words) (answer : Result A Reason) (new : Words) : Type 0 where

@@ -384,21 +384,6 @@ impl Words {
         Ok(())
     }
 
-    /// Sets the bytes of a span, as a program does.
-    ///
-    /// # Errors
-    /// Those of `take_span`; nothing is changed then.
-    pub fn write_span(&mut self, span: &Span, bytes: &[Option<u8>]) -> Result<(), Stop>
-        requires { length bytes.now ≡ span.now.size }
-        ensures change { Runs (spec.write (site_of self.old) span.now bytes.now) self.old (told (λ _. tt) result)
-            self.new }
-        ensures site { site_of self.new ≡ site_of self.old }
-    {
-        self.take_span(span)?;
-        self.set_span(span, WordUse::Free, bytes);
-        Ok(())
-    }
-
     /// Whether the count of pending outputs of a word of a span is this.
     fn has_count(&self, span: &Span, count: u8) -> bool
         requires { HasWords (length self.now.items.items) span.now }

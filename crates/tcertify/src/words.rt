@@ -20,7 +20,7 @@ ghost use Rattle.tcertify.specs.Cells.{cells_of};
 ghost use Rattle.tcertify.specs.Instructions.{touch_byte};
 ghost use Rattle.tcertify.specs.Running.{State, run_part};
 ghost use Rattle.tword.specs.Accesses.{IsMemorySize};
-ghost use Rattle.tcertify.specs.Words.{HasCells, IsCleared, IsFresh, IsSet, IsTouched, Runs, number_of, site_of};
+ghost use Rattle.tcertify.specs.Words.{HasCells, IsFresh, IsSet, IsTouched, Runs, number_of, site_of};
 ghost use Rattle.tcertify.specs.Words.{told, use_of};
 
 use crate::cells::Cells;
@@ -83,13 +83,6 @@ impl Words {
             first_place,
             notes: Notes::new(alloc),
         })
-    }
-
-    /// Forgets what was touched, before a step.
-    pub fn clear_notes(&mut self)
-        ensures words { IsCleared self.old self.new }
-    {
-        self.notes.clear();
     }
 
     /// Notes that the word of this number is touched so.

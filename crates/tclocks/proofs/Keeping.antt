@@ -3,7 +3,7 @@ use Rattle.std.proofs.Common.{◌≡◌, ◌≢◌, ℕ, ◌<◌, inl, inr, List
 use Rattle.std.proofs.Common.{zero, suc, subst, arith, slice_index, slice_index_or, slice_set, replicate, Result, Ok}
 use Rattle.std.proofs.Common.{Err, OnOk, OnErr, Bool, true, false}
 use Rattle.std.proofs.lemmas.List.{get_or-map, map-append, length-map, ext_get_or}
-use Rattle.std.proofs.lemmas.List.{get_or-set_same, get_or-set_other, length-set, get_or_default}
+use Rattle.std.proofs.lemmas.List.{get_or-set_same, get_or-set_other, length-set}
 use Rattle.std.proofs.Math.Seq.{map-set_same}
 use Rattle.tclocks.specs.declared.step.Access.{Access}
 use Rattle.tclocks.specs.declared.kept.Kept.{Kept}

@@ -16,8 +16,6 @@ pub mod Keeping
 pub mod Joining
 -- accesses
 pub mod Accessing
--- lists of accesses
-pub mod Telling
 -- a step
 pub mod Stepping
 -- slots that are written, and what is added

@@ -1,9 +1,9 @@
 -- What pages keep of all places.
-use Rattle.std.proofs.Common.{◌≡◌, ◌≢◌, ℕ, ◌<◌, ◌≤◌, ◌+◌, ◌*◌, ◌/◌, ◌%◌, ◌-◌, zero, suc, inl, inr, List, [], ◌∷◌}
-use Rattle.std.proofs.Common.{◌++◌, map, length, ap, refl, sym, ◌∙◌, subst, arith, slice_index_or, slice_set, replicate}
+use Rattle.std.proofs.Common.{◌≡◌, ◌≢◌, ℕ, ◌<◌, ◌≤◌, ◌+◌, ◌*◌, ◌/◌, ◌%◌, zero, suc, inl, inr, List, [], ◌∷◌}
+use Rattle.std.proofs.Common.{◌++◌, length, ap, refl, sym, ◌∙◌, subst, arith, slice_index_or, slice_set, replicate}
 use Rattle.std.proofs.Common.{append_assoc, append-nil, Bool, true, false, Result, Ok, Err, OnOk, OnErr}
 use Rattle.std.proofs.lemmas.List.{ext_get_or, get_or-set_same, get_or-set_other, length-set, get_or_default, set-get_or}
-use Rattle.std.proofs.lemmas.List.{replicate-append-replicate, length-append, length-replicate}
+use Rattle.std.proofs.lemmas.List.{replicate-append-replicate}
 use Rattle.std.proofs.lemmas.List.FromFn.{get_or-map-range_with_len, length-map-range_with_len, map-range_with_len_more}
 use Rattle.tclocks.specs.declared.step.Access.{Access}
 use Rattle.tclocks.specs.declared.kept.Kept.{Kept}

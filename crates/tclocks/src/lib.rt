@@ -21,5 +21,5 @@ pub mod step;
 
 pub use mode::Mode;
 pub use race_check::RaceCheck;
-pub use refusal::{Refusal, RefusedAccess};
+pub use refusal::Refusal;
 pub use step::{Access, PlaceAccess, Step};

@@ -5,14 +5,13 @@ ghost use Rattle.std.specs.Prelude.{OnSome};
 ghost use Rattle.tclocks.specs.Checks.{accesses_at, begun, clock_of, next_step, nothing_checked, steps_of, IsAccessed};
 ghost use Rattle.tclocks.specs.Checks.{with_added, with_agent, with_cleared, with_handed, with_joined, with_places};
 ghost use Rattle.tclocks.specs.Checks.{with_slot};
-ghost use Rattle.tclocks.specs.Followed.{AreAccessed};
-ghost use Rattle.tclocks.specs.Refusals.{told, IsDue, IsRefusedAt};
+ghost use Rattle.tclocks.specs.Refusals.{IsDue};
 
 use crate::clock::Clock;
 use crate::mode::Mode;
 use crate::places::Places;
-use crate::refusal::{Refusal, RefusedAccess};
-use crate::step::{PlaceAccess, Step};
+use crate::refusal::Refusal;
+use crate::step::Step;
 use std::alloc::{AllocError, Global};
 use std::marker::Model;
 
@@ -140,26 +139,6 @@ impl RaceCheck {
     {
         let clock = &self.clocks[step.agent as usize];
         self.places.access(self.alloc, clock, place, step, mode)
-    }
-
-    /// Accesses of a step are noted one after another, as `access` says.
-    ///
-    /// # Errors
-    /// The first that is refused, by its index; those before it are noted.
-    pub fn access_all(&mut self, step: Step, accesses: &[PlaceAccess]) -> Result<(), RefusedAccess>
-        requires counted { 0 < step.number }
-        requires agent { step.agent < length self.old.clocks }
-        requires places { All (λ access. access.place < length self.old.places) accesses.now }
-        ensures ok { OnOk result (AreAccessed step (told accesses.now) self.old self.new) }
-        ensures refused { IfErr result
-            (λ refused. IsRefusedAt step (told accesses.now) refused self.old self.new) }
-    {
-        for (index, access) in accesses.iter().enumerate() {
-            if let Err(refusal) = self.access(step, access.place as usize, access.mode) {
-                return Err(RefusedAccess { index, refusal });
-            }
-        }
-        Ok(())
     }
 
     /// An agent's clock is handed on in a slot, in the place of the clock there.

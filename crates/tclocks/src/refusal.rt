@@ -15,13 +15,6 @@ pub enum Refusal {
     OutOfMemory,
 }
 
-/// Which one of a list of accesses was refused, and why. Those before it were made.
-#[derive(Clone, Copy, Debug)]
-pub struct RefusedAccess {
-    pub index: usize,
-    pub refusal: Refusal,
-}
-
 impl From<AllocError> for Refusal {
     ghost from_gives = { λ _ refusal. refusal ≡ OutOfMemory };
 

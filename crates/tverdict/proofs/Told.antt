@@ -13,7 +13,6 @@ use Rattle.tclocks.specs.declared.step.PlaceAccess.{PlaceAccess}
 use Rattle.tclocks.specs.declared.step.Step.{Step}
 use Rattle.tclocks.specs.Checks.{Check, IsAccessed, accesses_at}
 use Rattle.tclocks.specs.Followed.{AreAccessed}
-use Rattle.tclocks.proofs.Telling.{AreMade}
 use Rattle.tcertify.specs.declared.notes.Note.{Note}
 use Rattle.tcertify.specs.Notes.{IsNoted}
 use Rattle.tcertify.specs.Walked.{Accessed}
@@ -99,6 +98,12 @@ accessed_push step [] access before between after h is =
     (after, subst (λ (c : Check). IsAccessed step access c after) h is, refl)
 accessed_push step (first ∷ rest) access before between after (middle, h, more) is =
     (middle, h, accessed_push step rest access middle between after more is)
+
+-- the accesses before this one are made, and agents and places are as many as before
+pub record AreMade (step : Step) (accesses : List (Access ℕ Mode)) (index : ℕ) (before after : Check) : Type 0 where
+  pub made : AreAccessed step (take index accesses) before after
+  pub clocks : after.clocks ≡ before.clocks
+  pub places : length after.places ≡ length before.places
 
 -- one more note is told
 pub more_told : (step : Step) (notes : List Note) (i : ℕ) (note : Note) (access : PlaceAccess)

@@ -1,6 +1,6 @@
 -- The notes before this one are told.
 use Rattle.std.proofs.Common.{map}
-use Rattle.tclocks.proofs.Telling.{AreMade}
+use Rattle.tverdict.proofs.Told.{AreMade}
 use Rattle.tfollow.specs.Telling.{told_of}
 use Rattle.tverdict.proofs.telling.tell_notes.Given as goal
 

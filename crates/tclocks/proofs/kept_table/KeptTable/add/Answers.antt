@@ -1,8 +1,8 @@
-use Rattle.std.proofs.Common.{◌≡◌, ◌∙◌, ◌+◌, ℕ, ap, sym, subst, arith, List, ◌++◌, replicate}
+use Rattle.std.proofs.Common.{◌∙◌, ℕ, ap, sym, subst, List, ◌++◌, replicate}
 use Rattle.tclocks.specs.declared.kept.Kept.{Kept}
 use Rattle.tclocks.specs.declared.kept.Kept.TheVariants.{OfOne}
 use Rattle.tclocks.specs.Tables.{all_in, HavePages}
-use Rattle.tclocks.proofs.Tabling.{added, added-pages}
+use Rattle.tclocks.proofs.Tabling.{added}
 use Rattle.tclocks.proofs.kept_table.KeptTable.add.Goals as goal
 
 pub invariant_of-self : goal.invariant_of-self

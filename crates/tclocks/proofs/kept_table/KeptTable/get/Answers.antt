@@ -1,4 +1,4 @@
-use Rattle.std.proofs.Common.{◌≡◌, ◌∙◌, ◌/◌, ◌%◌, ◌<◌, sym, ap, arith, length, List, [], slice_index_or}
+use Rattle.std.proofs.Common.{◌∙◌, ◌/◌, ◌%◌, ◌<◌, sym, ap, arith, length, List, []}
 use Rattle.std.proofs.lemmas.List.{get_or_default}
 use Rattle.tclocks.specs.declared.kept.Kept.{Kept}
 use Rattle.tclocks.specs.Tables.{kept_at}

@@ -1,5 +1,4 @@
 use Rattle.std.proofs.Common.{◌<◌, subst, sym, length, List}
-use Rattle.tclocks.specs.declared.step.Access.{Access}
 use Rattle.tclocks.specs.declared.kept.Kept.{Kept}
 use Rattle.tclocks.specs.Kept.{IsNotedBriefly, IsNotedAt}
 use Rattle.tclocks.proofs.Keeping.{all_of, within-all, noted-now}
