@@ -91,8 +91,8 @@ fn turn(net: &mut Net, node: u8) -> u64 {
     done + u64::from(tried(net, node, Act::Send(1)))
 }
 
-/// So many thousand turns, one node after the other: how many events were done, and a checksum of them and of the
-/// memories.
+/// Does `thousands` times 1,000 turns, one node after the other: how many events were done, and a checksum of them and
+/// of the memories.
 fn go_round(ring: &Ring, thousands: u64) -> Result<(u64, u32), Break> {
     let mut net = prepared(ring)?;
     let mut done = 0;
@@ -142,7 +142,7 @@ fn pass_all(net: &mut Net) -> u64 {
     }
 }
 
-/// So many rows, one after the other: how many events were done, and a checksum of them and of the memories.
+/// Does `rows` rows, one after the other: how many events were done, and a checksum of them and of the memories.
 fn go_through(rows: u64) -> Result<(u64, u32), Break> {
     let mut all = (0, BEGIN);
     for _ in 0..rows {

@@ -72,7 +72,7 @@ fn processor((code, words): (&[u8], Vec<u32>)) -> Result<Processor, Break> {
     Ok(p)
 }
 
-/// So many nodes in a ring, each with its program.
+/// `nodes` nodes in a ring, each with its program.
 fn prepared(nodes: usize, program: impl Fn(usize) -> (&'static [u8], Vec<u32>)) -> Result<Net, Break> {
     let processors: Result<Vec<_>, _> = (0..nodes).map(|number| processor(program(number))).collect();
     let wires: Vec<_> = (0..nodes)
@@ -81,7 +81,7 @@ fn prepared(nodes: usize, program: impl Fn(usize) -> (&'static [u8], Vec<u32>)) 
     Ok(Net::new(processors?, &wires))
 }
 
-/// So many nodes that wait for ever: how many there are in a benchmark of rounds that find nothing to do.
+/// How many nodes that wait for ever there are in a benchmark of rounds that find nothing to do.
 fn resting(name: &str) -> Option<usize> {
     match name {
         "turn-idle" => Some(1),

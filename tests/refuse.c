@@ -3,10 +3,10 @@
    REFUSE_MEMORY=N  the Nth request for memory is refused, counted from 1
    REFUSE_THREAD=N  the Nth thread does not start
    REFUSE_READ=N    the Nth read fails
-   REFUSE_WRITE=N   the Nth write fails, but for those to standard error
+   REFUSE_WRITE=N   the Nth write fails, except for those to standard error
    REFUSE_BY=HOW    how it fails: 'interrupted', or 'nothing', by which a write takes no byte; else with an error
-   REFUSE_OPEN=N    the Nth file is not opened, for want of memory
-   REFUSE_LOOK=N    the Nth look at what the system knows of a file fails, for want of memory
+   REFUSE_OPEN=N    the Nth file is not opened, for lack of memory
+   REFUSE_LOOK=N    the Nth look at what the system knows of a file fails, for lack of memory
    REFUSE_SYNC=1    to sync a file fails
    REFUSE_SHORT=N   no read or write does more than N bytes
    REFUSE_TOLD=FILE this file is made when something was refused, or shortened */

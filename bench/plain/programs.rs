@@ -6,7 +6,7 @@ pub const START: u32 = 0x8000_0080;
 /// How many bytes a node has.
 pub const SIZE: usize = 131_072;
 
-/// Goes over an array of 64 words by turns: adds each to a sum and puts the sum back, and then takes the sum's
+/// Goes over an array of 64 words: adds each to a sum and puts the sum back, and then takes the sum's
 /// complement in part, or calls a procedure on it. Its workspace has the index, the count, the sum, a pointer, and from
 /// word 16 on the array.
 #[rustfmt::skip]

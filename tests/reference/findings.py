@@ -57,7 +57,7 @@ def access_text(place, access):
 
 
 def told(net, most):
-    """Returns the text of a run of a net's process machine, by at most so many steps, and the status."""
+    """Returns the text of a run of a net's process machine, by at most `most` steps, and the status."""
     run = Certificate(net, most)
     verdict = run.verdict
     if verdict.is_certified():

@@ -41,7 +41,7 @@ def remainder(a, b, c):
 
 
 def moved(value, bits, width):
-    """Returns a number that was moved left by so many bits, or right where they are below 0; far moves leave 0."""
+    """Returns a number that was moved left by `bits` bits, or right where they are below 0; far moves leave 0."""
     if abs(bits) >= width:
         return 0
     return value << bits if bits >= 0 else value >> -bits

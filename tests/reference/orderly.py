@@ -18,7 +18,7 @@ class OrderlyNode(draw.Node):
 
 
 class Orderly(draw.Mesh):
-    """Nodes of several processes, of which one has the turn: it alone uses shared words, but for rude ones, and it
+    """Nodes of several processes, of which one has the turn: it alone uses shared words, except for rude ones, and it
     sends on the open ways, by which it hands the turn on. All other ways have one sender and one receiver."""
 
     NODE = OrderlyNode

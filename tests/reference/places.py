@@ -127,7 +127,7 @@ DECREMENTS = (Act.DECREMENT_HIGH, Act.DECREMENT_LOW)
 
 
 def commute(one, other):
-    """Tells whether two changes of a place come to the same in both orders, whatever is there."""
+    """Tells whether two changes of a place have the same result in both orders, whatever is there."""
     return one is other and one is not Act.PUT
 
 

@@ -125,7 +125,7 @@ class Verdict(NamedTuple):
 
 def certify(machine, most, choose=lambda ready: next(iter(ready)), tell=lambda step: None):
     """Runs the process machine with the check, up to its end, a race, a step that stops, too many processes at a node,
-    or so many steps."""
+    or `most` steps."""
     check, number, own = RaceCheck(machine), 0, collections.Counter()
     while machine.ready:
         if number == most:

@@ -45,7 +45,7 @@ fn turns_of_a_message(rt: HostRuntime) -> Result<(), Fail> {
     Ok(())
 }
 
-/// The ring went round 100 times, and the history of its workers comes to the same on the net that was opened for
+/// The ring went round 100 times, and the history of its workers has the same result on the net that was opened for
 /// them.
 fn assert_ring(rt: &impl Abort, alloc: Global, opened: Net, done: &Gathered) -> Result<(), Fail> {
     let lines = shown_of(alloc, done)?;
@@ -55,7 +55,7 @@ fn assert_ring(rt: &impl Abort, alloc: Global, opened: Net, done: &Gathered) -> 
     Ok(())
 }
 
-/// The ring by so many workers, in rotation.
+/// The ring by `count` workers, in rotation.
 fn assert_ring_by(rt: &impl Abort, alloc: Global, count: usize) -> Result<(), Fail> {
     let net = Net::build(alloc, ring(alloc)?)?;
     let copy = net.try_copy(alloc)?;

@@ -81,7 +81,7 @@ impl Gate for Entries {
     }
 }
 
-/// So many nodes that run for ever: each jumps to itself.
+/// `count` nodes that run for ever: each jumps to itself.
 fn runners(alloc: Global, count: usize) -> Result<Plan, AllocError> {
     let mut nodes = Vec::new(alloc);
     for _node in 0..count {
@@ -104,7 +104,7 @@ const ENTRIES: &[(usize, usize, u64)] = &[
     (7, 7, 0x1f_1f1f_1f1f_1f1f),
 ];
 
-/// Whether five rounds of so many nodes are done by so many workers, through their gate.
+/// Whether five rounds of this number of nodes are done by this number of workers, through their gate.
 fn are_done<R: Threads + Sync>(
     rt: &R,
     alloc: Global,

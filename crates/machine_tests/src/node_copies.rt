@@ -1,4 +1,4 @@
-//! Copies of nodes, of a processor, a source and a sink: each is as what it was made of, and goes on alone.
+//! Copies of nodes, of a processor, a source and a sink: each is like what it was made of, and goes on by itself.
 
 use crate::plans::scripted;
 use std::alloc::Global;
@@ -10,7 +10,7 @@ use tnet::Net;
 use tproc::Processor;
 use trounds::{Open, run_rounds};
 
-/// Events of a node, but for those that bring a byte.
+/// Events of a node, except for those that bring a byte.
 const EVENTS: [NodeEvent; 10] = [
     NodeEvent::Run,
     NodeEvent::Send(0),
@@ -109,7 +109,7 @@ fn does_one(node: &mut Node) -> bool {
     false
 }
 
-/// A copy of a node is as the node. One that does an event is not any more, and the node is as another copy of it.
+/// A copy of a node is like the node. One that does an event no longer is, and the node is still like another copy.
 /// Whether there was such an event.
 fn assert_copied(rt: &impl Abort, alloc: Global, node: &Node) -> Result<bool, Fail> {
     let mut copy = node.try_copy(alloc).ok().ok_or("no copy of a node")?;
@@ -129,8 +129,8 @@ fn behind_a_round<R: Threads + Sync>(rt: &R, alloc: Global, net: Net) -> Result<
     }
 }
 
-/// Behind each round of a net with a source and a sink, a copy of each node is as the node, until one of them does an
-/// event.
+/// Behind each round of a net with a source and a sink, a copy of each node is like the node, until one of them does
+/// an event.
 #[test]
 fn copies_of_nodes(rt: HostRuntime) -> Result<(), Fail> {
     let alloc = rt.alloc();

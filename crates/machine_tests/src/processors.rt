@@ -15,7 +15,7 @@ use tword::{Break, Kind, MemoryFault, Word};
 enum Line {
     /// A process is let in, with its first address.
     Adds(u32, u32),
-    /// So many steps are done, each with this outcome.
+    /// This number of steps is done, each with this outcome.
     Steps(u32, Ran),
     /// The word of the memory at this address is this one.
     Word(u32, u32),
@@ -50,7 +50,7 @@ fn step_once(p: &mut Processor) -> Result<Ran, Break> {
     p.run_one()
 }
 
-/// Whether so many steps are done, and each does this.
+/// Whether `number` steps are done, and each does this.
 fn steps(p: &mut Processor, number: u32, ran: Ran) -> bool {
     for _ in 0..number {
         if step_once(p) != Ok(ran) {
@@ -91,7 +91,7 @@ fn play(rt: &impl Abort, p: &mut Processor, script: &[Line]) {
     }
 }
 
-/// A processor with so many bytes of memory.
+/// A processor with `size` bytes of memory.
 fn processor(alloc: Global, size: u32) -> Result<Processor, MemoryFault>
     ensures { IfOk result HasNobody }
 {
@@ -242,12 +242,12 @@ fn the_process_that_interrupts_has_error_clear(rt: HostRuntime) -> Result<(), Fa
 /// Where the code of many processes begins: `stopp`.
 const MANY: u32 = 0x8000_3000;
 
-/// The low process at the k-th of workspaces that follow one another so far apart.
+/// The low process at the k-th of workspaces that follow one another at this distance.
 fn member(first: u32, apart: u32, k: u32) -> u32 {
     first.wrapping_add(apart.wrapping_mul(k)) | 1
 }
 
-/// Adds low processes at workspaces so far apart, until one is refused; tells how many were let in, and why no
+/// Adds low processes at workspaces with this distance, until one is refused; tells how many were let in, and why no
 /// more.
 fn crowd(p: &mut Processor, first: u32, apart: u32) -> (u32, Option<Break>) {
     for k in 0..1_000 {
@@ -258,7 +258,7 @@ fn crowd(p: &mut Processor, first: u32, apart: u32) -> (u32, Option<Break>) {
     (1_000, None)
 }
 
-/// Whether each of so many queued processes is linked to the next one.
+/// Whether each of `number` queued processes is linked to the next one.
 fn are_linked(p: &Processor, first: u32, apart: u32, number: u32) -> bool {
     for k in 0..number {
         let link = member(first, apart, k).wrapping_sub(9);
@@ -269,7 +269,7 @@ fn are_linked(p: &Processor, first: u32, apart: u32, number: u32) -> bool {
     true
 }
 
-/// Whether so many processes are dispatched, each at its turn, and then stop: `stopp` leaves the next address below
+/// Whether `number` processes are dispatched, each at its turn, and then stop: `stopp` leaves the next address below
 /// the workspace of the process that runs, in place of its first one.
 fn stop_in_turn(p: &mut Processor, first: u32, apart: u32, number: u32) -> bool {
     for k in 0..number {

@@ -172,7 +172,7 @@ fn draw(
     Ok(seen)
 }
 
-/// A net of random code, and what is drawn on it: the events that were done are a run, which comes to the same.
+/// A net of random code, and what is drawn on it: the events that were done are a run, which has the same result.
 fn try_seed(rt: &impl Abort, alloc: Global, setup: Setup, seed: u32) -> Result<Seen, Fail> {
     let mut bits = seed;
     let mut net = Net::build(alloc, random_plan(alloc, setup, &mut bits)?)?;

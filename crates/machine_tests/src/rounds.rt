@@ -8,7 +8,7 @@ use tnet::Net;
 use tplan::BuildFault;
 use trounds::{NetFault, Open, run_rounds};
 
-/// Whether rounds of the pair are refused for so many workers.
+/// Whether rounds of the pair are refused for this number of workers.
 fn are_bad<R: Threads + Sync>(rt: &R, alloc: Global, workers: usize) -> Result<bool, BuildFault> {
     let net = Net::build(alloc, transfer(alloc)?)?;
     let answer = run_rounds(rt, alloc, net, 1, 64, &[], workers, &Open);

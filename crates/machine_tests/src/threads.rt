@@ -143,7 +143,7 @@ pub fn on_threads_until_idle<R: Threads + Wait + Sync>(
     None
 }
 
-/// Some workers in one call, which makes so many turns.
+/// Some workers in one call, which makes this number of turns.
 fn turn_list<R: Threads + Sync>(
     rt: &R,
     alloc: Global,
@@ -155,7 +155,7 @@ fn turn_list<R: Threads + Sync>(
     turn_all(rt, alloc, workers.as_mut_slice(), turns, SLICE)
 }
 
-/// All workers in one call, which makes so many turns.
+/// All workers in one call, which makes this number of turns.
 pub fn turn_together<R: Threads + Sync>(
     rt: &R,
     alloc: Global,
@@ -169,7 +169,7 @@ pub fn turn_together<R: Threads + Sync>(
     turn_list(rt, alloc, workers, turns)
 }
 
-/// Two lists of workers in calls of their own, side by side. Each makes so many turns.
+/// Two lists of workers in calls of their own, side by side. Each makes this number of turns.
 fn turn_both<R: Threads + Sync>(
     rt: &R,
     alloc: Global,

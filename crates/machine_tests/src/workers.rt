@@ -17,7 +17,7 @@ use trounds::replay;
 /// How many runs a node makes in a turn.
 pub const SLICE: u32 = 64;
 
-/// A net is opened for so many workers.
+/// A net is opened for `count` workers.
 pub fn opened(alloc: Global, net: Net, count: usize) -> Result<Vec<Worker>, OpenFault>
     ensures { IfOk result (λ workers. ComeFromOneOpen workers.items) }
 {

@@ -1,5 +1,5 @@
--- Steps of walkers that do not clash: neither changes what the other has seen, and their changes come to the same in
--- both orders.
+-- Steps of walkers that do not clash: neither changes what the other has seen, and their changes have the same result
+-- in both orders.
 use Rattle.std.proofs.Common.{◌≡◌, refl, sym, ap, ◌∙◌, Bool, true, false, ◌&&◌, ◌||◌, not, map, filter}
 use Rattle.std.proofs.Common.{List, [], ◌∷◌, inl, inr, true≢false}
 use Rattle.std.proofs.lemmas.Bool.{or_left, or_right, true_from_ne_false}
@@ -52,7 +52,7 @@ module _ {Agent Place Value Change Kind Deed : Type 0} (w : Walkers Agent Place 
       ap (λ (cs : List Change). value_after w cs v)
       (none_made p f.seen (w.changes e.deed) k (each_fails _ (w.changes e.deed) h))
 
-  -- two changes come to the same in both orders
+  -- two changes have the same result in both orders
   abbrev pub Commute : Change → Change → Type 0
   Commute c d = (v : Value) → w.apply c (w.apply d v) ≡ w.apply d (w.apply c v)
 

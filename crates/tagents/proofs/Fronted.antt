@@ -61,7 +61,7 @@ module _ {State Agent Label : Type 0} (m : Agents State Agent Label) (start : St
   not_before s s1 s2 s3 e f g r does does' d stops q after (inr leads) =
       laws.waits s s1 s2 s3 e f g r d does does' stops q after leads
 
-  -- the two do not clash, so they come to the same in both orders
+  -- the two do not clash, so they have the same result in both orders
   apart : (es : List Label) (s s1 s' end : State) (e f : Label) → IsReached m start s → Does m s e s1 → Does m s f s'
       → m.agent_of e ≢ m.agent_of f → m.stops e ≡ false → m.clash e f ≡ false → (k : StillDoes m s1 f)
       → Fronted k.after k.label es end → Fronted s' f (e ∷ es) end

@@ -101,7 +101,7 @@ module _ {Agent Place Value Change Kind Deed : Type 0} (w : Walkers Agent Place 
   open_again a s t [] h = refl
   open_again a s t (p ∷ ps) h = rw (h.0, open_again a s t ps h.1) refl
 
-  -- so a step is had there too
+  -- so there is a step there too
   pub has_it_again : (s s' t : State) (e : Step) → Does (agents_of w) s e s' → Agrees s t e.seen
       → Does (agents_of w) t e (state_after w e.deed t)
   has_it_again s s' t e d h =

@@ -17,7 +17,7 @@ module _ {State Agent Label : Type 0} (m : Agents State Agent Label) where
     pub same : m.agent_of label ≡ m.agent_of f
     pub does : Does m s label after
 
-  -- two steps come to the same in both orders
+  -- two steps have the same result in both orders
   pub record Meet (s1 s2 : State) (e f : Label) : Type 0 where
     pub both : State
     pub first : Does m s1 f both
@@ -25,14 +25,14 @@ module _ {State Agent Label : Type 0} (m : Agents State Agent Label) where
 
   -- what clash, leads and stops have to say of the steps e and f of two agents, wherever a run leads
   pub record IsLawful (start : State) : Type 0 where
-    -- whether agents are one is told
+    -- whether agents are the same is told
     pub is_same : (a b : Agent) → m.same a b ≡ true → a ≡ b
     pub not_same : (a b : Agent) → m.same a b ≡ false → a ≢ b
-    -- a step that clashes with none is not changed by another one, and they come to the same in both orders
+    -- a step that clashes with none is not changed by another one, and they have the same result in both orders
     pub commutes : (s s1 s2 : State) (e f : Label) → IsReached start s → m.agent_of e ≢ m.agent_of f → Does m s e s1
         → Does m s f s2
         → m.stops e ≡ false → m.clash e f ≡ false → Meet s1 s2 e f
-    -- an agent that has a step has one after the step of another, but for a step that stops
+    -- an agent that has a step has one after the step of another, except for a step that stops
     pub stays : (s s1 s2 : State) (e f : Label) → IsReached start s → m.agent_of e ≢ m.agent_of f → Does m s e s1
         → Does m s f s2
         → m.stops e ≡ false → StillDoes s1 f

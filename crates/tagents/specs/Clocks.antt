@@ -17,11 +17,11 @@ module _ {State Agent Label : Type 0} (m : Agents State Agent Label) where
   OneKnows [] f a n = ⊥
   OneKnows (z ∷ zs) f a n = (ComesBefore m z.label f × (n ≤ z.past a)) ⊎ OneKnows zs f a n
 
-  -- the step comes before steps of this agent alone
+  -- the step comes only before steps of this agent
   abbrev pub IsPrivate : Label → Agent → Type 0
   IsPrivate e a = (g : Label) → ComesBefore m e g → m.same a (m.agent_of g) ≡ true
 
-  -- none of these knows that the agent has counted so far, but for those that lead to no step of another agent
+  -- none of these knows that the agent has counted so far, except for those that lead to no step of another agent
   abbrev pub NoneKnows : List (Entry Agent Label) → Agent → ℕ → Type 0
   NoneKnows [] a n = Unit {0}
   NoneKnows (z ∷ zs) a n = ((z.past a < n) ⊎ IsPrivate z.label a) × NoneKnows zs a n

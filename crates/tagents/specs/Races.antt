@@ -20,7 +20,7 @@ module _ {State Agent Label : Type 0} (m : Agents State Agent Label) where
   HasNoRace e known (f ∷ fs) =
       (OneComesBefore known f × HasNoRace e (f ∷ known) fs) ⊎ ((m.clash e f ≡ false) × HasNoRace e known fs)
 
-  -- so it is with each step of a run
+  -- the same holds for each step of a run
   abbrev pub IsRaceFree : List Label → Type 0
   IsRaceFree [] = Unit {0}
   IsRaceFree (e ∷ es) = HasNoRace e (e ∷ []) es × IsRaceFree es

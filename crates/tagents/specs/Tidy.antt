@@ -10,7 +10,7 @@ abbrev pub IsOneOf : {X : Type 0} → X → List X → Type 0
 IsOneOf x [] = ⊥
 IsOneOf x (y ∷ ys) = (y ≡ x) ⊎ IsOneOf x ys
 
--- it is so of each of these
+-- it holds for each of these
 abbrev pub HoldsOfEach : {X : Type 0} → (X → Type 0) → List X → Type 0
 HoldsOfEach P [] = Unit {0}
 HoldsOfEach P (x ∷ xs) = P x × HoldsOfEach P xs
@@ -27,7 +27,7 @@ module _ {Agent Place Value Change Kind Deed : Type 0} (w : Walkers Agent Place 
       → IsReached (agents_of w) start s → Does (agents_of w) s e s' → w.stops e.deed ≡ false → e.agent ≢ b → IsGate b p
       → w.is_open b p (s p) ≡ true → w.is_open b p (s' p) ≡ true
 
-  -- whether agents or places are one is told
+  -- whether agents or places are the same is told
   pub record AreTold : Type 0 where
     pub is_same : (a b : Agent) → w.same a b ≡ true → a ≡ b
     pub not_same : (a b : Agent) → w.same a b ≡ false → a ≢ b
@@ -37,7 +37,7 @@ module _ {Agent Place Value Change Kind Deed : Type 0} (w : Walkers Agent Place 
   -- what a machine of walkers has to give
   pub record AreTidy (start : Place → Value) : Type 0 where
     pub told : AreTold
-    -- changes of kinds that commute come to the same in both orders
+    -- changes of kinds that commute have the same result in both orders
     pub commute : (c d : Change) (v : Value) → w.commute (w.kind_of c) (w.kind_of d) ≡ true
         → w.apply c (w.apply d v) ≡ w.apply d (w.apply c v)
     -- what a change awakens was shut
@@ -65,7 +65,7 @@ module _ {Agent Place Value Change Kind Deed : Type 0} (w : Walkers Agent Place 
   IsCareful a seen (looking p next) = (v : Value) → IsCareful a (record { place = p; value = v } ∷ seen) (next v)
   IsCareful a seen (doing d) = w.stops d ≡ false → HoldsOfEach (Spares a seen) (w.changes d)
 
-  -- so it is with the step of each agent
+  -- the same holds for the step of each agent
   abbrev pub AreCareful : Type 0
   AreCareful = (a : Agent) → IsCareful a [] (w.walk a)
 

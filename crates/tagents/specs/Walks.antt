@@ -32,7 +32,7 @@ pub record Label (Agent Place Value Deed : Type 0) : Type 0 where
 
 -- agents that walk
 pub record Walkers (Agent Place Value Change Kind Deed : Type 0) : Type 0 where
-  -- whether agents are one, and whether places are
+  -- whether agents are the same, and whether places are
   pub same : Agent → Agent → Bool
   pub same_place : Place → Place → Bool
   -- the gates of an agent, and the values that open them to it
@@ -43,7 +43,7 @@ pub record Walkers (Agent Place Value Change Kind Deed : Type 0) : Type 0 where
   -- the changes that a deed makes, in their order, and what a change makes of a value
   pub changes : Deed → List (Alteration Place Change)
   pub apply : Change → Value → Value
-  -- the kind of a change, and which kinds come to the same in both orders
+  -- the kind of a change, and which kinds have the same result in both orders
   pub kind_of : Change → Kind
   pub commute : Kind → Kind → Bool
   -- whether a change makes this value only of values that open no gate
@@ -93,7 +93,7 @@ module _ {Agent Place Value Change Kind Deed : Type 0} (w : Walkers Agent Place 
         deed = deed_of (w.walk a) s;
       }
 
-  -- it is had where all gates are open
+  -- there is one where all gates are open
   abbrev pub next_step : Agent → (Place → Value) → Option (Label Agent Place Value Deed × (Place → Value))
   next_step a s = if are_open a s then Some (label_of a s, state_after (deed_of (w.walk a) s) s) else None
 

@@ -38,8 +38,8 @@ pub fn checked_runs_have_no_race<State, Agent, Label, Place, Mode>()
     ensures { CheckedRunsHaveNoRace State Agent Label Place Mode }
 {}
 
-/// Of a machine whose steps keep to the places that they name, it is enough to know steps one at a time, that who has
-/// a step keeps one, and that who waits for one had none before.
+/// Of a machine whose steps keep to the places that they name, it is enough to know steps one at a time, that an agent
+/// that has a step keeps one, and that an agent that waits for one had none before.
 pub fn framed_machines_are_lawful<Place, Value, Agent, Label>()
     ensures { FramedMachinesAreLawful Place Value Agent Label }
 {}
@@ -55,8 +55,8 @@ pub fn meeting_is_certified()
     ensures { MeetingIsCertified }
 {}
 
-/// Of walkers it is enough to know that some changes come to the same in both orders, that what a change awakens was
-/// shut, and that no step shuts an open gate of another agent.
+/// Of walkers it is enough to know that some changes have the same result in both orders, that what a change awakens
+/// was shut, and that no step shuts an open gate of another agent.
 pub fn walkers_are_lawful<Agent, Place, Value, Change, Kind, Deed>()
     ensures { WalkersAreLawful Agent Place Value Change Kind Deed }
 {}

@@ -49,7 +49,7 @@ module _ (s : State) (n k : ℕ) (c : Change) (v : Value) (makes : apply c (s (W
   pub as_put : changed (WordAt n k) c s ≡ changed (WordAt n k) (Put v) s
   as_put = λ i p. put_at p i
 
--- so of the words of a node
+-- the same of the words of a node
 pub changes_word : (w v : Words) (a k : ℕ) (c : Change) (x : StoredWord) (cells : Cells) (used : WordUse)
     → k ≡ word_number a → slice_get w.items.items k ≡ Some x → IsSet w k cells used v
     → apply c (IsWord (word_of x)) ≡ IsWord (record { cells = cells_of cells; used = use_of used })
@@ -62,7 +62,7 @@ changes_word w v a k c x cells used at there s makes has =
     ∙ set_state w v k x cells used there s rest)
     s.number s.first s.notes has)
 
--- so of a word that is noted first
+-- the same of a word that is noted first
 pub touched_blind : (w v u : Words) (a k : ℕ) (note : Mode) (c : Change) → IsTouched w k note v → k ≡ word_number a
     → Runs (change (word_place (site_of v) a) c) v (Ok tt) u → Runs (change (word_place (site_of w) a) c) w (Ok tt) u
 touched_blind w v u a k note c t at h =

@@ -35,7 +35,7 @@ pub mod NodeRunning
 -- Lists that grow, and nodes.
 pub mod Keeping
 pub mod Growing
--- Whether two places are one.
+-- Whether two places are the same.
 pub mod Telling
 -- States that change, and calls that look or change.
 pub mod BoardChanges

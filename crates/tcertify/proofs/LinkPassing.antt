@@ -111,7 +111,7 @@ module _ (a b : Node) (l : ℕ) where
             e
             tt (Ok (part_of buffer words)) h (runs_at_given (part_of buffer words) e))
 
--- a message is laid down
+-- a message is stored
 module _ (a b : Node) (l i : ℕ) (buffer : Span) (message : Store) where
   abbrev empties : Site → Name → Doing
   empties s x = change (place.LinkHalf (end_at s.number l) Input) (Put (IsLink value.Empty)) >> wakes x None
@@ -119,7 +119,7 @@ module _ (a b : Node) (l i : ℕ) (buffer : Span) (message : Store) where
   abbrev puts_message : Site → Name → Store → Doing
   puts_message s x words = put s Free buffer (replaced buffer words message) >> empties s x
 
-  -- the message is laid into this buffer
+  -- the message is put into this buffer
   abbrev pub laying : Doing
   laying =
       lays_down (node_site a) (end_at (node_site a).number l) message (record {

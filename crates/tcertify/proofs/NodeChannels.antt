@@ -163,7 +163,7 @@ module _ (a : Node) (ds : List Channel) (k : ℕ) (c : Channel) (side : Side) (r
       (λ w t. by_sides (λ u. ((c.address == w) && same_side (side_of side) u) ≡ false
       → half_among (names a) ds w u ≡ half_among (names a) a.channels.items.items w u) (half_else w) t)
 
--- a channel that comes to be there has no half that is taken
+-- a channel that is added has no half that is taken
 module _ (a : Node) (c : Channel) (none : IsFound address_of c.address a.channels.items.items None)
     (input : c.input.request ≡ None) (output : c.output.request ≡ None) where
   not_found : (w : ℕ) → (c.address == w) ≡ true → find (λ d. d.address == w) a.channels.items.items ≡ None

@@ -1,4 +1,4 @@
--- How a process comes to be there: with a workspace, a name, and one more that was ever there.
+-- How a process is added: with a workspace, a name, and one more that was ever there.
 use Rattle.std.proofs.Common.{◌≡◌, ℕ, sym, ap, ◌∙◌, subst, List, Result, Ok, Err, pos}
 use Rattle.tword.specs.declared.breaks.Break.TheVariants.{AlreadyLive}
 use Rattle.tprocesses.specs.Changes.{Add, Raise}

@@ -146,7 +146,7 @@ known_set n cs ds l k c side r known there set new =
         (sym (set_elsewhere cs k i (with_request side r c) ne)
         ∙ ap (λ (es : List Channel). slice_get es i) (sym set) ∙ at) e
 
--- a channel that comes to be there keeps it
+-- a channel that is added keeps it
 free_or_before : (n : ℕ) (xs : List Channel) (c : Channel) → ((t : Side) → (half_of t c).request ≡ None)
     → ((i : ℕ) (d : Channel) (t : Side) (q : Request) → slice_get xs i ≡ Some d → (half_of t d).request ≡ Some q
     → q.process < n)

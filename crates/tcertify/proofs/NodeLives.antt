@@ -132,7 +132,7 @@ module _ (a : Node) (ms : List Life) (k : ℕ) (l m : Life) (there : slice_get a
       same : lives_at ms ≡ lives_at a.lives.items.items
       same = λ i w. at w (l.workspace == w) refl i
 
--- a workspace that comes to be there
+-- a workspace that is added
 module _ (a : Node) (l : Life) (none : IsFound workspace_of l.workspace a.lives.items.items None)
     (count : l.count ≡ pos 0) (successors : l.successors ≡ 0) where
   not_found : (w : ℕ) → (l.workspace == w) ≡ true

@@ -43,7 +43,7 @@ use Rattle.tcertify.proofs.Telling.{same_name-self, same_name-true}
 abbrev pub with_processes : List Process → NodePlan → NodePlan
 with_processes ps plan = record plan { image = record plan.image { processes = ps } }
 
--- the opening of a plan, but that one node has these processes
+-- the opening of a plan, except that one node has these processes
 abbrev pub opening_with : Plan → ℕ → NodePlan → List Process → State
 opening_with p n plan ps (Standing x) =
     if n == x.node then IsStand (stand_of x.root x.path (with_processes ps plan)) else opening_state p (Standing x)

@@ -124,7 +124,7 @@ stand_leads m b k p told there shut = (
   },
 )
 
--- so it is where more may have come
+-- the same holds where more may have come
 pub known_more : (m n : ℕ) (cs : List Channel) (l : Links) → m ≤ n → AreKnown m cs l → AreKnown n cs l
 known_more m n cs l up h =
     record {

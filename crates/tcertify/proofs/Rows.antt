@@ -65,7 +65,7 @@ pub cells_there : (o : Option StoredWord) (cells : Store) → Some cells ≡ opt
 cells_there (Some w) cells e = cc
 cells_there None cells e = cc
 
--- so many words of a row were looked at, and what comes of the others decides
+-- the first k words of a row were looked at, and what the others give decides
 pub record Leads (one : ℕ → Part Store) (first count : ℕ) (w : Words) (k : ℕ) (u : Words) : Type 0 where
   pub items : u.items.items ≡ w.items.items
   pub site : site_of u ≡ site_of w

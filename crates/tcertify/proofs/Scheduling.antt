@@ -418,7 +418,7 @@ module _ (a : Node) (k : ℕ) (ctx : Context) (side : Side) where
           (knows_does a ctx.b (with_channel (node_site a) (name_at a k) l) b channel on nothing r
           (knows_does a ctx.c (with_buffer (node_site a) (name_at a k) l channel) b start e nothing r h))
 
--- the bytes that are laid down
+-- the bytes that are stored
 pub laid_so : (o : Option ℕ) → bytes_if (is_some o) (to_le_bytes w32 (unwrap_or o 0)) ≡ laid_down o
 laid_so (Some v) = refl
 laid_so None = refl

@@ -1,4 +1,4 @@
--- Whether two places are one is told.
+-- Whether two places are the same is told.
 use Rattle.std.proofs.Common.{◌≡◌, ℕ, refl, sym, ap, ◌∙◌, true, List, [], ◌∷◌, true≢false}
 use Rattle.std.specs.Prelude.{◌==◌, ◌&&◌}
 use Rattle.std.proofs.lemmas.Bool.{and_parts, and_from, eqb-true, eq-eqb}
@@ -11,7 +11,7 @@ use Rattle.tprocesses.specs.Places.{Root, Image, After, Name, Place, WordAt, Sen
 use Rattle.tprocesses.specs.Places.{Error, HaltOnError, Life, Successions, Messages, Kept, Population, HasRun}
 use Rattle.tprocesses.specs.Places.{FlagChanged, same_path, same_root, same_name, same_side, same_place}
 
--- two numbers that the test finds the same are one
+-- two numbers that the test finds the same are equal
 same_number : (m n : ℕ) → (m == n) ≡ true → m ≡ n
 same_number m n h = eqb-true m n h
 

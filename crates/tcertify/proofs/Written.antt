@@ -12,7 +12,7 @@ use Rattle.tcertify.proofs.Places.{set_elsewhere, set_here}
 use Rattle.tcertify.proofs.Splices.{set_before, set_behind, splice_none, splice_one}
 use Rattle.tcertify.proofs.WordBytes.{bytes_length, put_byte}
 
--- what a set word leaves as it was is so of each word
+-- where a word that is set keeps something, each word keeps it
 pub kept_by_set : {B : Type 0} (f : Option StoredWord → B) (ws : List StoredWord) (k j : ℕ) (x y : StoredWord)
     → slice_get ws k ≡ Some x → f (Some y) ≡ f (Some x) → f (slice_get (set ws k y) j) ≡ f (slice_get ws j)
 kept_by_set {B} f ws k j x y there e = by (cases_eq k j)

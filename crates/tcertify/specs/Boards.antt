@@ -1,4 +1,4 @@
--- What a node has at its places but for its words, as functions of names, addresses and numbers.
+-- What a node has at its places except for its words, as functions of names, addresses and numbers.
 -- Source: own choice.
 use Rattle.std.specs.Prelude.{ℕ, zero, suc, ◌==◌, ℤ, pos, Bool, false, Option, if◌then◌else◌}
 use Rattle.tproc.specs.declared.channels.Side.{Side}
@@ -26,7 +26,7 @@ has_run_at high low zero = high
 has_run_at high low (suc zero) = low
 has_run_at high low (suc (suc p)) = false
 
--- a state in which the places of a node have this, but for its words
+-- a state in which the places of a node have this, except for its words
 abbrev pub board_at : Board → State → State
 board_at b s (Standing x) = if b.node == x.node then IsStand (b.stand x) else s (Standing x)
 board_at b s (Half n c side) = if b.node == n then IsHalf (b.half c side) else s (Half n c side)

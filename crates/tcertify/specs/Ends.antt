@@ -1,4 +1,4 @@
--- What stands at one place alone, as the messages of a source or of a sink do.
+-- What stands at only one place, as the messages of a source or of a sink do.
 -- Source: own choice.
 use Rattle.std.specs.Prelude.{ℕ, ◌≡◌, drop, map, Result, Ok, Err, if◌then◌else◌}
 use Rattle.tprocesses.specs.Parts.{Part, Reason}
@@ -23,8 +23,7 @@ pub record Spot : Type 0 where
   pub notes : Notes
 
 -- a call answered what a part does and left at the place what it does, whatever stands elsewhere; it noted what the
--- part
--- accesses
+-- part accesses
 pub record RunsThere {A : Type 0} (p : Place) (place : ℕ) (part : Part A) (old : Spot) (answer : Result A Reason)
     (new : Spot) : Type 0 where
   pub runs : (rest : State)

@@ -33,7 +33,7 @@ pub mod Outputs
 -- processes that begin, and flags
 pub mod Starts
 pub mod Flags
--- what a node has but for its words
+-- what a node has except for its words
 pub mod Boards
 -- what parts see
 pub mod Seeing

@@ -61,7 +61,7 @@ leaves_sent f output message = do
   wakes output.process (Some (record { link = f.link; buffer = output.buffer }))
   gives message
 
--- a message is laid into the buffer of an input, whose process is ready
+-- a message is put into the buffer of an input, whose process is ready
 abbrev pub lays_down : Site → End → Store → Request → Doing
 lays_down s e message input = do
   words ← words_for s Receiving (word_number input.buffer.start) (word_count input.buffer)

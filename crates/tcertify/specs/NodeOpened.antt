@@ -37,7 +37,7 @@ pub record HasNothing (plan : NodePlan) (k from : ℕ) (n : Node) : Type 0 where
 abbrev pub HaveOwnWorkspaces : List Process → Type 0
 HaveOwnWorkspaces = AreApart (λ q. workspace_of q.wdesc)
 
--- a node stands as the opening of each plan says that has it under this number; nothing is noted. Its words have their
+-- a node is as the opening of each plan says that has it under this number; nothing is noted. Its words have their
 -- places from this first one on
 pub record IsOpen (plan : NodePlan) (k from : ℕ) (n : Node) : Type 0 where
   pub site : node_site n ≡ planned_site plan k

@@ -59,7 +59,7 @@ workspace_at n k = unwrap_or (slice_get (workspaces n) k) 0
 abbrev pub node_site : Node → Site
 node_site n = site_of n.words
 
--- what it has but for its words
+-- what it has except for its words
 abbrev pub board_of : Node → Board
 board_of n =
     record {
@@ -172,7 +172,7 @@ pub record IsBegun (old new : Node) : Type 0 where
   pub none : new.words.notes.is_lost ≡ false
   pub leads : new.leads.items ≡ []
 
--- but for their words and notes two nodes are alike
+-- except for their words and notes two nodes are alike
 pub record AreBesides (old new : Node) : Type 0 where
   pub processes : new.processes.items.items ≡ old.processes.items.items
   pub channels : new.channels.items.items ≡ old.channels.items.items

@@ -49,7 +49,7 @@ pub record IsNoted (numbering : Numbering) (notes : List Note) (access : Accesse
   pub place : numbering access.place ≡ note.place
   pub tells : tells_of note.mode access.place access.mode ≡ true
 
--- each access of which the notes told is told of still, unless a note got lost
+-- the notes still tell of each access of which they told, unless a note got lost
 pub record Keeps (old new : Notes) : Type 0 where
   pub lost : new.is_lost ≡ false → old.is_lost ≡ false
   pub notes : new.is_lost ≡ false → (numbering : Numbering) (access : Accessed)

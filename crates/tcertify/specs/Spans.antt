@@ -33,7 +33,7 @@ span_cells w span = cells_from w.items.items (word_number span.start) (word_coun
 abbrev pub HasWords : ℕ → Span → Type 0
 HasWords n span = (k : ℕ) → k < word_count span → word_number span.start + k < n
 
--- each byte of so many from a place on is among n bytes
+-- each of `size` bytes from a place on is among n bytes
 abbrev pub FitsIn : (n place size : ℕ) → Type 0
 FitsIn n place size = (k : ℕ) → k < size → place + k < n
 
@@ -48,7 +48,7 @@ laid_over [] ys = ys
 laid_over (x ∷ xs) [] = []
 laid_over (x ∷ xs) (y ∷ ys) = x ∷ laid_over xs ys
 
--- so from a place on
+-- the same from a place on
 abbrev pub splice : {X : Type 0} → ℕ → List X → List X → List X
 splice zero xs ys = laid_over xs ys
 splice (suc k) xs [] = []
@@ -77,7 +77,7 @@ pub record AreTouched (old : Words) (span : Span) (mode : Mode) (new : Words) : 
   pub keeps : Keeps old.notes new.notes
   pub tells : (k : ℕ) → k < word_count span → Tells new.notes (new.first_place + (word_number span.start + k)) mode
 
--- no byte of so many from a place on lies in this word
+-- none of `size` bytes from a place on lies in this word
 abbrev pub Misses : (place size k : ℕ) → Type 0
 Misses place size k = (p : ℕ) → place ≤ p → p < place + size → p / 4 ≡ k → ⊥
 
@@ -108,7 +108,7 @@ pub record HasCount (w : Words) (span : Span) (count : ℕ) : Type 0 where
   pub among : k < word_count span
   pub is : sent_or (slice_get w.items.items (word_number span.start + k)) ≡ Some count
 
--- what a word is, but for its count of pending outputs
+-- what a word is, except for its count of pending outputs
 abbrev pub word_or_none : Option StoredWord → Option Word
 word_or_none (Some w) = Some (word_of w)
 word_or_none None = None

@@ -1,4 +1,4 @@
--- How a process comes to be there, in two parts.
+-- How a process is added, in two parts.
 -- Source: own choice, parts of `comes` of `tprocesses`.
 use Rattle.std.specs.Prelude.{ℕ, pos}
 use Rattle.tword.specs.declared.breaks.Break.TheVariants.{AlreadyLive}
@@ -17,7 +17,7 @@ abbrev pub start_of : Start → value.Context → Stand
 start_of start.Rests c = value.Rests c
 start_of start.Runs c = value.Runs c
 
--- a workspace that no process has gets one
+-- a workspace that no process has gets a process
 abbrev pub begins_life : Site → ℕ → Doing
 begins_life s w = do
   life ← see (Life s.number w)

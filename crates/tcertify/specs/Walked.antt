@@ -68,6 +68,6 @@ pub record IsWalkedAsRun (plan : Plan) (step : Doing) (s : State) : Type 0 where
   pub looks_told : LooksAreTold step s
   pub changes_told : ChangesAreTold step s
 
--- so each step of each plan's machine
+-- so does each step of each plan's machine
 abbrev pub StepsAreRun : Type 0
 StepsAreRun = (plan : Plan) (step : Doing) (s : State) → IsWalkedAsRun plan step s

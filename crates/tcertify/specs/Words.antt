@@ -99,7 +99,7 @@ pub record IsTouched (old : Words) (k : ℕ) (mode : Mode) (new : Words) : Type 
   pub keeps : Keeps old.notes new.notes
   pub tells : Tells new.notes (new.first_place + k) mode
 
--- the words are as they were but for this one, whose pending outputs stay
+-- the words are as they were except for this one, whose pending outputs stay
 pub record IsSet (old : Words) (k : ℕ) (cells : Cells) (used : WordUse) (new : Words) : Type 0 where
   pub items : new.items.items ≡ slice_set old.items.items k
       (record { cells = cells; used = used; sending = sending_of (slice_get old.items.items k) })

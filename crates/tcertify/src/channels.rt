@@ -24,7 +24,7 @@ impl Channel {
 }
 
 impl Channels {
-    /// No channels, for a memory of so many bytes.
+    /// No channels, for a memory of `size` bytes.
     ///
     /// # Errors
     /// Where the allocator refuses.

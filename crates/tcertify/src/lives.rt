@@ -10,7 +10,7 @@ use std::alloc::{AllocError, Global};
 use tword::{Hints, Word};
 
 impl Lives {
-    /// No workspaces, for a memory of so many bytes.
+    /// No workspaces, for a memory of `size` bytes.
     ///
     /// # Errors
     /// Where the allocator refuses.

@@ -39,7 +39,7 @@ fn is_offered(half: &LinkHalf) -> bool
 }
 
 impl Node {
-    /// The number of the channel at an address, which comes to be there if it was not.
+    /// The number of the channel at an address, which is added if it was not there.
     ///
     /// # Errors
     /// `OutOfMemory`.
@@ -57,7 +57,7 @@ impl Node {
         self.adds_channel(address)
     }
 
-    /// The number of a channel that comes to be there.
+    /// Adds a channel, and gives its number.
     ///
     /// # Errors
     /// `OutOfMemory`.

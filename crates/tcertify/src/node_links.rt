@@ -184,7 +184,7 @@ impl Node {
         Ok(())
     }
 
-    /// A message is laid into the buffer of an input, whose process is ready.
+    /// A message is put into the buffer of an input, whose process is ready.
     ///
     /// # Errors
     /// `WordInUse` where a word of the buffer has another use by now, `HasNoStep` where the process does not wait.

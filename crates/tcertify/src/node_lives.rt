@@ -37,7 +37,7 @@ pub(crate) fn next_place(fresh_place: &mut u32) -> Option<u32> {
 }
 
 impl Node {
-    /// The number of a workspace, which comes to be there if it was not.
+    /// The number of a workspace, which is added if it was not there.
     ///
     /// # Errors
     /// `OutOfMemory`.
@@ -53,7 +53,7 @@ impl Node {
         self.adds_workspace(workspace)
     }
 
-    /// The number of a workspace that comes to be there.
+    /// Adds a workspace, and gives its number.
     ///
     /// # Errors
     /// `OutOfMemory`.
@@ -123,7 +123,7 @@ impl Node {
         Ok(())
     }
 
-    /// A workspace that no process has gets one.
+    /// A workspace that no process has gets a process.
     ///
     /// # Errors
     /// `AlreadyLive` where a process has it; `OutOfMemory`.
@@ -188,7 +188,7 @@ impl Node {
         life.successors
     }
 
-    /// So many successors went on at a workspace.
+    /// Sets how many successors went on at a workspace.
     ///
     /// # Errors
     /// `OutOfMemory`.
@@ -201,7 +201,7 @@ impl Node {
         Ok(())
     }
 
-    /// So many successors went on at the workspace of this number.
+    /// Sets how many successors went on at the workspace of this number.
     #[inline(always)]
     fn set_successors(&mut self, number: usize, successors: u32)
         requires { number < length self.old.lives.items.items }

@@ -94,7 +94,7 @@ impl Node {
         })
     }
 
-    /// A process of the image comes to be there, by its number in the image.
+    /// A process of the image is added, by its number in the image.
     ///
     /// # Errors
     /// Those of `comes`.

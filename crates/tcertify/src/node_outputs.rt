@@ -20,7 +20,7 @@ impl Node {
     /// The buffer of an output may be written again.
     ///
     /// # Errors
-    /// `OutOfMemory` where the memory does not have it, or a count does not fit; it does not come of a lent buffer.
+    /// `OutOfMemory` where the memory does not have it, or a count does not fit; never for a buffer that was lent.
     #[inline(always)]
     fn gives_back(&mut self, buffer: &Span) -> Result<(), Fault>
         ensures { Does (count_outputs (node_site self.old) (negsuc 0) buffer.now) nothing self.old result self.new }

@@ -112,7 +112,7 @@ impl Node {
         Ok(())
     }
 
-    /// A process comes to stand there, under its name.
+    /// A process is added, under its name.
     ///
     /// # Errors
     /// `HasNoStep` where there ever was one of this name; `OutOfMemory`.
@@ -168,7 +168,7 @@ impl Node {
         Ok(())
     }
 
-    /// A process comes to be there, under this name, with a workspace that no other one has.
+    /// A process is added, under this name, with a workspace that no other one has.
     ///
     /// # Errors
     /// `AlreadyLive` where another one has it, `HasNoStep` where there ever was one of this name; `OutOfMemory`.
@@ -199,7 +199,7 @@ impl Node {
         Ok(())
     }
 
-    /// A child of a process comes to be there, by its number, with a workspace that no other one has.
+    /// A child of a process is added, by its number, with a workspace that no other one has.
     ///
     /// # Errors
     /// Those of `comes`.

@@ -263,7 +263,7 @@ impl Node {
         self.communicates(process, context, side, channel, Span { start, size })
     }
 
-    /// `outbyte` and `outword`: so many bytes of A are laid down at the workspace, and sent. A need not be known.
+    /// `outbyte` and `outword`: `size` bytes of A are stored at the workspace, and sent. A need not be known.
     ///
     /// # Errors
     /// `SawTheScheduler` where B is not known, those of a write of the word, else those of `communicates`.

@@ -12,7 +12,7 @@ use crate::process_table::Processes;
 use crate::standing::Stand;
 use std::alloc::{AllocError, Global};
 
-/// Whether two roots are one.
+/// Whether two roots are the same.
 #[inline(always)]
 fn is_same_root(one: Root, other: Root) -> bool
     ensures { result ≡ same_root (root_of one) (root_of other) }
@@ -32,7 +32,7 @@ fn is_same_root(one: Root, other: Root) -> bool
     }
 }
 
-/// Whether two lists of children are one.
+/// Whether two lists of children are the same.
 fn is_same_path(one: &[u32], other: &[u32]) -> bool
     ensures { result ≡ same_path one.now other.now }
 {
@@ -40,7 +40,7 @@ fn is_same_path(one: &[u32], other: &[u32]) -> bool
 }
 
 impl Process {
-    /// Whether two processes of one node have one name.
+    /// Whether two processes of one node have the same name.
     fn is_named_as(&self, other: &Process) -> bool
         ensures yes { result ≡ true → name_of 0 self.now ≡ name_of 0 other.now }
         ensures no { name_of 0 self.now ≡ name_of 0 other.now → result ≡ true }

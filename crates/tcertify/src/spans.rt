@@ -65,7 +65,7 @@ pub fn word_count(span: &Span) -> usize
     }
 }
 
-/// Whether two uses are one.
+/// Whether two uses are the same.
 #[inline(always)]
 fn is_same(used: WordUse, other: WordUse) -> bool
     ensures { result ≡ spec.same_use (use_of used) (use_of other) }

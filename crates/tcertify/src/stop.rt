@@ -20,7 +20,7 @@ pub enum Stop {
     WordInUse,
     /// A sink has no room for the message.
     FullSink,
-    /// The agent has no step here. It does not come of a step of an agent whose gates are open.
+    /// The agent has no step here. It is never the answer to a step of an agent whose gates are open.
     HasNoStep,
 }
 

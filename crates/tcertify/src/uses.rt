@@ -73,7 +73,7 @@ impl Uses {
         read || !self.reads_known
     }
 
-    /// What a local operation uses, but for what it writes; those of the scheduler say so themselves.
+    /// What a local operation uses, except for what it writes; those of the scheduler say so themselves.
     pub fn of_operation(operation: Operation) -> Uses
         ensures { uses_with result (spec.operation_uses operation).written ≡ spec.operation_uses operation }
     {
@@ -146,7 +146,7 @@ impl Uses {
         }
     }
 
-    /// What an instruction uses, but for what it writes, where A has this value.
+    /// What an instruction uses, except for what it writes, where A has this value.
     #[inline(always)]
     pub fn of_instruction(kind: Kind, instruction: &Instruction, a: Word) -> Uses
         ensures { uses_with result (spec.uses_of kind instruction.now a).written ≡ spec.uses_of kind instruction.now a }

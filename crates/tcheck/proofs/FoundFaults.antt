@@ -604,7 +604,7 @@ behind_same p f few sizes slice (inl now) =
     by_place p f EndTwice (first_end_twice (all_wires p)) (λ k h. twice_found p k few h) now
 behind_same p f few sizes slice (inr later) = behind_ends p f sizes slice (either_fault _ _ f later.1)
 
--- the first wire whose ends are one as a fault, and those behind it
+-- the first wire whose ends are the same as a fault, and those behind it
 abbrev same_fault : Plan → Option BuildFault
 same_fault p = option_map SameEnd (position (λ w. same_end w.a w.b) p.wires)
 

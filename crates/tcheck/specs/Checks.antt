@@ -29,7 +29,7 @@ use Rattle.tcheck.specs.HoldWrongs.{hold_wrongs}
 abbrev pub File : Type 0
 File = Option (List ℕ)
 
--- an image of nothing, which stands for one that cannot be had
+-- an image of nothing, in place of one that cannot be read
 abbrev pub empty_image : Image
 empty_image = record { segments = []; processes = [] }
 

@@ -28,7 +28,7 @@ number_in p (place.Source n) = length p.wires + n
 number_in p (place.Sink n) = length p.wires + (length p.sources + n)
 number_in p at = number_of at
 
--- the fault of a plan that something wrong at a place is. What is wrong with a file or a hold is none
+-- the fault of a plan that something wrong at a place is. What is wrong with a file or a hold is no fault of a plan
 abbrev pub fault_at : Plan → Place → Flaw → Option BuildFault
 fault_at p at flaw.TooManyNodes = Some fault.TooMany
 fault_at p at (flaw.TooMany plenty.Holds n) = None

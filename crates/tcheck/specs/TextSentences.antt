@@ -117,7 +117,7 @@ flaw_text (flaw.UnknownKey p k near) = unknown_text p k
 flaw_text (flaw.BadKey p k f) = bad_key_text p k f
 flaw_text (flaw.NoTable p) = no_table_text p
 
--- what may help behind a flaw, of an unknown key alone
+-- what may help behind a flaw; only an unknown key has such a help
 abbrev pub advice_text : TextFlaw → List ℕ
 advice_text (flaw.UnknownKey p k near) = meant_text p near
 advice_text f = []

@@ -1,4 +1,4 @@
--- What is wrong with a plan: everything, in the order of its parts, and not the lowest fault alone.
+-- What is wrong with a plan: everything, in the order of its parts, and not only the lowest fault.
 -- Source: own choice; what is a fault is said in `tnet`, `specs/Building`.
 use Rattle.std.specs.Prelude.{ℕ, suc, ◌≡◌, ◌-◌, Bool, ◌||◌, nat_lt, List, [], ◌∷◌, ◌++◌, length, take, fold, ◌↔◌}
 use Rattle.std.specs.Prelude.{Option, Some, None, Result, Ok, Err, IsOk, if◌then◌else◌}
@@ -48,7 +48,7 @@ are_many p = nat_lt most_nodes (node_count p)
 abbrev pub are_many_wires : Plan → Bool
 are_many_wires p = nat_lt most_wires (length p.wires)
 
--- there are too many nodes, sources and sinks, or too many wires, and the timeslice is none
+-- there are too many nodes, sources and sinks, there are too many wires, and the timeslice is none that may be
 abbrev pub net_wrongs : Plan → List Wrong
 net_wrongs p =
     wrong_if (are_many p) place.Net flaw.TooManyNodes
@@ -86,7 +86,7 @@ abbrev pub left_by : Machine → Result Machine Break → Machine
 left_by m (Ok m') = m'
 left_by m (Err b) = m
 
--- the processes that are refused, where those before them that are not have been added
+-- the processes that are refused, where those before them that are not refused have been added
 abbrev pub process_wrongs : (node number : ℕ) → List Process → Machine → List Wrong
 process_wrongs node number [] m = []
 process_wrongs node number (p ∷ ps) m =
@@ -115,7 +115,7 @@ node_wrongs t node n =
 
 -- ---- wires, sources and sinks
 
--- an end that is no link of a node, of which there are so many
+-- an end that is no link of a node, where there are this many nodes
 abbrev pub end_wrongs : ℕ → Place → End → List Wrong
 end_wrongs nodes p e = wrong_if (is_bad_end nodes e) p (flaw.BadEnd e)
 
@@ -147,7 +147,7 @@ sink_wrongs nodes number s =
 
 -- ---- ends that are named twice
 
--- there are so many nodes or wires that ends are not compared
+-- there are too many nodes or wires for their ends to be compared
 abbrev pub is_crowded : Plan → Bool
 is_crowded p = are_many p || are_many_wires p
 

@@ -24,7 +24,7 @@ use tword::Items;
 pub struct Checked {
     /// The nodes of the wiring, which name the images.
     pub nodes: Items<WiringNode>,
-    /// The plan that they give. A node whose image cannot be had is loaded with nothing.
+    /// The plan that they give. A node whose image cannot be read is loaded with nothing.
     pub plan: Plan,
     /// All wires of the plan; none, where there are too many nodes or wires.
     pub wires: Items<Wire>,
@@ -112,7 +112,7 @@ impl Checked {
     /// Writes all that is wrong, a line each; or what the net is, where nothing is.
     ///
     /// # Errors
-    /// Where the writer fails or takes nothing. Just so many of the first bytes are written as the fault tells.
+    /// Where the writer fails or takes nothing. Then only the first bytes are written, as many as the fault tells.
     pub fn write<W: CountedWrite>(&self, out: &mut W) -> Result<(), WriteFault>
         ensures text { IsOut (W.contents out.old) (W.contents out.new) (spec.checked_text self.now) result }
         ensures cause { IfErr result (λ _. HasRisen (W.failures out.old) (W.failures out.new)) }

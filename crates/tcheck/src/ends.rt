@@ -11,7 +11,7 @@ use crate::plans::{has_many_nodes, has_many_wires};
 use std::alloc::{AllocError, Global};
 use tplan::{End, Plan, Wire};
 
-/// Whether there are so many nodes or wires that ends are not compared.
+/// Whether there are too many nodes or wires for their ends to be compared.
 pub(crate) fn is_crowded(plan: &Plan) -> bool
     ensures { result ≡ spec.is_crowded plan.now }
 {

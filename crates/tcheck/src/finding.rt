@@ -24,7 +24,7 @@ pub(crate) fn add_if(
     Ok(())
 }
 
-/// Whether an end is no link of a node, of which there are so many.
+/// Whether an end is no link of a node, if there are `nodes` nodes.
 fn is_bad_end(nodes: usize, end: End) -> bool
     ensures { result ≡ spec.is_bad_end nodes end }
 {
@@ -43,7 +43,7 @@ pub(crate) fn add_end_wrong(
     add_if(found, is_bad_end(nodes, end), place, Flaw::BadEnd(end))
 }
 
-/// Whether two ends are one.
+/// Whether two ends are the same.
 pub(crate) fn is_same_end(e: End, f: End) -> bool
     ensures { result ≡ same_end e f }
 {

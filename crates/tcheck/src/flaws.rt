@@ -41,7 +41,7 @@ pub enum Plenty {
 pub enum Flaw {
     /// There are over 64 nodes, sources and sinks together.
     TooManyNodes,
-    /// There are so many of these, which are too many.
+    /// There are too many of these: as many as the number says.
     TooMany(Plenty, usize),
     /// The timeslice is this, and not 1 to 65,536 instructions.
     BadTimeslice(u32),
@@ -49,7 +49,7 @@ pub enum Flaw {
     NoFile,
     /// The file is no image.
     BadImage(ImageFault),
-    /// The memory has so many bytes, which none of a node of this kind may have.
+    /// The memory has this size in bytes, which no node of this kind may have.
     BadSize(u32, Kind),
     /// A segment does not lie in the memory that programs may use.
     BadSegment {

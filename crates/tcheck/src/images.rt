@@ -12,7 +12,7 @@ use tplan::{Image, NodePlan, WiringNode};
 use tword::Items;
 
 /// The nodes of a wiring with the images of their files, and behind what was found before what is wrong with the files.
-/// A node whose image cannot be had is loaded with nothing.
+/// A node whose image cannot be read is loaded with nothing.
 pub(crate) fn planned_nodes(
     alloc: Global,
     found: &mut Vec<Wrong>,

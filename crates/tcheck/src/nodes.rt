@@ -108,7 +108,7 @@ fn add_held_wrongs(
     )
 }
 
-/// What is wrong with the segments of a node, whose memory has so many bytes.
+/// What is wrong with the segments of a node, whose memory has `memory` bytes.
 fn add_segments_wrongs(
     found: &mut Vec<Wrong>,
     memory: u32,
@@ -231,7 +231,7 @@ fn load_bytes(processor: &mut Processor, memory: u32, start: Word, bytes: &[u8])
     processor.load(start, bytes);
 }
 
-/// The processes of a node that are refused, where those before them that are not have been added.
+/// The processes of a node that are refused, where those before them that are not refused have been added.
 fn add_processes_wrongs(
     found: &mut Vec<Wrong>,
     processor: &mut Processor,

@@ -20,7 +20,7 @@ use tword::Items;
 /// known (own choice of format, `specs/TextSentences`).
 ///
 /// # Errors
-/// Where the writer fails or takes nothing. Just so many of the first bytes are written as the fault tells.
+/// Where the writer fails or takes nothing. Then only the first bytes are written, as many as the fault tells.
 pub fn write_text_flaws<W: CountedWrite>(
     flaws: &[TextFlaw],
     lines: &[Option<usize>],
@@ -116,7 +116,7 @@ fn put_unknown<W: CountedWrite>(out: &mut Output<'_, W>, part: Part, key: &str)
     out.put(b" is unknown");
 }
 
-/// What may help behind a flaw, of an unknown key alone.
+/// What may help behind a flaw; only an unknown key has such a help.
 fn put_advice<W: CountedWrite>(out: &mut Output<'_, W>, flaw: &TextFlaw)
     ensures { Tells W.contents W.failures out.old out.new (spec.advice_text flaw.now) }
 {

@@ -87,7 +87,7 @@ pub raised_all : (counts others initial : List ℕ) (place : ℕ) → length oth
 raised_all counts others initial place all so =
     sym (joined-above counts others so.room (λ i h. so.above i (omega (arith, h, all)))) ∙ so.same
 
--- a clock that has counts for at least so many agents as the other one
+-- a clock that has counts for at least as many agents as the other one
 pub joined-widened : (clock other : List ℕ)
     → joined (clock ++ replicate (length other - length clock) 0) other ≡ joined clock other
 joined-widened clock other =

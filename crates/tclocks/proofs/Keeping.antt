@@ -97,7 +97,7 @@ noted-briefly clock new lists kept place after within is =
       only = changed.only;
     }
 
--- a list that is not a place's is nothing to it
+-- a list that is not a place's does not matter to it
 pub other-list : (lists : List (List Access)) (list : ℕ) (new : List Access) (kept : Kept) → kept ≢ InList list
     → accesses_of (slice_set lists list new) kept ≡ accesses_of lists kept
 other-list lists list new (OfOne agent put claim look) other = refl
@@ -154,7 +154,7 @@ pub kept-otherwise : (lists : List (List Access)) (kept : List Kept) (place : �
     → all_of lists (slice_set kept place after) ≡ all_of lists kept
 kept-otherwise lists kept place after e = map-set_same (accesses_of lists) kept place after (OfOne 0 0 0 0) e
 
--- so it is, be there memory for it or not
+-- the same holds whether there is memory for it or not
 pub kept-or-not : {E : Type 0} (r : Result (Unit {0}) E) (lists : List (List Access)) (kept kept' : List Kept)
     (place : ℕ) (after : Kept) → accesses_of lists after ≡ accesses_of lists (kept_at kept place)
     → OnOk r (kept' ≡ slice_set kept place after) → OnErr r (kept' ≡ kept) → all_of lists kept' ≡ all_of lists kept
@@ -162,7 +162,7 @@ kept-or-not (Ok x) lists kept kept' place after e ok err =
     ap (λ (k : List Kept). all_of lists k) ok ∙ kept-otherwise lists kept place after e
 kept-or-not (Err x) lists kept kept' place after e ok err = ap (λ (k : List Kept). all_of lists k) err
 
--- one more list is nothing to anybody
+-- one more list does not matter to anybody
 more-lists : (lists : List (List Access)) (kept : Kept) → accesses_of (lists ++ [] ∷ []) kept ≡ accesses_of lists kept
 more-lists lists (OfOne agent put claim look) = refl
 more-lists lists (UpToTwo kind first second first_agent second_agent first_number second_number) = refl

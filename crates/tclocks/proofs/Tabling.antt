@@ -119,7 +119,7 @@ all-same pages pages' count same = ext_get_or (OfOne 0 0 0 0) (all_in pages' cou
     (λ q h. (let below : q < count = omega (arith, h, length-all pages' count) in
     read-all pages' count q below ∙ same q ∙ sym (read-all pages count q below)))
 
--- so many places more
+-- a table with `more` places more
 pub added : (pages pages' : List (List Kept)) (count more n : ℕ) → HavePages pages count
     → pages' ≡ pages ++ replicate n [] → all_in pages' (count + more)
     ≡ all_in pages count ++ replicate more (OfOne 0 0 0 0)
@@ -151,7 +151,7 @@ pub others-set : {E : Type 0} (r : Result (Unit {0}) E) (index : ℕ) (kept : Ke
 others-set (Ok x) index kept before after ok err i away = ok.others i away
 others-set (Err e) index kept before after ok err i away = ap (λ (page : List Kept). kept_at page i) err
 
--- so it is of an access that was noted or not
+-- the same holds for an access that was noted or not
 pub others-noted : (b : Bool) (new : Access) (index : ℕ) (before after : List Kept)
     → (b ≡ true → IsNotedByOwner new index before after) → (b ≡ false → after ≡ before) → (i : ℕ) → i ≢ index
     → kept_at after i ≡ kept_at before i

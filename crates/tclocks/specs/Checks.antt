@@ -43,7 +43,7 @@ with_agent check = record check { clocks = check.clocks ++ replicate (length che
 abbrev pub with_slot : Check → Check
 with_slot check = record check { slots = check.slots ++ [] ∷ [] }
 
--- so many places more, of which nothing was accessed
+-- a check with `count` places more, which nothing has accessed
 abbrev pub with_places : ℕ → Check → Check
 with_places count check = record check { places = check.places ++ replicate count [] }
 

@@ -83,7 +83,7 @@ module _ {State Agent Label Place Kind : Type 0} (m : Agents State Agent Label)
     pub known : (a : Agent) → (counted numbers clock a ≡ 0)
         ⊎ OneOf (λ z. OneOf (λ writer. writer ≡ z.label) writers × (counted numbers clock a ≤ z.past a)) entries
 
-  -- whoever knows of the access knows that the agent has done so many steps
+  -- whoever knows of the access knows that the agent has done n steps
   abbrev pub Tells : List (Entry Agent Label) → Access → Agent → ℕ → Type 0
   Tells entries access a n =
       (clock : List ℕ) → IsClosed entries clock → access.step.number ≤ slice_index clock access.step.agent
@@ -129,7 +129,7 @@ module _ {State Agent Label Place Kind : Type 0} (m : Agents State Agent Label) 
     pub all : (p : Place) (k : Kind) → HasAccess (accesses.of label) p k
         → HasAccess done (numbers.place p) (numbers.mode p k)
 
-  -- so it was, where each of its accesses is covered
+  -- the same, where each of its accesses is covered
   pub record IsToldByCover (check : Check) (writers : ℕ → List Label) (agent : ℕ) (slots : List ℕ)
       (done : List (PlaceAccess ℕ Mode)) (label : Label) : Type 0 where
     pub by : numbers.agent (m.agent_of label) ≡ agent

@@ -71,7 +71,7 @@ pub record IsKeptAt (clock : List ℕ) (new : Access) (place : ℕ) (before afte
   pub noted : NotesAccess clock new (slice_index_or before place []) (slice_index_or after place [])
   pub only : after ≡ slice_set before place (slice_index_or after place [])
 
--- so was one that races with none
+-- the same of an access that races with none
 pub record IsNotedAt (clock : List ℕ) (new : Access) (place : ℕ) (before after : List (List Access)) : Type 0 where
   pub permitted : first_race new.step.agent clock new.mode (slice_index_or before place []) ≡ None
   pub noted : NotesAccess clock new (slice_index_or before place []) (slice_index_or after place [])

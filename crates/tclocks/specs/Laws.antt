@@ -39,7 +39,7 @@ StepsAreChecked State Agent Label Place Kind =
     → IsStep agent slots done before after
     → HasSeen m accesses numbers (entry_of m numbers label after ∷ entries) writers after
 
--- so is one whose accesses were told by others that cover them
+-- the same for one whose accesses were told by others that cover them
 abbrev pub StepsAreCheckedByCover : (State Agent Label Place Kind : Type 0) → Type 0
 StepsAreCheckedByCover State Agent Label Place Kind =
     (m : Agents State Agent Label) (accesses : Accesses Place Kind Label) (numbers : Numbers Agent Place Kind)

@@ -4,7 +4,7 @@ use Rattle.std.specs.Prelude.{◌≡◌, ◌↔◌, Bool, true, false, not, ◌=
 use Rattle.tclocks.specs.declared.mode.Mode.{Mode}
 use Rattle.tclocks.specs.declared.mode.Mode.TheVariants.{Looks, Checks, Claims, Puts, Lends, Commutes}
 
--- accesses of these modes come to the same in both orders
+-- accesses of these modes have the same result in both orders
 abbrev pub commute : Mode → Mode → Bool
 commute Looks Looks = true
 commute Looks Claims = true

@@ -15,11 +15,11 @@ kept_at kept place = slice_index_or kept place (OfOne 0 0 0 0)
 abbrev pub kept_in : List (List Kept) → ℕ → Kept
 kept_in pages place = kept_at (slice_index_or pages (place / 256) []) (place % 256)
 
--- what pages keep of so many places
+-- what pages keep of the first `count` places
 abbrev pub all_in : List (List Kept) → ℕ → List Kept
 all_in pages count = map (kept_in pages) (range_with_len 0 count)
 
--- there are pages for so many places, and nothing is kept behind them
+-- there are pages for `count` places, and nothing is kept behind them
 pub record HavePages (pages : List (List Kept)) (count : ℕ) : Type 0 where
   pub room : count ≤ 256 * length pages
   pub clear : (place : ℕ) → count ≤ place → kept_in pages place ≡ OfOne 0 0 0 0
@@ -34,7 +34,7 @@ pub record IsNotedByOwner (new : Access) (index : ℕ) (before after : List Kept
   pub noted : (clock : List ℕ) → IsNotedBriefly clock new (kept_at before index) (kept_at after index)
   pub others : (i : ℕ) → i ≢ index → kept_at after i ≡ kept_at before i
 
--- so it was of a place, and all else stays as it was
+-- the same of a place, and all else is unchanged
 pub record IsNotedOnly (new : Access) (place : ℕ) (before after : List Kept) : Type 0 where
   pub noted : (clock : List ℕ) → IsNotedBriefly clock new (kept_at before place) (kept_at after place)
   pub only : after ≡ slice_set before place (kept_at after place)

@@ -31,7 +31,7 @@ impl Clock {
         }
     }
 
-    /// No step is known, and there is room for the counts of so many agents.
+    /// No step is known, and there is room for the counts of `agents` agents.
     pub fn zeros(alloc: Global, agents: usize) -> Result<Clock, AllocError>
         ensures { IfOk result (λ clock. clock ≡ replicate agents 0) }
     {
@@ -114,7 +114,7 @@ impl Clock {
     }
 }
 
-/// There are at least so many counts.
+/// Adds zeros until there are at least `agents` counts.
 fn widen(counts: &mut Vec<u32>, agents: usize) -> Result<(), AllocError>
     ensures ok { OnOk result (counts.new.items ≡ counts.old.items ++ replicate (agents - length counts.old.items) 0) }
     ensures err { OnErr result (counts.new.items ≡ counts.old.items) }

@@ -183,7 +183,7 @@ impl Kept {
         }
     }
 
-    /// What is kept behind an access that is as one of two that are kept, of the same agent, and races with neither.
+    /// What is kept behind an access that is like one of two that are kept, of the same agent, and races with neither.
     fn with_again(mut self, clock: &Clock, access: Access) -> Option<Kept>
         requires { 0 < access.step.number }
         ensures { IfSome result (λ kept. IsNotedBriefly clock.now access self kept) }

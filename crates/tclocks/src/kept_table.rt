@@ -123,7 +123,7 @@ impl KeptTable {
         self.count
     }
 
-    /// So many places more, of which nothing is kept.
+    /// Adds `count` places, of which nothing is kept.
     ///
     /// # Errors
     /// Where the allocator refuses, or there would be too many.
@@ -174,7 +174,7 @@ impl KeptTable {
     }
 }
 
-/// So many pages more, of which nothing is kept.
+/// Adds `count` pages, of which nothing is kept.
 fn add_pages(alloc: Global, pages: &mut Vec<Page>, count: usize) -> Result<(), AllocError>
     ensures ok { OnOk result (pages.new.items ≡ pages.old.items ++ replicate count []) }
     ensures err { OnErr result (pages.new.items ≡ pages.old.items) }
@@ -186,7 +186,7 @@ fn add_pages(alloc: Global, pages: &mut Vec<Page>, count: usize) -> Result<(), A
     Ok(())
 }
 
-/// So many places more, of which nothing is kept.
+/// Adds `count` places, of which nothing is kept.
 fn add_nothing(kept: &mut Vec<Kept>, count: usize) -> Result<(), AllocError>
     ensures ok { OnOk result (kept.new.items ≡ kept.old.items ++ replicate count NOTHING) }
     ensures err { OnErr result (kept.new.items ≡ kept.old.items) }

@@ -21,7 +21,8 @@ pub fn steps_are_checked<State, Agent, Label, Place, Kind>()
     ensures { StepsAreChecked State Agent Label Place Kind }
 {}
 
-/// So is a step of which fewer accesses were told, if each of its own is covered by one of these: a put is also a look.
+/// The same holds for a step of which fewer accesses were told, if each of its own is covered by one of these: a put
+/// is also a look.
 pub fn steps_are_checked_by_cover<State, Agent, Label, Place, Kind>()
     ensures { StepsAreCheckedByCover State Agent Label Place Kind }
 {}

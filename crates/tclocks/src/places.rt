@@ -67,7 +67,7 @@ impl Places {
         self.kept.len()
     }
 
-    /// So many places more.
+    /// Adds `count` places.
     pub fn add(&mut self, count: usize) -> Result<(), AllocError>
         ensures ok { OnOk result (self.new ≡ self.old ++ replicate count []) }
         ensures err { OnErr result (self.new ≡ self.old) }

@@ -91,7 +91,7 @@ impl RaceCheck {
         Ok(())
     }
 
-    /// So many places more.
+    /// Adds `count` places.
     pub fn add_places(&mut self, count: usize) -> Result<(), AllocError>
         ensures ok { OnOk result (self.new ≡ with_places count self.old) }
         ensures err { OnErr result (self.new ≡ self.old) }

@@ -14,7 +14,7 @@ pub record IsDecoded (iptr : ℕ) (f : Function) (operand behind : ℕ) (decoded
   pub is : decoded ≡ Ok (record { function = f; operand = operand; length = size })
   pub ends : behind ≡ plus iptr size
 
--- so it is where the kind lists it, for the function of a code, if the code has one
+-- the same holds where the kind lists it, for the function of a code, if the code has one
 abbrev pub Decodes : Kind → ℕ → Option Function → (operand behind : ℕ) → Result Instruction Break → Type 0
 Decodes kind iptr (Some f) operand behind decoded =
     is_listed kind f (pos operand) ≡ true → IsDecoded iptr f operand behind decoded

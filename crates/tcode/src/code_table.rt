@@ -78,7 +78,7 @@ pub struct CodeTable {
 }
 
 impl CodeTable {
-    /// A table in which nothing is kept yet, for a memory of so many bytes.
+    /// A table in which nothing is kept yet, for a memory of `size` bytes.
     ///
     /// # Errors
     /// Where the allocator refuses.

@@ -141,7 +141,7 @@ macro_rules! name_by_function {
     };
 }
 
-/// The operation of a code, if every kind has it, or else what comes of the last expression.
+/// The operation of a code, if every kind has it, or else the value of the last expression.
 macro_rules! operation_by_code {
     (
         ($code:expr, $further:expr)

@@ -1,13 +1,13 @@
--- What commands may come to.
+-- The verdicts that commands may have.
 -- Source: own choice.
 use Rattle.std.specs.Prelude.{◌≡◌, ◌⊎◌}
 use Rattle.topening.specs.declared.verdict.Verdict.{Verdict}
 use Rattle.topening.specs.declared.verdict.Verdict.TheVariants as verdict
 
--- what a run, or the events of a log, may come to: a node is frozen, or none is
+-- the verdicts that a run, or the events of a log, may have: a node is frozen, or none is
 abbrev pub IsNetVerdict : Verdict → Type 0
 IsNetVerdict v = (v ≡ verdict.Clear) ⊎ (v ≡ verdict.Marked)
 
--- what the check of a wiring may come to
+-- the verdicts that the check of a wiring may have
 abbrev pub IsCheckVerdict : Verdict → Type 0
 IsCheckVerdict v = (v ≡ verdict.Clear) ⊎ (v ≡ verdict.Wrong)

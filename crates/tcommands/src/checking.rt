@@ -72,7 +72,7 @@ fn look_through<W: CountedWrite>(
     Ok(check_verdict(checked.is_good()))
 }
 
-/// What it comes to that a wiring is good, or not.
+/// The verdict on a wiring that is good, or is not.
 fn check_verdict(is_good: bool) -> Verdict
     ensures { result ≡ spec.check_verdict is_good }
 {

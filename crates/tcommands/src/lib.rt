@@ -1,5 +1,5 @@
-//! The commands of the program `temu` over the system, but for `explore` and `certify`: the files that a command opens,
-//! the file that its log goes to, and what a command comes to.
+//! The commands of the program `temu` over the system, except for `explore` and `certify`: the files that a command
+//! opens, the file that its log goes to, and the verdicts of commands.
 //!
 //! - `commands`: which files each command opens, and what is done with their bytes
 //! - `checking`: `check`

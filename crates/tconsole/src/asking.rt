@@ -73,7 +73,7 @@ fn refuse(rt: &HostRuntime, fault: &CommandFault) -> NoCommand
             Err(_) => NoCommand::OutputFailed,
         },
         _ => {
-            // Where standard error fails too, the status alone tells.
+            // Where standard error fails too, only the status tells.
             let _ = fault.print(rt);
             NoCommand::Mistaken
         }
@@ -84,7 +84,7 @@ fn refuse(rt: &HostRuntime, fault: &CommandFault) -> NoCommand
 fn refuse_word(rt: &HostRuntime, place: usize) -> NoCommand
     ensures { result ≡ Mistaken }
 {
-    // Where standard error fails too, the status alone tells.
+    // Where standard error fails too, only the status tells.
     let _ = eprint!(rt;
         "error: word {place} is not UTF-8\n\nUsage: temu <COMMAND>\n\nFor more information, try '--help'.\n"
     );

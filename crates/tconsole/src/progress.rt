@@ -3,7 +3,7 @@
 use std::io::IsTerminal;
 use texplore::Progress;
 
-/// After so many states the line is written again.
+/// The number of states after which the line is written again.
 const EVERY: u64 = 4_096;
 
 /// A line on standard error that is written over and over; none where standard error is no terminal.

@@ -6,8 +6,8 @@ use std::os::fd::AsRawFd;
 /// How many standard streams there are: their descriptors are 0 to 2.
 const STREAMS: i32 = 3;
 
-/// What stands where standard streams are missing, as long as it is kept: no file that is opened later gets a
-/// descriptor of theirs. None of it can be written, and so a write to a missing stream fails.
+/// Files in place of the standard streams that are missing. As long as they are kept, no file that is opened later
+/// gets the descriptor of a standard stream. None of them can be written, so a write to a missing stream fails.
 #[derive(Drop)]
 pub struct Missing {
     _input: Option<File>,
@@ -26,8 +26,8 @@ impl Missing {
     }
 }
 
-/// The folder of all, which can be neither read nor written as a file, where it gets the descriptor of a standard
-/// stream: the system gives the lowest that is free.
+/// The root folder, where it gets the descriptor of a standard stream: the system gives the lowest that is free. It
+/// can be neither read nor written as a file.
 fn filler(rt: &HostRuntime) -> Option<File> {
     match fs::open(rt, "/") {
         Ok(folder) if folder.as_raw_fd() < STREAMS => Some(folder),

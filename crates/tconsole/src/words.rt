@@ -12,7 +12,7 @@ use std::str;
 /// How long a word is thought to be at first.
 const LENGTH: usize = 256;
 
-/// Why the words of the command line cannot be had.
+/// Why there are no words of the command line.
 #[derive(Clone, Copy)]
 pub(crate) enum WordFault {
     /// The word at this place is not UTF-8. The program's name, which is not judged, stands at place 0.

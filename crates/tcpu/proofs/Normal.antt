@@ -5,7 +5,7 @@ use Rattle.std.specs.Int.{w64, leading_zeros}
 use Rattle.std.proofs.lemmas.Nat.{leading_top, shl_whole}
 use Rattle.std.proofs.Math.Nat.{zero-mul}
 
--- there are fewer than 64, but for 0
+-- there are fewer than 64, except for 0
 leading_zeros-lt : (n : ℕ) → 0 < n → n < 2 ^ 64 → leading_zeros w64 n < 64
 leading_zeros-lt n some within = let top = leading_top 64 n some within in omega (arith, top.1)
 

@@ -100,7 +100,7 @@ EndsAs Jumped r r' = r'.wptr ≡ r.wptr
 EndsAs (Schedule o) r r' = ⊥
 EndsAs _ r r' = Unit {0}
 
--- so for an outcome of an instruction that began with these registers
+-- the same for an outcome of an instruction that began with these registers
 abbrev IsEnd : Registers → Outcome → Type 0
 IsEnd r o = EndsAs o.1 r o.0
 

@@ -15,7 +15,7 @@ gone_next k kind kind' claims r mid s at x e same f =
     let next : k + 1 ≡ suc k = omega arith in
     rw (next, e) (rw same at f)
 
--- so by how many are left of those that were asked for
+-- the same by how many are left of those that were asked for
 pub gone_down : (most left : ℕ) (kind kind' : Kind) (claims : Claims) (r mid : Registers) (s at : Store)
     (x : Option (Registers × Store)) → 0 < left → left ≤ most
     → gone_on (most - left) kind claims r s ≡ Some (mid, at) → kind' ≡ kind

@@ -18,7 +18,7 @@ CodeGone kind (Some f) operand r s claims r' s' =
     (before : Registers) → gone (run (effect_at kind f operand before r) s claims) ≡ Some (r', s')
 CodeGone kind None operand r s claims r' s' = ⊥
 
--- so of the operation that an operand selects
+-- the same of the operation that an operand selects
 abbrev pub SelectedGone : Option Operation → Registers → Store → Claims → Registers → Store → Type 0
 SelectedGone o r s claims r' s' =
     (before : Registers) → gone (run (selected_effect o before r) s claims) ≡ Some (r', s')

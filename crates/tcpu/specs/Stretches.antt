@@ -1,5 +1,5 @@
 -- Instructions in a row, after each of which their process goes on.
--- Source: own choice, what several instructions come to.
+-- Source: own choice, the result of several instructions.
 use Rattle.std.specs.Prelude.{Bool, true, false, ℕ, zero, suc, Option, Some, None, Result, Ok, Err}
 use Rattle.tword.specs.declared.breaks.Break.{Break}
 use Rattle.tword.specs.declared.kind.Kind.{Kind}
@@ -31,17 +31,17 @@ abbrev pub gone : Result (Outcome × Store) Break → Option (Registers × Store
 gone (Ok ((r, next), s)) = with_store (going next r) s
 gone (Err b) = None
 
--- so for an instruction that was fetched, if one was
+-- the same for an instruction that was fetched, if one was
 abbrev pub gone_by : Kind → Claims → Result Instruction Break → Registers → Store → Option (Registers × Store)
 gone_by kind claims (Ok i) r s = gone (run (effect kind i r) s claims)
 gone_by kind claims (Err b) r s = None
 
--- so for the instruction at Iptr
+-- the same for the instruction at Iptr
 abbrev pub gone_one : Kind → Claims → Option (Registers × Store) → Option (Registers × Store)
 gone_one kind claims (Some (r, s)) = gone_by kind claims (value_of (run (decode kind r.iptr) s claims)) r s
 gone_one kind claims None = None
 
--- so for so many instructions in a row
+-- the same for a given number of instructions in a row
 unfoldable pub gone_on : ℕ → Kind → Claims → Registers → Store → Option (Registers × Store)
 gone_on zero kind claims r s = Some (r, s)
 gone_on (suc k) kind claims r s = gone_one kind claims (gone_on k kind claims r s)

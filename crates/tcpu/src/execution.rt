@@ -118,7 +118,7 @@ fn act(
         Function::Eqc => Ok(registers.equals_constant(operand)),
         Function::Stl => registers.store_local(memory, marks, operand),
         Function::Stnl => registers.store_non_local(memory, marks, operand),
-        // So that the answer of this call alone lies in memory.
+        // So that only the answer of this call lies in memory.
         Function::Opr => match operate_apart(kind, registers, memory, marks, start, operand) {
             Ok(next) => Ok(next),
             Err(broken) => Err(broken),
@@ -238,7 +238,7 @@ fn operate(
     }
 }
 
-/// Does instructions in a row, at most so many, as long as each is one of the most common ones and its process goes on
+/// Does instructions in a row, at most `most`, as long as each is one of the most common ones and its process goes on
 /// behind it: how many were done. The next one is left as it is, whatever it would do. Instructions are looked up in a
 /// table of decoded code, and learned where they are not there; one that writes a word with kept code is not done.
 // The registers are worked on in a place of their own, so that they need not lie in memory.

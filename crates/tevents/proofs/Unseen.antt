@@ -1,4 +1,4 @@
--- An event of which nothing is seen counts one byte more at one link, and there is room for so many alone.
+-- An event of which nothing is seen counts one byte more at one link, and there is room for only a limited number.
 use Rattle.std.proofs.Common.{◌≡◌, ℕ, suc, ◌+◌, ◌*◌, ◌<◌, ◌≤◌, refl, sym, ap, ◌∙◌, subst, true, false, List, []}
 use Rattle.std.proofs.Common.{◌∷◌, length, get_or, set, Option, Some, None, arith}
 use Rattle.std.specs.Prelude.{sum_by, slice_get, MatchOption}

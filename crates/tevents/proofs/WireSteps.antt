@@ -125,7 +125,7 @@ module _ (net : NetState) (f e : End) (sound : IsSound net) (wire : far_end net.
     → Shows s (data_image e (input_at receiver e.link)) (ends m (Data e.link) told))
     (waits : (h : Flying out.length (traffic sender receiver net f e))
     → (counts_at receiver e.link).arrived ≡ Some h.byte → IsTowards net (event_at e.node (Take e.link)) m s) where
-  -- nothing is about: the next byte is sent
+  -- nothing is on its way: the next byte is sent
   rests : Resting out.length (traffic sender receiver net f e) → NextOnWire net f e m s
   rests h =
       let none = about_nothing (counts_at receiver e.link).arrived (inbox_at net e).carried h.nothing in

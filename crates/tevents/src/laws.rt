@@ -3,8 +3,8 @@
 ghost use Rattle.tevents.specs.Events.{StepsAreEvents, RunsAreEvents, RunsToFreezesAreEvents};
 ghost use Rattle.tevents.specs.Events.{OverNetsCanRest, OutcomesAreShown, FreezesAreShown};
 
-/// Each step that is lawful in what is seen of a net is done by events of it, but one that takes the offer of a frozen
-/// node.
+/// Each step that is lawful in what is seen of a net is done by events of it, except one that takes the offer of a
+/// frozen node.
 pub fn steps_are_events()
     ensures { StepsAreEvents }
 {}

@@ -49,7 +49,7 @@ cut-further start old new text rest written taken more c r l a m = (
   refl,
 )
 
--- so much was told, and this is left of a whole text
+-- a part was told, and this is left of a whole text
 pub record GoesOn {W : Type 0} (contents : W → Option (List ℕ)) (failures : W → Option ℕ) (a b : Output W)
     (left whole : List ℕ) : Type 0 where
   pub piece : List ℕ
@@ -242,7 +242,7 @@ module _ {W : Type 0} {contents : W → Option (List ℕ)} {failures : W → Opt
       stayed (Ok u) h = h
       stayed (Err w) h = tt
 
-  -- so much was told of a whole text, and this is left of it
+  -- a part was told of a whole text, and this is left of it
   pub goes_on-start : (a : Output W) (whole : List ℕ) → GoesOn contents failures a a whole whole
   goes_on-start a whole = record { piece = []; tells = tells_none a; is_whole = refl }
 

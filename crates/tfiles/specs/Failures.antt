@@ -15,7 +15,7 @@ abbrev pub failed_read : {E : Type 0} → Result ℕ E → Bool
 failed_read (Err e) = true
 failed_read (Ok n) = false
 
--- a count of failures stands: no call failed since; None says nothing
+-- a count of failures is unchanged: no call failed since; None says nothing
 abbrev pub HasStayed : Option ℕ → Option ℕ → Type 0
 HasStayed None after = Unit {0}
 HasStayed (Some n) None = ⊥

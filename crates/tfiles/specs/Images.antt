@@ -53,7 +53,7 @@ then_read (Some (x, rest)) f = f x rest
 abbrev pub word_in : List ℕ → Reading ℕ
 word_in bytes = if nat_lt (length bytes) 4 then None else Some (from_le_bytes w32 (take 4 bytes), drop 4 bytes)
 
--- so many bytes are read
+-- n bytes are read
 abbrev pub bytes_in : ℕ → List ℕ → Reading (List ℕ)
 bytes_in n bytes = if nat_lt (length bytes) n then None else Some (take n bytes, drop n bytes)
 
@@ -70,7 +70,7 @@ process_in bytes =
     then_read (word_in bytes) (λ wdesc rest.
     then_read (word_in rest) (λ iptr rest. Some (record { wdesc = wdesc; iptr = iptr }, rest)))
 
--- so many parts of one kind are read
+-- a given number of parts of one kind is read
 abbrev pub parts_in : {A : Type 0} → (List ℕ → Reading A) → ℕ → List ℕ → Reading (List A)
 parts_in part zero bytes = Some ([], bytes)
 parts_in part (suc n) bytes =

@@ -9,18 +9,18 @@ use Rattle.tfiles.specs.declared.writing.output.Output.{Output}
 use Rattle.tfiles.specs.declared.writing.output.Progress.{Progress}
 use Rattle.tfiles.specs.declared.writing.output.WriteFault.{WriteFault}
 
--- so many bytes, as far as a word of 64 bits can tell
+-- a number of bytes, as far as a word of 64 bits can hold it
 abbrev pub counted : ℕ → ℕ
 counted n = min n (2 ^ 64 - 1)
 
--- just the first bytes of a text went out, so many as were counted
+-- just the first bytes of a text went out, as many as were counted
 pub record IsCut (old new : Option (List ℕ)) (text : List ℕ) (written : ℕ) : Type 0 where
   pub count : ℕ
   pub within : count ≤ length text
   pub out : Appends old new (take count text)
   pub told : written ≡ counted count
 
--- a text went out whole, or just its first bytes did, so many as the fault tells
+-- a text went out whole, or just its first bytes did, as many as the fault tells
 abbrev pub IsOut : {T : Type 0} → Option (List ℕ) → Option (List ℕ) → List ℕ → Result T WriteFault → Type 0
 IsOut old new text (Ok _) = Appends old new text
 IsOut old new text (Err fault) = IsCut old new text fault.written

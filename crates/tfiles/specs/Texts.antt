@@ -71,7 +71,7 @@ abbrev pub is_zero : Option ℕ → Bool
 is_zero None = false
 is_zero (Some b) = b == 0
 
--- one line of a dump, which is left out where it has zeros alone
+-- one line of a dump, which is left out where it has only zeros
 abbrev pub dump_line : ℕ → Store → List ℕ
 dump_line address cells =
     if list_all is_zero cells then []

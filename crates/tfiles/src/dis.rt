@@ -21,7 +21,7 @@ use tword::{Kind, Word};
 /// `80000080: db 60`, and the next one is at the next byte. An address is taken modulo 2^32.
 ///
 /// # Errors
-/// Where the writer fails or takes nothing. Just so many of the first bytes are written as the fault tells.
+/// Where the writer fails or takes nothing. Then only the first bytes are written, as many as the fault tells.
 pub fn dis_text<W: CountedWrite>(image: &Image, kind: Kind, out: &mut W) -> Result<(), WriteFault>
     ensures out { IsOut (W.contents out.old) (W.contents out.new) (spec.dis_text kind image.now) result }
     ensures cause { IfErr result (λ _. HasRisen (W.failures out.old) (W.failures out.new)) }

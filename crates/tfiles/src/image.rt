@@ -65,7 +65,7 @@ const MAGIC: &[u8] = b"TEMUIMG1";
 pub fn read_image(alloc: Global, bytes: &[u8]) -> Result<Image, ImageFault>
     ensures answer { IsImageAnswer (image_of bytes.now) result }
 
-    // memory is wanted only for an image
+    // memory can be lacking only for an image
     ensures wanted { IsErrOf result OutOfMemory → IsOk (image_of bytes.now) }
 {
     let Some(counts) = after_magic(bytes) else {

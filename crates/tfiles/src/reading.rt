@@ -40,7 +40,7 @@ impl From<AllocError> for ReadFault {
 ///
 /// # Errors
 /// `Failed` where a read failed, an interrupted one too, `TooLong` where more than `LONGEST_FILE` bytes come,
-/// `OutOfMemory` where the allocator refused: whichever is first. What was read till then is given up.
+/// `OutOfMemory` where the allocator refused: whichever is first. What was read until then is dropped.
 pub fn read_whole<R: CountedRead>(alloc: Global, reader: &mut R) -> Result<Vec<u8>, ReadFault>
     // just the bytes that the reader had left, where they are known, and none is left now
     ensures whole { IfOk result (λ bytes. IfSome (R.remaining reader.old) (λ left. bytes.items ≡ left)) }

@@ -26,7 +26,7 @@ abbrev pub kept_in : Value → List Store
 kept_in (AreKept room messages) = messages
 kept_in _ = []
 
--- the words of the memory of a node, so many
+-- the first `count` words of the memory of node n
 abbrev pub words_at : State → (n count : ℕ) → List Store
 words_at s n count = map (λ k. (word_in (s (WordAt n k))).cells) (range_with_len 0 count)
 
@@ -70,7 +70,7 @@ kept_node n node = node_line n None false ++ memory_text (words_of node.words.it
 abbrev pub kept_sink : ℕ → Sink → List ℕ
 kept_sink n sink = kept_text n (map (λ m. m.items) sink.messages.items)
 
--- a source of which so many messages have gone over
+-- the text of a source of which `sent` messages have gone over
 abbrev pub sent_text : ℕ → SourcePlan → ℕ → List ℕ
 sent_text n p sent =
     source_line n (length p.messages - (length p.messages - sent)) (length p.messages)

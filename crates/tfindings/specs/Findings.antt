@@ -104,7 +104,7 @@ abbrev pub is_certified : Finding → Bool
 is_certified finding.Certified = true
 is_certified f = false
 
--- what the command comes to
+-- the verdict of the command
 abbrev pub outcome_of : Finding → outcomes.Verdict
 outcome_of finding.Certified = Clear
 outcome_of (finding.Race place earlier last) = Marked
@@ -124,7 +124,7 @@ pub record IsFindingText (w : Wiring) (files : List (List ℕ)) (most : ℕ) (na
   pub run : IsRunOf w files most plan machine f
   pub is : text ≡ finding_text names plan machine f
 
--- such a text is written, and the command comes to what it tells
+-- such a text is written, and the verdict of the command is what it tells
 abbrev pub HasFound : Wiring → List (List ℕ) → ℕ → List NodeNames → Option (List ℕ) → Option (List ℕ)
     → outcomes.Verdict → Type 0
 HasFound w files most names old new outcome =

@@ -30,15 +30,15 @@ use tverdict::{Machine, Race, Refusal, Verdict};
 use tword::Items;
 
 /// `temu certify`: runs the process machine of the net of a wiring and the files of its images, one file a node, once,
-/// for at most so many steps, and writes what was found: that all its runs end in one way, and this end; or two steps
-/// that have a race; or why there is no certificate; behind each address of a race or a refusal its name, where it has
-/// one. The wiring's holds are ignored. Nothing is written before the run has ended. progress: is told how far it has
-/// come. Returns `Clear` if it is certified, `Marked` if there is a race, else `Cut`.
+/// for at most `most_steps` steps, and writes what was found: that all its runs end in one way, and this end; or two
+/// steps that have a race; or why there is no certificate; behind each address of a race or a refusal its name, where
+/// it has one. The wiring's holds are ignored. Nothing is written before the run has ended. progress: is told how far
+/// it has come. Returns `Clear` if it is certified, `Marked` if there is a race, else `Cut`.
 ///
 /// # Errors
 /// The first of these: `Image` for the first file that is no image, `Net` for the lowest fault of the plan, `Output`
-/// where the writer failed. `Memory` where the allocator refused, or a number would not fit. But for `Output` nothing
-/// was written.
+/// where the writer failed. `Memory` where the allocator refused, or a number would not fit. Unless the error is
+/// `Output`, nothing was written.
 #[tactic(auto, using(crate::proofs::Runs::has_found, crate::proofs::Runs::finding_cut, crate::proofs::Nets::writes))]
 pub fn certify_files<P: RunProgress, W: CountedWrite>(
     alloc: Global,
@@ -144,7 +144,7 @@ fn run_plan<P: RunProgress>(
     Ok(run(alloc, plan, most_steps, progress)?)
 }
 
-/// What the command comes to.
+/// The verdict of the command.
 fn outcome_of(finding: &Finding) -> Outcome
     ensures { result ≡ spec.outcome_of finding.now }
 {

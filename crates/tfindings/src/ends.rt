@@ -63,7 +63,7 @@ fn put_sources<W: CountedWrite>(
     }
 }
 
-/// A source, of which so many messages have gone over.
+/// A source, of which `sent` messages have gone over.
 fn put_source<W: CountedWrite>(
     out: &mut Output<'_, W>,
     number: usize,

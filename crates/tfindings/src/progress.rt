@@ -2,7 +2,7 @@
 
 /// Who is told how far a run has come.
 pub trait RunProgress {
-    /// By now so many steps were done.
+    /// By now this number of steps was done.
     fn at(&mut self, steps: u64);
 
     /// The run is over.

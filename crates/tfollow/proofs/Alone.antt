@@ -450,7 +450,7 @@ steps_alone plan (Successor n k) =
     at_site_alone plan n (successor_step k)
     (λ node. even (successor_step_even Even some_put some_engage some_add some_raise k (site_of n node)))
 
--- so in a step a count that falls falls alone
+-- so where a step counts down a word, it changes that word in no other way
 pub count_alone : (plan : Plan) (a : Agent) (s : State) (n k p : ℕ)
     → IsOneOf (record { place = WordAt n k; change = Decrement p }) (walked.changes (step_of plan a) s)
     → is_count_down (map (λ x. x.change)

@@ -303,7 +303,7 @@ module _ (P : Changed → Type 0) (some_put : (q : Place) (v : Value) → P (rec
   pub sink_receives_even : (message : Store) (e : End) → Each P Any (sink_receives message e)
   sink_receives_even message e = andthen P (sees P (Kept e)) (λ v. keeps_even e message v)
 
-  -- operations of the scheduler, but for `endp`
+  -- operations of the scheduler, except for `endp`
   pub starts_child_even : (s : Site) (x : Name) (c : Context) → Each P Any (starts_child s x c)
   starts_child_even s x c =
       andthen P (known_each P c.a)

@@ -72,7 +72,7 @@ module _ (plan : Plan) where
     | inr differ ↦ absurd (told.not_same a a differ refl)
   ]
 
-  -- agents of one number are one
+  -- agents of one number are the same
   pub number-apart : (agents : List Agent) (a b : Agent) → number_in agents a < length agents
       → number_in agents a ≡ number_in agents b → a ≡ b
   number-apart [] a b h e = absurd (omega (arith, h))

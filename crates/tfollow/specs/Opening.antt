@@ -35,7 +35,7 @@ pub record AreOpenBy (plan : Plan) (s : State) : Type 0 where
   pub successor : (n k : ℕ) (word : Word) → s (WordAt n k) ≡ IsWord word
       → are_open (process_machine plan) (Successor n k) s ≡ awaits_successor word.used
 
--- so it is in all states
+-- the same holds in all states
 abbrev pub AgentsAreOpenBy : Type 0
 AgentsAreOpenBy = (plan : Plan) (s : State) → AreOpenBy plan s
 
@@ -62,6 +62,6 @@ pub record LeadsBy (plan : Plan) (a : Agent) (s : State) : Type 0 where
       → Contains (changes (step_of plan a) s) (record { place = WordAt n k; change = Decrement p })
       → RunLeads plan a s (Successor n k)
 
--- so it is of each agent in all states
+-- the same holds for each agent in all states
 abbrev pub StepsLeadBy : Type 0
 StepsLeadBy = (plan : Plan) (a : Agent) (s : State) → LeadsBy plan a s

@@ -28,14 +28,14 @@ pub record Makes (plan : Plan) (places : Places) (step : ProcessStep) (number : 
 abbrev pub AreTrue : Plan → Places → ProcessStep → List Told → Type 0
 AreTrue plan places step told = (access : Told) → Contains told access → Makes plan places step access.place access.mode
 
--- each access that is kept was made by the step whose it is
+-- each access that is kept was made by the step to which it belongs
 abbrev pub KeepsTruth : Plan → Places → List Agent → List ProcessStep → Check → Type 0
 KeepsTruth plan places agents steps check =
     (number : ℕ) (access : KeptAccess) → Contains (accesses_at check number) access
     → (done : IsDone plan agents steps access.step) × Makes plan places done.label number access.mode
 
--- it is kept by a step that is told with true accesses, and where agents and places come. It speaks of places alone,
--- so clocks and slots are nothing to it
+-- it is kept by a step that is told with true accesses, and where agents and places come. It speaks only of places,
+-- so clocks and slots do not matter to it
 pub record KeepsTruthOn (plan : Plan) (places : Places) (agents : List Agent) (steps : List ProcessStep)
     (check : Check) (state : State) : Type 0 where
   pub by_step : (number : ℕ) (a : Agent) (told : List Told) (after : Check) (state' : State)

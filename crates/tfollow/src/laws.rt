@@ -104,7 +104,7 @@ pub fn refusals_tell_races()
     ensures { RefusalsTellRaces }
 {}
 
-/// Where the check is told of true accesses alone, each access that it keeps was made by the step whose it is.
+/// Where the check is told only of true accesses, each access that it keeps was made by the step to which it belongs.
 pub fn truth_is_kept()
     ensures { TruthIsKept }
 {}

@@ -1,4 +1,4 @@
--- Whether a byte may come to a node does not hang on the byte.
+-- Whether a byte may come to a node does not depend on the byte.
 use Rattle.std.proofs.Common.{◌≡◌, ℕ, refl, sym, ◌∙◌, Bool, true, false, ◌&&◌, List, Option, Some, None}
 use Rattle.std.specs.Prelude.{is_none}
 use Rattle.tword.specs.declared.breaks.Break.{Break}

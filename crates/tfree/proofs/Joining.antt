@@ -17,7 +17,7 @@ use Rattle.tfree.specs.Slots.{slot_of_end, with_slot, map_slots, AreRowsOfFour}
 use Rattle.tfree.specs.Views.{InView, OutView, got_of, put_of}
 use Rattle.tfree.proofs.LinkSlots.{slot-set_same, slot-set_other, row_length, four-set, four-none, none-held}
 
--- two ends are one, or differ by node or by link
+-- two ends are the same, or differ by node or by link
 same_end_or_not : (x y : End) → (x ≡ y) ⊎ ((x.node ≢ y.node) ⊎ (x.link ≢ y.link))
 same_end_or_not x y = by (cases_eq x.node y.node) (cases_eq x.link y.link)
   where

@@ -98,7 +98,7 @@ module _ {A B : Type 0} (f : A → B) (rows : List (List (Option A))) (n l : ℕ
       map-set_same (map (option_map f)) rows n (set row l x) row
       (map-set_same (option_map f) row l x slot (h ∙ ap (option_map f) slot_is) ∙ ap (map (option_map f)) row_is)
 
--- what is seen of a slot, be it empty or not
+-- what is seen of a slot, whether it is empty or not
 pub seen-slot : {A B : Type 0} (f : Option A → B) (rows : List (List (Option A))) (n l : ℕ)
     → slice_index_or (slice_index_or (map (map f) rows) n []) l (f None) ≡ f (slot_at rows n l)
 seen-slot {A} {B} f rows n l =

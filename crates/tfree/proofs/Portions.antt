@@ -22,7 +22,7 @@ owned_is n w k = omega (arith, next_first n w k)
 pub first_more : (n w k : ℕ) → first_of n w k + owned_of n w k ≡ first_of n w (k + 1)
 first_more n w k = omega (arith, next_first n w k)
 
--- the portion of a list of which so many were given away
+-- the portion of a list of which the first elements were given away
 pub portion : {A B : Type 0} (f : A → B) (xs : List A) (whole : List B) (a b : ℕ) → map f xs ≡ drop a whole
     → map f (take b xs) ≡ portion_of a b whole
 portion f xs whole a b h = sym (take-map f b xs) ∙ ap (take b) h

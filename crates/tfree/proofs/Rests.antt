@@ -151,7 +151,7 @@ module _ (all : List View) (slice : ℕ) where
 
 module _ (turns slice : ℕ) (vs : List View) (es : List Ended) (ws : List View) (h : AreStaged turns slice vs es ws)
   where
-    -- fewer turns and a rest leave what so many turns leave
+    -- fewer turns and a rest leave what all the turns leave
     all_turned : (whole : Bool) → whole ≡ list_all had_memory es → AreTurned turns slice vs whole ws
     all_turned whole e = record { endings = es; each = by (eq-or-lt_of_le h.within); memory = e }
       where

@@ -51,7 +51,7 @@ takes-elsewhere : (n l m k : ℕ) (p : Packet) (t : ℕ) → (n ≢ m) ⊎ (l �
 takes-elsewhere n l m k (packet.Data byte last) t h = rw (other_ends n l m k h) refl
 takes-elsewhere n l m k packet.Ack t h = rw (other_ends n l m k h) refl
 
--- two links are one, or differ by node or by number
+-- two links are the same, or differ by node or by number
 pub same_or_not : (i l j k : ℕ) → ((j ≡ i) × (k ≡ l)) ⊎ ((j ≢ i) ⊎ (k ≢ l))
 same_or_not i l j k = by (cases_eq j i) (cases_eq k l)
   where

@@ -90,7 +90,7 @@ module _ (slice : ℕ) where
       )
   turns_on m n v u w (Err f) e h k = rw (k.0, k.1) (more_wanted m (m + n) v u (Err f) (omega arith) refl h)
 
-  -- so of workers
+  -- the same of workers
   pub each_on : (m n : ℕ) (vs : List View) (ds : List Ended) (us : List View) (es : List Ended) (ws : List View)
       → AreEachTurned m slice vs ds us → AreEachGoneOn n slice us ds es ws → AreEachTurned (m + n) slice vs es ws
   each_on m n [] [] [] [] [] h k = tt

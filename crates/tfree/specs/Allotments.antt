@@ -12,7 +12,7 @@ use Rattle.tfree.specs.Kept.{share_with}
 use Rattle.tfree.specs.Rings.{AreRings, portion_of}
 use Rattle.tfree.specs.Opened.{first_of, owned_of, share_of, HasDoneNothing}
 
--- the share of worker number of so many, whose nodes begin with this one, by its allotment and its nodes
+-- the share of the worker of this number, one of `count`, whose nodes begin with `first`, by allotment and nodes
 abbrev pub allotted_share : (number count first : ℕ) → Allotment → Share
 allotted_share number count first a =
     share_with number count first (length a.nodes.items) (net_of_parts a.opened.value) (ins_view a.ins.items)

@@ -17,7 +17,7 @@ use Rattle.tfree.specs.Views.{Share, View}
 use Rattle.tfree.specs.Kept.{nodes_after, IsMine}
 use Rattle.tfree.specs.Slots.{slot_at}
 
--- the first node of a worker, of so many nodes and workers; that of the next worker is where its nodes end
+-- the first node of worker k, for this number of nodes and workers; its nodes end where those of the next one begin
 abbrev pub first_of : (nodes workers k : ℕ) → ℕ
 first_of nodes workers k = min nodes (k * share nodes workers)
 
@@ -58,11 +58,11 @@ pub record AreOf (opened : NetState) (o : List Share) (shares : List Share) : Ty
 abbrev pub share_of : View → Share
 share_of v = v.share
 
--- workers of an opening of so many, all of them or some
+-- these are workers of one opening for `count` workers, all of them or some
 abbrev pub AreOfOpening : ℕ → List View → Type 0
 AreOfOpening count ws = (opened : NetState) × (o : List Share) × (length o ≡ count) × AreOf opened o (map share_of ws)
 
--- workers of one opening; none at all are so by themselves. Only their shares count, so whatever keeps these keeps it
+-- workers of one opening, or no workers at all. Only their shares count, so whatever keeps these keeps this
 abbrev pub ComeFromOneOpen : List View → Type 0
 ComeFromOneOpen ws = (map share_of ws ≡ []) ⊎ ((count : ℕ) × AreOfOpening count ws)
 
@@ -72,7 +72,7 @@ pub record HasDoneNothing (v : View) : Type 0 where
   pub events : v.events ≡ []
   pub told : v.told ≡ []
 
--- a net was opened for so many workers: they are all the workers of one opening of it, and have done nothing
+-- a net was opened for this number of workers: they are all the workers of one opening of it, and have done nothing
 pub record IsOpened (opened : NetState) (workers : ℕ) (ws : List View) : Type 0 where
   pub all : length ws ≡ workers
   pub one : AreOf opened (map share_of ws) (map share_of ws)
@@ -93,7 +93,7 @@ abbrev pub log_at : NetState → ℕ → List OwnEvent → WorkerLog
 log_at opened k events =
     record { number = k; opened = opened.nodes; left = nodes_after opened.nodes events; events = events }
 
--- the logs of so many workers, by their numbers
+-- the logs of the first `count` workers, by their numbers
 abbrev pub logs_by : NetState → ℕ → (ℕ → List OwnEvent) → List WorkerLog
 logs_by opened count events = map (λ k. log_at opened k (events k)) (first_nodes count)
 

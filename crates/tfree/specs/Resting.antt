@@ -27,8 +27,8 @@ pub record IsRingEmpty (ws : List View) (w : View) (e : End) : Type 0 where
   pub whose : IsWorkerOf ws w far.node from
   pub empty : length (takes e w.events) ≡ length (put_to from.share.opened far from.events)
 
--- at a link of a worker's i-th node no event is enabled but such as take a packet, and where one of these is, the ring
--- is empty
+-- at a link of a worker's i-th node no event is enabled except those that take a packet, and where one of these is,
+-- the ring is empty
 pub record LinkRests (ws : List View) (w : View) (i l : ℕ) : Type 0 where
   pub send : IsEnabled w.share (w.share.first + i) (Send l) w.events → ⊥
   pub take : IsEnabled w.share (w.share.first + i) (Take l) w.events → ⊥
@@ -53,7 +53,7 @@ IsIdle ws (Err f) w = Unit {0}
 abbrev pub AreAtRest : List View → Type 0
 AreAtRest ws = All (λ w. HasNothingLeft ws w ⊎ IsClockFull w) ws
 
--- workers made so many turns; or fewer, where each that did not stop for a fault has nothing left to do
+-- workers made this number of turns; or fewer, where each that did not stop for a fault has nothing left to do
 pub record AreStaged (turns slice : ℕ) (vs : List View) (endings : List Ended) (ws : List View) : Type 0 where
   pub made : ℕ
   pub within : made ≤ turns

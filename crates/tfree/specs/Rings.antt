@@ -45,6 +45,6 @@ pub record AreRings (opened : NetState) (ins : List (List (Option InView))) (out
   pub got : (e : End) → got_of (slot_of_end ins e) ≡ []
   pub put : (e : End) → put_of (slot_of_end outs e) ≡ put_to opened e []
 
--- so many elements of a list, from a place on
+-- `count` elements of a list, from place `first` on
 abbrev pub portion_of : {A : Type 0} → ℕ → ℕ → List A → List A
 portion_of first count xs = take count (drop first xs)

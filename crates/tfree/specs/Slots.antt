@@ -20,7 +20,7 @@ module _ {A : Type 0} where
 abbrev pub map_slots : {A B : Type 0} → (A → B) → List (List (Option A)) → List (List (Option B))
 map_slots f rows = map (map (option_map f)) rows
 
--- there is a row of four for each of so many nodes
+-- there is a row of four for each of this number of nodes
 pub record AreRowsOfFour {A : Type 0} (nodes : ℕ) (rows : List (List A)) : Type 0 where
   pub count : length rows ≡ nodes
   pub four : All (λ row. length row ≡ 4) rows

@@ -12,7 +12,7 @@ use Rattle.tfree.specs.Turns.{Phase, Step, Times, IsTurn, IsClockFull}
 abbrev pub WholeTurn : Share → ℕ → Step
 WholeTurn s slice es es' = IsTurn s slice es true es'
 
--- a worker makes so many turns; or fewer, and then the beginning of one more
+-- a worker makes this number of turns; or fewer, and then the beginning of one more
 abbrev pub AreTurns : Share → (turns slice : ℕ) → Phase
 AreTurns s turns slice es true es' = Times turns (WholeTurn s slice) es es'
 AreTurns s turns slice es false es' = (k : ℕ) × (k < turns)
@@ -34,20 +34,20 @@ had_memory (Ok x) = true
 had_memory (Err ClockFull) = true
 had_memory (Err OutOfMemory) = false
 
--- a worker makes so many turns more, unless it stopped before: then it stays as it is
+-- a worker makes this number of turns more; or if it stopped before, it is left unchanged
 abbrev pub GoesOn : (turns slice : ℕ) → View → Ended → Ended → View → Type 0
 GoesOn turns slice v (Ok x) e w = IsTurned turns slice v e w
 GoesOn turns slice v (Err f) e w = (e ≡ Err f) × (w ≡ v)
 
--- each worker makes so many turns more, unless it stopped before, by how they had ended before and how they end
+-- each worker makes this number of turns more, unless it stopped before, by how they had ended before and how they end
 abbrev pub AreEachGoneOn : (turns slice : ℕ) → List View → List Ended → List Ended → List View → Type 0
 AreEachGoneOn turns slice [] [] [] [] = Unit {0}
 AreEachGoneOn turns slice (v ∷ vs) (d ∷ ds) (e ∷ es) (w ∷ ws) = GoesOn turns slice v d e w
     × AreEachGoneOn turns slice vs ds es ws
 AreEachGoneOn turns slice _ _ _ _ = ⊥
 
--- this holds of each number from the least to the most: of so many turns, where those above the least find nothing to
--- do, and may be left out or made
+-- this holds for each number of turns from the least to the most: turns above the least find nothing to do, and may be
+-- left out or made
 abbrev pub HoldsBetween : (least most : ℕ) → (ℕ → Type 0) → Type 0
 HoldsBetween least most what = (least ≤ most) × ((n : ℕ) → least ≤ n → n ≤ most → what n)
 

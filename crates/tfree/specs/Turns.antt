@@ -83,12 +83,12 @@ module _ (s : Share) where
 abbrev pub once : Step → Phase
 once step es whole es' = step es es'
 
--- a step is made so many times
+-- a step is made this number of times
 abbrev pub Times : ℕ → Step → Step
 Times zero step es es' = es' ≡ es
 Times (suc k) step es es' = (mid : List OwnEvent) × Times k step es mid × step mid es'
 
--- a step is made at most so many times, and no fewer as long as it is due
+-- a step is made at most this number of times, and no fewer as long as it is due
 abbrev pub UpTo : ℕ → Step → (List OwnEvent → Type 0) → Phase
 UpTo most step IsDue es whole es' = (k : ℕ) × (k ≤ most) × Times k step es es'
     × ((k ≡ most) ⊎ (IsTrue whole → IsDue es' → ⊥))
@@ -111,7 +111,7 @@ module _ (s : Share) where
   abbrev pub emission_of : (n l : ℕ) → NodeEvent → Phase
   emission_of n l e = UpTo 1 (Emits s n l e) (IsEmissionDue s n l e)
 
-  -- the runs of a node, at most so many
+  -- the runs of a node, `slice` at most
   abbrev pub runs_of : (slice n : ℕ) → Phase
   runs_of slice n = UpTo slice (Does s n Run) (IsEnabled s n Run)
 
@@ -129,7 +129,7 @@ module _ (s : Share) where
   abbrev pub NodeTurn : ℕ → ℕ → Phase
   NodeTurn slice n = Then (all_packets n) (Then (all_takes n) (Then (runs_of slice n) (all_sends n)))
 
-  -- the parts of the first nodes of the worker, so many, each to its end
+  -- the parts of the first nodes of the worker, as many as the number says, each to its end
   abbrev pub FirstNodes : ℕ → ℕ → Step
   FirstNodes slice zero es es' = es' ≡ es
   FirstNodes slice (suc k) es es' = (mid : List OwnEvent) × FirstNodes slice k es mid

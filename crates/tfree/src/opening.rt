@@ -88,9 +88,9 @@ fn room(
     Ok((allotments, list))
 }
 
-/// Opens a net for so many workers, from 1 to 64. The nodes, and behind them the sources and the sinks, are shared out
-/// in their order, each worker gets as many as the others, rounded up, and the last may get fewer. What lay at the ends
-/// of wires lies in the rings.
+/// Opens a net for `workers` workers, from 1 to 64. The nodes, and behind them the sources and the sinks, are shared
+/// out in their order, each worker gets as many as the others, rounded up, and the last may get fewer. What lay at the
+/// ends of wires lies in the rings.
 ///
 /// # Errors
 /// `BadWorkers`, or `OutOfMemory`; the net comes back as it was.
@@ -104,7 +104,7 @@ pub fn open(alloc: Global, net: Net, workers: usize) -> Result<Vec<Worker>, (Ope
     open_keeping(alloc, net, workers, true)
 }
 
-/// Opens a net as `open` does, for workers that keep no event: what they tell alone can be gathered, by
+/// Opens a net as `open` does, for workers that keep no event: only what they tell can be gathered, by
 /// `gather_notes`.
 ///
 /// # Errors
@@ -123,7 +123,7 @@ pub fn open_without_events(
     open_keeping(alloc, net, workers, false)
 }
 
-/// Opens a net for so many workers, which keep their events or not.
+/// Opens a net for `workers` workers, which keep their events or not.
 fn open_keeping(
     alloc: Global,
     net: Net,

@@ -37,7 +37,7 @@ pub(crate) struct Brought {
 }
 
 impl Brought {
-    /// Room for what so many workers bring.
+    /// Room for what `count` workers bring.
     pub(crate) fn room(alloc: Global, count: usize) -> Result<Brought, AllocError>
         ensures { IfOk result (IsRoom count) }
     {

@@ -22,8 +22,8 @@ const FIRST_STAGE: u32 = 64;
 /// How many turns a stage has at most.
 const LONGEST_STAGE: u32 = 65_536;
 
-/// A stage is made on threads where, in the stage before, the workers did so many events for each of them. Where the
-/// calling thread makes that one, it ends with these.
+/// A stage is made on threads where, in the stage before, the workers did this number of events for each of them. If
+/// the calling thread makes the stage before, that stage ends as soon as they are done.
 const EVENTS_WORTH_A_THREAD: usize = 16_000;
 
 /// How many turns in a row find nothing to do, at least, before a worker on a thread leaves its stage.
@@ -58,7 +58,7 @@ impl Pace {
         }
     }
 
-    /// What so many workers make next, where so many turns are left to make. One alone waits for no other, and makes
+    /// What `workers` workers make next, where `turns` turns are left to make. One alone waits for no other, and makes
     /// all turns that are left of the stage at once.
     fn task(self, turns: u32, slice: u32, workers: usize) -> Task
         requires { 0 < turns }
@@ -88,7 +88,7 @@ impl Pace {
         }
     }
 
-    /// What comes behind turns of so many workers: the rest of the stage, where the calling thread makes it; else a
+    /// What comes behind turns of `workers` workers: the rest of the stage, where the calling thread makes it; else a
     /// stage that is twice as long, on threads if they are worth it.
     fn next(self, stint: Stint, workers: usize) -> Self {
         let events = self.events.saturating_add(stint.events);
@@ -139,7 +139,7 @@ struct Stint {
 }
 
 impl Stint {
-    /// Of these workers and others.
+    /// What these workers and others did.
     fn with(self, other: Stint) -> Self
         ensures { result.made ≡ max self.made other.made }
     {
@@ -154,8 +154,8 @@ impl Stint {
 pub(crate) type Ended = Result<(), TurnFault>;
 
 impl Worker {
-    /// A turn, and whether it found anything to do. It is the first that does, of at most so many: between two turns
-    /// other threads go first.
+    /// A turn, and whether it found anything to do. It is the first that does, of at most `patience`: between two
+    /// turns other threads go first.
     fn next_turn(&mut self, slice: u32, patience: u32) -> Result<bool, TurnFault>
         ensures same { self.new.share ≡ self.old.share }
         ensures turn { IsTurn self.old.share slice self.old.events (is_ok result) self.new.events }
@@ -173,8 +173,8 @@ impl Worker {
         Ok(last.events > 0)
     }
 
-    /// So many turns, one after another, or until one stops for a fault. Those that find nothing to do do not count,
-    /// and after so many in a row the rest are left out. How they ended, and how many counted.
+    /// The turns of a task, one after another, or until one stops for a fault. Those that find nothing to do do not
+    /// count, and after `task.patience` of them in a row the rest are left out. How they ended, and how many counted.
     fn turns(&mut self, task: Task) -> (Ended, u32)
         ensures { HoldsBetween result.1 task.turns (λ n. IsTurned n task.slice self.old result.0 self.new) }
     {
@@ -188,7 +188,7 @@ impl Worker {
         (Ok(()), task.turns)
     }
 
-    /// So many turns more, unless it has stopped for a fault.
+    /// Makes the turns of a task, unless it has stopped for a fault before.
     fn go_on(&mut self, ended: &mut Ended, task: Task) -> Stint
         ensures { HoldsBetween result.made task.turns
             (λ n. GoesOn n task.slice self.old ended.old ended.new self.new) }
@@ -208,7 +208,7 @@ impl Worker {
     }
 }
 
-/// So many workers that have not stopped.
+/// The endings of `count` workers that have not stopped.
 fn going(alloc: Global, count: usize) -> Result<Vec<Ended>, AllocError>
     ensures { IfOk result (λ endings. endings.items ≡ replicate count (Ok tt)) }
 {
@@ -231,16 +231,16 @@ fn refusal(endings: &[Ended]) -> Result<(), AllocError>
     Ok(())
 }
 
-/// Each worker makes so many turns, or stops at a turn's fault, and its list is one that so many turns leave. The
+/// Each worker makes `turns` turns, or stops at a turn's fault, and its list is one that `turns` turns leave. The
 /// turns are made in stages, of 64 turns, then 128, and so on up to 65,536. In the first the calling thread makes them,
 /// one of each worker after another, and so in each that comes behind one in which the workers did fewer than 16,000
-/// events each, taken together; such a stage ends where they have done so many. In any other each worker is on a thread
-/// of its own where one can be started, else on that of another worker; with one worker no thread is started. There a
-/// turn that finds nothing to do does not count, so that a worker that waits for another does not use up its turns;
-/// one that waits for long leaves the stage. Behind a stage, and behind the first turn of each in which none found
-/// anything, with all workers in hand, the calling thread looks whether anything is left to do: where nothing is, the
-/// turns that are left would add nothing, and are left out. Workers that may still get a packet from one that is not
-/// among them make all their turns.
+/// events each, taken together; such a stage ends where they have done that many. In any other each worker is on a
+/// thread of its own where one can be started, else on that of another worker; with one worker no thread is started.
+/// There a turn that finds nothing to do does not count, so that a worker that waits for another does not use up its
+/// turns; one that waits for long leaves the stage. Behind a stage, and behind the first turn of each in which none
+/// found anything, with all workers in hand, the calling thread looks whether anything is left to do: where nothing
+/// is, the turns that are left would add nothing, and are left out. Workers that may still get a packet from one that
+/// is not among them make all their turns.
 ///
 /// # Errors
 /// A worker was refused memory in a turn, or there was none before the first turn. A full clock ends the turns of
@@ -263,7 +263,7 @@ pub fn turn_all<R: Threads + Sync>(
     refusal(endings.as_slice())
 }
 
-/// Workers of which none has stopped make so many turns, in stages, or fewer where they come to rest.
+/// Workers of which none has stopped make `turns` turns, in stages, or fewer where they come to rest.
 fn turn_in_stages<R: Threads + Sync>(
     rt: &R,
     workers: &mut [Worker],
@@ -294,7 +294,7 @@ fn turn_in_stages<R: Threads + Sync>(
     }
 }
 
-/// Some workers make turns more, but for those that have stopped, on threads or one after another. They are halved
+/// Some workers make turns more, except for those that have stopped, on threads or one after another. They are halved
 /// down to one worker.
 #[cycle(turning)]
 fn turn_some<R: Threads + Sync>(

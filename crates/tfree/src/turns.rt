@@ -18,7 +18,7 @@ pub struct Turned {
 }
 
 impl Worker {
-    /// At most two packets of a link. At most links none lies, so that it is asked in line.
+    /// At most two packets of a link. At most links none lies, so that it is asked inline.
     #[inline(always)]
     fn packets(&mut self, i: usize, link: u8) -> Result<(), TurnFault>
         requires i { i < self.old.share.owned }
@@ -61,7 +61,7 @@ impl Worker {
         self.emission(i, link, NodeEvent::Take(link))
     }
 
-    /// The byte that waits at a link is taken. At most links none does, so that it is asked in line.
+    /// The byte that waits at a link is taken. At most links none does, so that it is asked inline.
     #[inline(always)]
     fn take(&mut self, i: usize, link: u8) -> Result<(), TurnFault>
         requires i { i < self.old.share.owned }
@@ -86,7 +86,7 @@ impl Worker {
         self.emission(i, link, NodeEvent::Send(link))
     }
 
-    /// The next byte of the output at a link is sent. At most links none is due, so that it is asked in line.
+    /// The next byte of the output at a link is sent. At most links none is due, so that it is asked inline.
     #[inline(always)]
     fn send(&mut self, i: usize, link: u8) -> Result<(), TurnFault>
         requires i { i < self.old.share.owned }
@@ -136,7 +136,7 @@ impl Worker {
         self.send(i, 3)
     }
 
-    /// Runs until none is enabled, or so many are done.
+    /// Runs until none is enabled, or `slice` are done.
     fn runs(&mut self, i: usize, slice: u32) -> Result<(), TurnFault>
         requires { i < self.old.share.owned }
         ensures phase { Phased (λ s. runs_of s slice (s.first + i)) self.old (is_ok result) self.new }

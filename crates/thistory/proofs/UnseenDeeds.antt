@@ -82,7 +82,7 @@ module _ (net : NetState) (sound : IsSound net) (n : ℕ) where
       (ap (waiting_at l) (slice_get-map hidden_node net.nodes n) ∙ waiting_node l (slice_get net.nodes n))
   act_same (Ack l) = refl
 
--- so it is told to be the same in nets that agree but for hidden bytes
+-- so it is told to be the same in nets that agree except for hidden bytes
 pub deed_alike : (a b : NetState) → IsSound a → IsSound b → hidden_net a ≡ hidden_net b → (e : Event)
     → deed_of a e ≡ deed_of b e
 deed_alike a b sound_a sound_b same e =

@@ -103,7 +103,7 @@ bytes_hidden net p =
     ∙ ap (λ (m : Option Machine). map (λ i. bare_byte m (plus p.address i)) (range_with_len 0 p.length))
     (sym (processor_same net p.node))
 
--- they are the same in nets that agree but for hidden bytes
+-- they are the same in nets that agree except for hidden bytes
 pub bytes_alike : (a b : NetState) (p : Place) → hidden_net a ≡ hidden_net b → seen_bytes a p ≡ seen_bytes b p
 bytes_alike a b p same =
     bytes_hidden a p

@@ -1,4 +1,4 @@
--- What a net answers, and the net behind an event but for hidden bytes, do not depend on hidden bytes.
+-- What a net answers, and the net behind an event except for hidden bytes, do not depend on hidden bytes.
 use Rattle.std.proofs.Common.{◌≡◌, ℕ, ◌+◌, refl, sym, ap, ap₂, ◌∙◌, subst, List, [], ◌∷◌, length, Bool, true, false}
 use Rattle.std.proofs.Common.{Option, Some, None, Result, Ok, Err, ◌⊎◌, inl, inr, arith}
 use Rattle.std.specs.Prelude.{map, option_map, slice_get, zip}
@@ -144,7 +144,7 @@ module _ (blank : Machine) where
         (answer_of n act (hidden_net net) (node_event net n act) s))) (slice_get-map hidden_node net.nodes n)
         ∙ left_by (node_event net n act) (slice_get net.nodes n) refl
 
-  -- nets that agree but for hidden bytes leave nets with the same frames
+  -- nets that agree except for hidden bytes leave nets with the same frames
   frames_alike : (a b : NetState) → IsSound a → IsSound b → hidden_net a ≡ hidden_net b → (e : Event)
       → frame_net (net_behind a e) ≡ frame_net (net_behind b e)
   frames_alike a b sound_a sound_b same e =
@@ -239,7 +239,7 @@ sound_behind net e sound = by (done_or_not net e (net_happens e net))
     by (inl d) = stays_sound net (net_behind net e) e sound d.1
     by (inr d) = subst IsSound (sym d.1) sound
 
--- a net but for hidden bytes, by its frame and by what is seen of it
+-- a net except for hidden bytes, by its frame and by what is seen of it
 abbrev joined_node : Node × NodeState → NodeState
 joined_node (v, f) = record f { role = v.role; machine = v.machine; broken = v.broken }
 
@@ -290,7 +290,7 @@ module _ (blank : Machine) (a b : NetState) (sound_a : IsSound a) (sound_b : IsS
       by (inr d) (inl f) =
           let wrong : true ≡ false = sym d.0 ∙ ap is_refused answer_alike ∙ f.0 in cc
 
-  -- and the nets behind the event agree but for hidden bytes
+  -- and the nets behind the event agree except for hidden bytes
   pub stays_alike : hidden_net (net_behind a e) ≡ hidden_net (net_behind b e)
   stays_alike =
       sym (joined_net blank (net_behind a e) (sound_behind a e sound_a))

@@ -1,4 +1,4 @@
--- An event of a net, as it is told: what its node was about to do, and what came of it.
+-- An event of a net, as it is told: what its node was about to do, and what that led to.
 -- Source: own choice.
 use Rattle.std.specs.Prelude.{ℕ, zero, suc, ◌+◌, List, [], ◌∷◌, Option, Some, None}
 use Rattle.tproc.specs.Machine.{Machine}

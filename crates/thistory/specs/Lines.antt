@@ -1,4 +1,4 @@
--- The line of an event: its number, what its node did, and what came of it.
+-- The line of an event: its number, what its node did, and what that led to.
 -- Source: own choice, a format of this program; the names of registers are the Compiler Writer's Guide's (1988).
 use Rattle.std.specs.Prelude.{ℕ, ◌+◌, ◌-◌, List, [], ◌++◌, length, replicate, codes, decimal, Option, Some, None}
 use Rattle.std.specs.Prelude.{Result, Ok, Err}
@@ -20,7 +20,7 @@ use Rattle.thistory.specs.declared.deed.Done.{Done}
 
 -- ---- the number of the event
 
--- a text at the right end of so many columns, or behind them where it is longer
+-- a text at the right end of `width` columns, or behind them where it is longer
 abbrev pub at_right : ℕ → List ℕ → List ℕ
 at_right width text = replicate (width - length text) 32 ++ text
 
@@ -59,7 +59,7 @@ who_text far (deed.Data l a) m = link_text (codes " data") l (codes " from ") (f
 who_text far (deed.Take l a) m = link_text (codes " take") l (codes " from ") (far l)
 who_text far (deed.Ack l) m = link_text (codes " ack ") l (codes " from ") (far l)
 
--- ---- what came of it
+-- ---- what it led to
 
 -- a halt, or a message that is complete
 abbrev pub mark_text : Mark → List ℕ

@@ -97,8 +97,8 @@ step_text k d net =
 abbrev pub own_count : ℕ → List Event → ℕ
 own_count n events = length (filter (λ e. e.node == n) events)
 
--- an event of this number, with so many of the node's behind it, is told: it is the node's, it is not before the first
--- that is asked for, and it is one of the last ones
+-- an event of this number, with `behind` events of the node after it, is told: it is the node's, it is not before the
+-- first that is asked for, and it is one of the last ones
 abbrev pub is_asked : Asked → ℕ → Event → (behind : ℕ) → Bool
 is_asked q k e behind = (e.node == q.node) && (nat_le q.from k && nat_lt behind q.last)
 

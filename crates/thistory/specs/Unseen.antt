@@ -11,7 +11,7 @@ use Rattle.thistory.specs.Halts.{halts_text}
 use Rattle.thistory.specs.Steps.{net_after, steps_text}
 use Rattle.thistory.specs.Watch.{watch_text}
 
--- nets that agree but for hidden bytes have one history, whatever is asked for and whatever events are done
+-- nets that agree except for hidden bytes have one history, whatever is asked for and whatever events are done
 abbrev pub StepsAreOfTheView : Type 0
 StepsAreOfTheView =
     (asked : Asked) (events : List Event) (a b : NetState) → IsSound a → IsSound b → hidden_net a ≡ hidden_net b
@@ -29,7 +29,7 @@ HaltsAreOfTheView =
     (named : ℕ → List ℕ → List ℕ) (events : List Event) (a b : NetState) → IsSound a → IsSound b
     → hidden_net a ≡ hidden_net b → halts_text named events a ≡ halts_text named events b
 
--- and the nets that the events leave agree but for hidden bytes
+-- and the nets that the events leave agree except for hidden bytes
 abbrev pub LeftIsOfTheView : Type 0
 LeftIsOfTheView =
     (events : List Event) (a b : NetState) → IsSound a → IsSound b → hidden_net a ≡ hidden_net b

@@ -1,4 +1,4 @@
-//! An event of a net, as it is told: what its node was about to do, and what came of it.
+//! An event of a net, as it is told: what its node was about to do, and what that led to.
 
 ghost use Rattle.std.specs.Prelude.{◌≡◌, ◌<◌, ◌%◌, option_copied};
 ghost use Rattle.tnet.specs.Net.{inbox_at, node_at};

@@ -1,4 +1,4 @@
-//! The line of an event: its number, what its node did, and what came of it.
+//! The line of an event: its number, what its node did, and what that led to.
 
 ghost use Rattle.std.specs.Prelude.{◌≡◌, ◌++◌, codes, decimal, option_copied, replicate};
 ghost use Rattle.tplan.specs.Wires.{far_ends};
@@ -50,7 +50,7 @@ pub(crate) fn put_tail<W: CountedWrite>(out: &mut Output<'_, W>, net: &Net, done
     out.put(b"\n");
 }
 
-/// A number in decimal digits, at the right end of so many columns.
+/// A number in decimal digits, at the right end of `width` columns.
 fn put_at_right<W: CountedWrite>(out: &mut Output<'_, W>, number: u64, width: u32)
     ensures { Tells W.contents W.failures out.old out.new (spec.at_right width (decimal number)) }
 {
@@ -64,7 +64,7 @@ fn put_at_right<W: CountedWrite>(out: &mut Output<'_, W>, number: u64, width: u3
     }
 }
 
-/// So many blanks.
+/// `count` blanks.
 fn put_blanks<W: CountedWrite>(out: &mut Output<'_, W>, count: u32)
     ensures { Tells W.contents W.failures out.old out.new (replicate count 32) }
 {

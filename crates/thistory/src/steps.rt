@@ -67,14 +67,14 @@ fn less_own(count: u64, is_own: bool) -> u64
     if is_own { count - 1 } else { count }
 }
 
-/// Whether an event of this number is asked for. So many events of the node come behind it.
+/// Whether an event of this number is asked for. `behind` events of the node come behind it.
 fn is_asked(asked: &Asked, number: u64, event: Event, behind: u64) -> bool
     ensures { result ≡ spec.is_asked asked.now number event behind }
 {
     event.node == asked.node && asked.from <= number && behind < asked.last
 }
 
-/// Does an event on a net, and writes its line, if it is asked for. So many events of the node come behind it.
+/// Does an event on a net, and writes its line, if it is asked for. `behind` events of the node come behind it.
 fn put_asked<W: CountedWrite>(
     out: &mut Output<'_, W>,
     net: &mut Net,

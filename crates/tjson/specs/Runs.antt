@@ -68,7 +68,7 @@ line_object address cells =
     object (member (codes "at") (bytes_value (to_be_bytes w32 address))
     ∷ member (codes "bytes") (quoted (flat_map cell_digits cells)) ∷ [])
 
--- one line of a memory, which is left out where it has zeros alone
+-- one line of a memory, which is left out where it has only zeros
 abbrev pub line_values : ℕ → Store → List (List ℕ)
 line_values address cells = if list_all is_zero cells then [] else line_object address cells ∷ []
 

@@ -9,7 +9,7 @@ use tfiles::counted::CountedWrite;
 use tfiles::writing::output::Output;
 use tfiles::writing::text::put_decimal;
 
-/// The last line of a run by rounds, of which so many were done: `{"end": "quiet", "rounds": 9}`, or
+/// The last line of a run of `rounds` rounds: `{"end": "quiet", "rounds": 9}`, or
 /// `{"end": "rounds", "rounds": 9}` where the net was not quiet.
 pub fn put_json_rounds_end<W: CountedWrite>(out: &mut Output<'_, W>, quiet: bool, rounds: u32)
     ensures { Tells W.contents W.failures out.old out.new (json_rounds_end quiet rounds) }
@@ -44,7 +44,7 @@ pub fn put_json_free_end<W: CountedWrite>(out: &mut Output<'_, W>, quiet: bool)
     }
 }
 
-/// The last line of a replay of so many events: `{"end": "replay", "events": 32}`.
+/// The last line of a replay of `events` events: `{"end": "replay", "events": 32}`.
 pub fn put_json_replay_end<W: CountedWrite>(out: &mut Output<'_, W>, events: u64)
     ensures { Tells W.contents W.failures out.old out.new (json_replay_end events) }
 {

@@ -49,7 +49,7 @@ fn put_lines<W: CountedWrite>(out: &mut Output<'_, W>, bytes: &[u8], pending: &[
     }
 }
 
-/// The line of some bytes behind those before it, unless it has zeros alone. Answers whether the next is the first.
+/// The line of some bytes behind those before it, unless it has only zeros. Answers whether the next is the first.
 fn put_next_line<W: CountedWrite>(
     out: &mut Output<'_, W>,
     is_first: bool,

@@ -26,7 +26,7 @@ use Rattle.tlink.proofs.Fresh.{length-joined}
 use Rattle.tlink.proofs.Sources as source
 use Rattle.tlink.proofs.Sinks as sink
 
--- so many of the lengths, and the others, together
+-- the first k lengths and the others, added up together
 sum_of_parts : (lengths : List ℕ) (k : ℕ) → sum (take k lengths) + sum (drop k lengths) ≡ sum lengths
 sum_of_parts lengths k =
     sym (sum_by-append (λ n. n) (take k lengths) (drop k lengths)) ∙ ap sum (take-append-drop k lengths)

@@ -37,7 +37,7 @@ pub refuses : (e : NodeEvent) {n old : NodeState} → n ≡ old → happens e n 
     → DoesNode (happens e old) old (Err NotEnabled) old
 refuses e {old = old} same is = does e old (Err NotEnabled) (Err NotEnabled) same is refl (sym same)
 
--- so for the test
+-- the same for the test
 pub tells : (e : NodeEvent) {n old : NodeState} {b : Bool} → n ≡ old → b ≡ is_node_done (happens e n)
     → b ≡ is_node_enabled e old
 tells e same told = told ∙ ap (is_node_enabled e) same

@@ -30,7 +30,7 @@ pub record Sink : Type 0 where
   pub room : ℕ
   pub arrived : Option Arrival
 
--- a source of these messages, and a sink for so many bytes, before the first event
+-- a source of these messages, and a sink for a number of bytes, before the first event
 abbrev pub unsent : List (List ℕ) → Source
 unsent messages = record { messages = messages; over = 0; sent = 0; acked = 0 }
 

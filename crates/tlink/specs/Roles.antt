@@ -78,12 +78,12 @@ woken (Source over rest) l m =
     }
 woken _ l m = finish_output l m
 
--- a message of so many bytes is complete: one more that a sink has kept
+-- a message of n bytes is complete: one more that a sink has kept
 abbrev pub role_filled : ℕ → Role → Role
 role_filled n (Sink kept) = Sink (kept ++ n ∷ [])
 role_filled n role = role
 
--- a message of so many bytes is complete: its process is queued, or the sink asks for what goes behind it
+-- a message of n bytes is complete: its process is queued, or the sink asks for what goes behind it
 abbrev pub filled : Role → ℕ → ℕ → Machine → Machine
 filled (Sink kept) l n m = record m { control = input_moved l n m.control }
 filled _ l n m = finish_input l m

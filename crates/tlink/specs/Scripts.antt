@@ -18,7 +18,8 @@ AreBytes bytes = All (λ b. b < 256) bytes
 abbrev pub only_counts : Counts → List Counts
 only_counts c = c ∷ no_counts ∷ no_counts ∷ no_counts ∷ []
 
--- a source of messages of these lengths, so many of them over, the next one from this place of the bytes on
+-- a source of messages of these lengths, the first `done` of them over, the next one from place `start` of the bytes
+-- on
 abbrev pub source_state : (bytes lengths : List ℕ) → (done start : ℕ) → Counts → NodeState
 source_state bytes lengths done start c =
     record {
@@ -29,7 +30,7 @@ source_state bytes lengths done start c =
       broken = None;
     }
 
--- a sink that has kept messages of these lengths, so many bytes of the memory
+-- a sink that has kept messages of these lengths, in the first `kept` bytes of the memory
 abbrev pub sink_state : (bytes lengths : List ℕ) → (kept : ℕ) → Counts → NodeState
 sink_state bytes lengths kept c =
     record {
@@ -110,8 +111,8 @@ pub record IsSourceWithin (bytes lengths : List ℕ) (done start : ℕ) : Type 0
   pub few : done ≤ length lengths
   pub within : start + sum (drop done lengths) ≤ length bytes
 
--- the messages that a sink has kept are its first bytes, and the first lengths, so many, are theirs; there is room for
--- as many lengths as for bytes
+-- the messages that a sink has kept are its first `kept` bytes, and the first lengths, one a message, are theirs;
+-- there is room for as many lengths as for bytes
 pub record IsSinkWithin (bytes lengths : List ℕ) (messages kept : ℕ) : Type 0 where
   pub all : sum (take messages lengths) ≡ kept
   pub each : messages ≤ kept

@@ -78,7 +78,7 @@ impl Node {
         })
     }
 
-    /// A sink for so many bytes before its first event: it keeps the messages that come at link 0. It
+    /// A sink for `capacity` bytes before its first event: it keeps the messages that come at link 0. It
     /// takes all memory that it needs here.
     ///
     /// # Errors
@@ -126,7 +126,7 @@ impl Node {
         }
     }
 
-    /// Does at most so many runs, one after another, until one tells something, is not enabled or freezes the node: how
+    /// Does at most `most` runs, one after another, until one tells something, is not enabled or freezes the node: how
     /// many were done before that one, and what it answered. A script does none.
     pub fn run_many(&mut self, most: u32) -> Runs
         ensures { (self.new, result) ≡ runs most self.old }

@@ -80,7 +80,7 @@ fn taken(mark: Option<Mark>) -> Result<Emitted, StepFault>
 }
 
 impl Sink {
-    /// A sink for so many bytes, which has kept nothing.
+    /// A sink for `capacity` bytes, which has kept nothing.
     ///
     /// # Errors
     /// Where the allocator refuses.

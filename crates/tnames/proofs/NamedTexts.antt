@@ -31,7 +31,7 @@ range-more a (suc n) =
     let e : a + 1 + n ≡ a + suc n = omega arith in
     ap (λ (xs : List ℕ). a ∷ xs) (range-more (a + 1) n ∙ ap (λ (k : ℕ). range_with_len (a + 1) n ++ k ∷ []) e)
 
--- the text of the first so many bytes
+-- the text of the first n bytes
 abbrev pub named_first : List Name → List ℕ → ℕ → List ℕ
 named_first names text n = flat_map (named_byte names text) (range_with_len 0 n)
 

@@ -21,7 +21,7 @@ use tword::limits::LARGEST_MEMORY_TWO;
 /// A word that lies in no memory, or has no name, is followed by nothing. All else stays as it is.
 ///
 /// # Errors
-/// Where the writer fails or takes nothing. Just so many of the first bytes are written as the fault tells.
+/// Where the writer fails or takes nothing. Then only the first bytes are written, as many as the fault tells.
 pub fn write_named<W: CountedWrite>(
     out: &mut W,
     names: &Names,

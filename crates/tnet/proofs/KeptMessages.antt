@@ -103,7 +103,7 @@ module _ (a b : Machine) (k l : ℕ) (out inp : Offer) (g : IsGiven a b k l out 
           ∙ ap (λ x. bytes_at t x out.length) at
           ∙ given-message a b k l out inp g (Sink kept) v fits
 
-  -- so of a node whose role is a sink's
+  -- the same of a node whose role is a sink's
   pub sink_keeps : (role : Role) (kept : List ℕ) → role ≡ Sink kept → AreVeils role b → Fits role out inp
       → messages_of (role_filled out.length role) (shown (seen_after role).store)
       ≡ messages_of role (shown b.store) ++ bytes_at a.store out.buffer out.length ∷ []

@@ -31,7 +31,7 @@ slice_past (x ∷ xs) ys (suc n) b =
     let e : suc n - length (x ∷ xs) ≡ n - length xs = omega arith in
     rw e (slice_past xs ys n (omega arith))
 
--- an element of the first so many passes
+-- an element of the first n passes
 pub any_below : {X : Type 0} (p : X → Bool) (xs : List X) (i n : ℕ) (x : X) → slice_get xs i ≡ Some x → i < n
     → p x ≡ true → list_any p (take n xs) ≡ true
 any_below p [] i n x h b t = cc

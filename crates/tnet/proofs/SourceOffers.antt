@@ -1,4 +1,4 @@
--- With so many of its messages over, a source offers the next one, byte for byte, and its memory stands.
+-- When a number of its messages are over, a source offers the next one, byte for byte, and its memory is unchanged.
 use Rattle.std.proofs.Common.{◌≡◌, ◌≢◌, ℕ, zero, suc, ◌+◌, ◌-◌, refl, sym, ap, ◌∙◌, subst, List, [], ◌∷◌, ◌++◌, length}
 use Rattle.std.proofs.Common.{map}
 use Rattle.std.proofs.Common.{take, drop, Bool, true, false, Option, Some, None, ◌⊎◌, inl, inr, arith}
@@ -78,7 +78,7 @@ message_at (x ∷ xs) (suc k) m h =
     sum_by-cons (λ n. n) (length x) (take k (map length xs)) in
     rw (total, drop-append-add x (concat xs) (sum (take k (map length xs)))) (message_at xs k m h)
 
--- the bytes of what is offered, with so many messages over
+-- the bytes of what is offered, with k messages over
 next_message : (ms : List (List ℕ)) (k : ℕ)
     → option_map (λ (o : Offer). bytes_at (as_cells (concat ms)) o.buffer o.length)
     (first_offer (most_neg + sum (take k (map length ms))) (drop k (map length ms))) ≡ slice_get ms k
@@ -95,7 +95,7 @@ next_message ms k = by (slice_get ms k) refl
         (bytes-shown (as_cells (concat ms)) (sum (take k (map length ms))) (length m)
         ∙ rw (shown_cells (concat ms)) (message_at ms k m e)))
 
--- a source of these messages, of which so many are over
+-- a source of these messages, of which the first k are over
 record IsSourceAt (messages : List (List ℕ)) (k : ℕ) (role : Role) (m : Machine) : Type 0 where
   role_is : role ≡ Source (take k (map length messages)) (drop k (map length messages))
   machine_is : m
@@ -226,7 +226,7 @@ module _ (messages : List (List ℕ)) where
   step_at w w' n k (Freeze_at m b) h law =
       rw law.after (inl (refl, put_at w m n k _ h (λ e. h law.node (rw e law.here))))
 
-  -- so after a run
+  -- the same after a run
   run_at : (w w' : Configuration) (n k : ℕ) (steps : List Step) (notes : List Note) → IsAt w n k
       → IsRun w steps notes w' → IsAt w' n (k + wakes_of (end_at n 0) steps)
   run_at w w' n k [] notes h r =

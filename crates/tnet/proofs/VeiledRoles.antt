@@ -45,7 +45,7 @@ pub record AreVeils (role : Role) (n : Machine) : Type 0 where
   pub hides : (i : ℕ) → covers (claims_of n.control).inputs (most_neg + i) ≡ true → get_or n.store i None ≡ None
   pub seen : IsSeenOutside (claims_of n.control).inputs n.store
 
--- so it is of a processor
+-- the same holds for a processor
 as_processor : (n : Machine) → AreVeils Processor n → IsVeiled n
 as_processor n v = record { claimed = v.held.0; apart = v.held.1; hides = v.hides; seen = v.seen }
 
@@ -60,7 +60,7 @@ held_size (Source done rest) n t e h =
     record { start = h.start; control = h.control; within = rw e h.within; each = h.each }
 held_size (Sink kept) n t e h = record { room = h.room; control = h.control; within = h.within ∙ sym e }
 
--- so it is once it is hidden, where all other bytes are seen
+-- the same holds once it is hidden, where all other bytes are seen
 pub hidden_veils : (role : Role) (n : Machine) → IsHeld role n → IsSeenOutside (claims_of n.control).inputs n.store
     → AreVeils role (hidden n)
 hidden_veils role n h seen =

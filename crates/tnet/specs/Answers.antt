@@ -24,7 +24,7 @@ pub record DoesNet (e : Event) (answer : NetAnswer) (old : NetState) (result : R
 abbrev pub DoesEvent : Event → NetState → Result Emitted StepFault → NetState → Type 0
 DoesEvent e old result new = DoesNet e (net_happens e old) old result new
 
--- a node of a net does an event, and the rest of the net stands; or there is no such node
+-- a node of a net does an event, and the rest of the net is unchanged; or there is no such node
 abbrev pub DoesAt : ℕ → NodeEvent → Option NodeState → NetState → Result Emitted StepFault → NetState → Type 0
 DoesAt n e None old result new = (result ≡ Err NotEnabled) × (new ≡ old)
 DoesAt n e (Some node) old result new = (result ≡ node_answered (happens e node))
@@ -35,12 +35,12 @@ abbrev pub Did : Option NetState → NetState → Bool → NetState → Type 0
 Did None old result new = (result ≡ false) × (new ≡ old)
 Did (Some net) old result new = (result ≡ true) × (new ≡ net)
 
--- room for the message of an input, in so many bytes
+-- room for the message of an input, in `room` bytes
 abbrev pub HasMessageRoom : Option Offer → ℕ → Type 0
 HasMessageRoom input room = IfSome input (λ (o : Offer). o.length ≤ room)
 
--- the links where what the next byte completes surely stands after an act: all after one that takes a packet, and all
--- others after one that takes a byte
+-- the links where what the next byte completes is surely the same after an act: all after one that takes a packet, and
+-- all others after one that takes a byte
 abbrev pub KeepsInput : Act → ℕ → Type 0
 KeepsInput (Data k) l = ⊤
 KeepsInput (Ack k) l = ⊤

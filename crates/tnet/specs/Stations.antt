@@ -117,15 +117,15 @@ abbrev pub after_asked : (NodeState → NodeState × RunsDone) → Option Done �
 after_asked rest None node = (node, record { count = 0; note = None })
 after_asked rest (Some d) node = after_run rest d.note node
 
--- at most so many runs of a node in a row, as others see them: the node after them, how many were done, and what the
--- last one told, if it told something
+-- at most this number of runs of a node in a row, as others see them: the node after them, how many were done, and
+-- what the last one told, if it told something
 unfoldable pub runs_done : ℕ → (ℕ → Option End) → ℕ → NodeState → NodeState × RunsDone
 runs_done n far zero node = (node, record { count = 0; note = None })
 runs_done n far (suc k) node =
     after_asked (λ m. runs_done n far k m) (done_of n far at_node.Run node)
     (node_left_by node (happens at_node.Run node))
 
--- so many runs that told nothing, and the answer of the one behind them, which is the last: it halted the processor,
+-- k runs that told nothing, and the answer of the one behind them, which is the last: it halted the processor,
 -- was not enabled, or froze the node
 abbrev pub last_told : ℕ → ℕ → Result Emitted StepFault → RunsDone
 last_told n k (Ok e) = record { count = k + 1; note = Some (Halt n) }

@@ -178,14 +178,14 @@ fn first_bad_end(plan: &Plan) -> Option<usize>
     None
 }
 
-/// Whether two ends are one.
+/// Whether two ends are the same.
 fn is_same_end(e: End, f: End) -> bool
     ensures { result ≡ same_end e f }
 {
     e.node == f.node && e.link == f.link
 }
 
-/// The first wire whose two ends are one.
+/// The first wire whose two ends are the same.
 fn first_same_end(wires: &[Wire]) -> Option<usize>
     ensures { result ≡ position (λ w. same_end w.a w.b) wires.now }
 {

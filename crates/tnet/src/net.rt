@@ -50,16 +50,16 @@ impl Model for Net {
 
 impl Net {
     /// The net of a plan: of each node the segments are loaded in their order, later over earlier, and then the
-    /// processes are added in theirs; no packet and no byte is about.
+    /// processes are added in theirs; no packet and no byte is on its way.
     ///
     /// # Errors
     /// The lowest fault of the plan, with its first place; `OutOfMemory` where the allocator refused, but never for a
-    /// plan whose fault shows before anything is built. The plan is given up.
+    /// plan whose fault shows before anything is built. The plan is dropped.
     pub fn build(alloc: Global, plan: Plan) -> Result<Self, BuildFault>
         ensures exact { result ≢ Err OutOfMemory → result ≡ built plan }
         ensures sound { IfOk result IsSound }
 
-        // memory is wanted only for a plan without the faults that show before anything is built
+        // memory can be lacking only for a plan without the faults that show before anything is built
         ensures wanted { result ≡ Err OutOfMemory → IsWellFormed plan }
 
         // what is seen of the net is the rendezvous machine's opening of the same plan

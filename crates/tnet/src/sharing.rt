@@ -5,7 +5,7 @@ ghost use Rattle.tnet.specs.Sharing as spec;
 
 use tword::limits::MOST_WORKERS;
 
-/// Whether a net is never shared among so many workers.
+/// Whether a net is never shared among this number of workers.
 pub fn is_bad_count(workers: usize) -> bool
     ensures { result ≡ spec.is_bad_count workers }
 {

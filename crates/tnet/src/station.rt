@@ -182,7 +182,7 @@ pub fn act(
     }
 }
 
-/// Does runs of a node in a row, at most so many, until one tells something or none is enabled: how many were done, and
+/// Does runs of a node in a row, at most `most`, until one tells something or none is enabled: how many were done, and
 /// what the last one told.
 pub fn run(number: u8, node: &mut Node, most: u32) -> RunsDone
     ensures { (far : ℕ → Option End) → (node.new, result) ≡ runs_done number far most node.old }
@@ -194,7 +194,7 @@ pub fn run(number: u8, node: &mut Node, most: u32) -> RunsDone
     }
 }
 
-/// What others see of so many runs that told nothing, and of the answer of the one behind them.
+/// What others see of `count` runs that told nothing, and of the answer of the one behind them.
 fn last_told(number: u8, count: u32, answer: Result<Emitted, StepFault>) -> RunsDone
     requires { count + 1 < 2 ^ 32 }
     ensures { result ≡ spec.last_told number count answer }

@@ -71,7 +71,7 @@ fn sought_row(wires: &[Wire], node: u32) -> Row<Option<End>>
 }
 
 impl Wires {
-    /// These wires between so many nodes. The far end of each end is sought here, and never again.
+    /// These wires between `nodes` nodes. The far end of each end is sought here, and never again.
     ///
     /// # Errors
     /// Where the allocator refuses.

@@ -9,7 +9,7 @@ use Rattle.topening.specs.declared.verdict.Verdict.{Verdict}
 use Rattle.topening.specs.Faults.{status_of}
 use Rattle.topening.specs.Verdicts.{verdict_status}
 
--- the exit status of a command: that of what it comes to, or that of its fault
+-- the exit status of a command: that of its verdict, or that of its fault
 abbrev pub exit_status : Result Verdict Fault → ℕ
 exit_status (Ok v) = verdict_status v
 exit_status (Err f) = status_of f

@@ -22,7 +22,7 @@ use Rattle.tfiles.specs.Logs.{line}
 use Rattle.tfiles.specs.Texts.{break_name, words}
 use Rattle.twhere.specs.Standing.{word_text}
 
--- want of memory has the same line wherever it was met
+-- lack of memory has the same line wherever it showed
 abbrev pub memory_words : List (List ℕ)
 memory_words = codes "memory" ∷ []
 

@@ -1,4 +1,4 @@
--- Faults: which are want of memory, and the exit statuses of all of them; which fault is answered, and what has gone
+-- Faults: which are lack of memory, and the exit statuses of all of them; which fault is answered, and what has gone
 -- out then.
 -- Source: own choice.
 use Rattle.std.specs.Prelude.{ℕ, ◌≡◌, Bool, true, false, if◌then◌else◌, List, Option, Result, Err, IsOk, IsOkAnd}
@@ -14,7 +14,7 @@ use Rattle.tfiles.specs.Outputs.{IsCut}
 use Rattle.topening.specs.declared.fault.Fault.{Fault}
 use Rattle.topening.specs.declared.fault.Fault.TheVariants as fault
 
--- memory was wanted, wherever that was met
+-- there was no memory, wherever that showed
 abbrev pub wants_memory : Fault → Bool
 wants_memory fault.Memory = true
 wants_memory (fault.Wiring wiring.OutOfMemory) = true
@@ -26,7 +26,7 @@ wants_memory (fault.Names names.OutOfMemory) = true
 wants_memory (fault.Replay replays.OutOfMemory) = true
 wants_memory f = false
 
--- the same fault, but want of memory as such, wherever it was met
+-- the same fault, but lack of memory as `Memory`, wherever it showed
 abbrev pub settled : Fault → Fault
 settled f = if wants_memory f then fault.Memory else f
 
@@ -38,13 +38,13 @@ status_of f = if wants_memory f then 4 else 2
 
 -- ---- which fault is answered
 
--- a fault is the one that is due, unless memory was wanted; nothing was to be written yet
+-- a fault is the one that is due, unless there was no memory; nothing was to be written yet
 abbrev pub IsFaultOf : {T : Type 0} → Result T Fault → Fault → Type 0
 IsFaultOf due fault.Memory = Unit {0}
 IsFaultOf due (fault.Output f) = ⊥
 IsFaultOf due f = due ≡ Err f
 
--- a fault of a text call is the one that is due, unless memory was wanted or the text that was due could not be
+-- a fault of a text call is the one that is due, unless there was no memory or the text that was due could not be
 -- written
 abbrev pub IsDue : {T : Type 0} → Result T Fault → Fault → Type 0
 IsDue due (fault.Output f) = IsOk due

@@ -1,4 +1,4 @@
--- What a command comes to that leaves a net, and the exit statuses of what commands come to.
+-- The verdict of a command that leaves a net, and the exit statuses of verdicts.
 -- Source: own choice.
 use Rattle.std.specs.Prelude.{ℕ, is_some, Bool, if◌then◌else◌}
 use Rattle.std.specs.List.{list_any}
@@ -10,11 +10,11 @@ use Rattle.topening.specs.declared.verdict.Verdict.TheVariants as verdict
 abbrev pub has_frozen : NetState → Bool
 has_frozen net = list_any (λ n. is_some n.broken) net.nodes
 
--- what a command comes to that leaves a net, by whether a node of it is frozen
+-- the verdict of a command that leaves a net, by whether a node of it is frozen
 abbrev pub net_verdict : NetState → Verdict
 net_verdict net = if has_frozen net then verdict.Marked else verdict.Clear
 
--- the exit status of what a command comes to
+-- the exit status of a verdict
 abbrev pub verdict_status : Verdict → ℕ
 verdict_status verdict.Clear = 0
 verdict_status verdict.Marked = 1

@@ -10,9 +10,9 @@ use crate::fault_line::write_fault;
 use crate::verdict::Verdict;
 use tfiles::counted::CountedWrite;
 
-/// The end of a command, from its answer, what it comes to or its fault: writes the line of a fault, and nothing else,
-/// and answers the exit status of the program: that of the verdict, 2 for bad input, 3 where the output failed or no
-/// log was found, 4 where there was no memory. Where the writer fails too, the status alone tells.
+/// The end of a command, from its answer, which is its verdict or its fault: writes the line of a fault, and nothing
+/// else, and answers the exit status of the program: that of the verdict, 2 for bad input, 3 where the output failed
+/// or no log was found, 4 where there was no memory. Where the writer fails too, only the status tells of the fault.
 pub fn end_command<W: CountedWrite>(answer: Result<Verdict, Fault>, err: &mut W) -> u8
     ensures status { result ≡ spec.exit_status answer }
     ensures line { MatchResult answer

@@ -21,10 +21,10 @@ pub enum Fault {
     /// The file of this name could not be read, or its text is not UTF-8.
     #[error("the file {0} cannot be read")]
     File(String),
-    /// The wiring file is none.
+    /// The wiring file is no wiring.
     #[error("the file is no wiring: {0}")]
     Wiring(WiringFault),
-    /// The image of this node is none.
+    /// The file of this node is no image.
     #[error("the file of node {0} is no image: {1}")]
     Image(usize, ImageFault),
     /// The wiring with its images is no net.
@@ -33,10 +33,10 @@ pub enum Fault {
     /// The rounds were refused.
     #[error("the rounds were refused: {0:?}")]
     Rounds(NetFault),
-    /// The log is none.
+    /// The log file is no log.
     #[error("the file is no log: {0}")]
     Log(LogFault),
-    /// A file of names is none.
+    /// A file of names is no file of names.
     #[error("the file is none of names: {0}")]
     Names(NamesFault),
     /// An event of the log is not enabled.
@@ -72,7 +72,7 @@ impl Fault {
         }
     }
 
-    /// The same fault, but `Memory` where memory was wanted, wherever that was met.
+    /// The same fault, but `Memory` where there was no memory, wherever that showed.
     fn settled(self) -> Fault
         ensures { result ≡ spec.settled self }
     {
@@ -83,7 +83,7 @@ impl Fault {
         }
     }
 
-    /// Whether memory was wanted, wherever that was met.
+    /// Whether there was no memory, wherever that showed.
     fn wants_memory(&self) -> bool
         ensures { result ≡ spec.wants_memory self.now }
     {

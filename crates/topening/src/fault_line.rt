@@ -24,7 +24,7 @@ use tword::Word;
 /// the program: 2 for bad input, 3 where the output failed or no log was found, 4 where there was no memory.
 ///
 /// # Errors
-/// Where the writer fails or takes nothing. Just so many of the first bytes are written as the fault tells.
+/// Where the writer fails or takes nothing. Then only the first bytes are written, as many as the fault tells.
 pub fn write_fault<W: CountedWrite>(fault: &Fault, out: &mut W) -> Result<u8, WriteFault>
     ensures line { IsOut (W.contents out.old) (W.contents out.new) (spec.fault_line fault.now) result }
     ensures status { IfOk result (λ status. status ≡ status_of fault.now) }

@@ -4,7 +4,7 @@
 //! - `fault`, `fault_line`: what may be wrong with the files, and the line that says so
 //! - `opening`: the net of a wiring and its images
 //! - `log_events`: which events of a log are done, and what they lead to
-//! - `verdict`: what commands come to, as their exit statuses tell
+//! - `verdict`: the results of commands, as their exit statuses tell them
 //! - `ending`: the end of a command
 #![tactic(auto)]
 

@@ -1,11 +1,11 @@
-//! What commands come to.
+//! The results of commands.
 
 ghost use Rattle.std.specs.Prelude.{◌≡◌};
 ghost use Rattle.topening.specs.Verdicts as spec;
 
 use tnet::Net;
 
-/// What a command comes to that is done.
+/// The result of a command that was done without a fault.
 #[derive(Clone, Copy)]
 pub enum Verdict {
     /// No node is frozen; of an exploration: there is one outcome, and no freeze.

@@ -65,7 +65,7 @@ module _ (net : NetState) where
       (all_zipped_more (IsStanding net) (take k ts) ss (get_or ts k none) s h
       (at (get_or ts k none) (slice_get-get_or ts k none below)))
 
-  -- where it stands at so many outcomes as were asked for
+  -- where it stands at as many outcomes as were asked for
   pub are_standings : (ts : List Telling) (ss : List (Option (List ℕ))) (k : ℕ) → k ≤ length ts
       → AllZip (IsStanding net) (take k ts) ss → AreStandings net ts ss
   are_standings ts ss k few h =

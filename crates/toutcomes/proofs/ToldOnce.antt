@@ -1,4 +1,4 @@
--- What is told of configurations: each is told by the first that is one with it, and nothing else is told.
+-- What is told of configurations: each is told by the first that is the same, and nothing else is told.
 use Rattle.std.proofs.Common.{◌≡◌, ◌⊎◌, ◌&&◌, ◌||◌, ℕ, zero, suc, refl, sym, ap, subst, ◌∙◌, cond, Bool, true, false}
 use Rattle.std.proofs.Common.{List, [], ◌∷◌, ◌++◌, Option, Some, None, inl, inr, arith, true≢false}
 use Rattle.std.proofs.Common.{◌<◌, get_or, length}
@@ -52,7 +52,7 @@ of_map {A = A} {B = B} f xs y =
     (All-map (λ (z : B). (x : A) × Contains xs x × (z ≡ f x)) f xs
     (λ k d within. (get_or xs k d, Contains-get_or xs k d within, refl)))
 
--- ---- two are one
+-- ---- two are the same
 
 pub and_left : (a b : Bool) → (a && b) ≡ true → a ≡ true
 and_left true b e = refl
@@ -69,7 +69,7 @@ agrees false t = (bytes_eq-Decides t.dump t.dump).1 refl
 alike : (t : Telling) → is_one t t ≡ true
 alike t = rw ((bytes_eq-Decides t.heading t.heading).1 refl) (agrees t.is_freeze t)
 
--- outcomes that are one are told alike
+-- outcomes that are the same are told alike
 same_outcome : (t u : Telling) → is_one t u ≡ true → u.is_freeze ≡ false → t ≡ u
 same_outcome t u e works = by t.is_freeze u.is_freeze refl refl works (and_right _ _ e)
   where
@@ -112,7 +112,7 @@ told_one x told = by (list_any (λ earlier. is_one earlier x) told) refl
     by true is = found (λ earlier. is_one earlier x) told is
     by false is = (x, Contains-push told x, alike x)
 
--- each is told by one that is one with it
+-- each is told by one that is the same
 told_each : (ts told : List Telling) (x : Telling) → Contains ts x
     → (t : Telling) × Contains (fold with_telling told ts) t × (is_one t x ≡ true)
 told_each [] told x (k, within, is) = absurd (omega (arith, within))
@@ -180,7 +180,7 @@ apart_all : (ts told : List Telling) → AreApart told → AreApart (fold with_t
 apart_all [] told h = h
 apart_all (x ∷ xs) told h = apart_all xs (with_telling told x) (apart_one x told h)
 
--- no two of those that are told are one
+-- no two of those that are told are the same
 pub told_once : (shown : List Configuration) → AreApart (tellings shown)
 told_once shown = apart_all (map telling shown) [] (λ i j d below within. absurd (omega (arith, within)))
 

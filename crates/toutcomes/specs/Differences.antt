@@ -35,7 +35,7 @@ are_of_one_place a b = is_of_memory a && (is_of_memory b && bytes_eq (take 9 a) 
 abbrev pub agree_or_differ_in_memory : List ℕ → List ℕ → Bool
 agree_or_differ_in_memory a b = bytes_eq a b || are_of_one_place a b
 
--- lines agree with others, in number and order, but for what stands in memories
+-- lines agree with others, in number and order, except for what stands in memories
 abbrev pub agree_elsewhere : List (List ℕ) → List (List ℕ) → Bool
 agree_elsewhere [] [] = true
 agree_elsewhere [] (b ∷ ms) = false

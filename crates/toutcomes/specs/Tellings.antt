@@ -98,11 +98,12 @@ agree true true a b = true
 agree false false a b = bytes_eq a.dump b.dump
 agree _ _ a b = false
 
--- two tellings are one outcome where heading and dump are the same, and one freeze where the heading is
+-- two tellings tell of the same outcome where heading and dump are the same, and of the same freeze where the heading
+-- is
 abbrev pub is_one : Telling → Telling → Bool
 is_one a b = bytes_eq a.heading b.heading && agree a.is_freeze b.is_freeze a b
 
--- one more telling behind others, unless it is one with an earlier one
+-- one more telling behind others, unless it is the same as an earlier one
 abbrev pub with_telling : List Telling → Telling → List Telling
 with_telling told t = if list_any (λ earlier. is_one earlier t) told then told else told ++ t ∷ []
 

@@ -7,7 +7,7 @@ ghost use Rattle.toutcomes.specs.Differences as spec;
 use tfiles::counted::CountedWrite;
 use tfiles::writing::output::Output;
 
-/// Whether two texts agree but for what stands in memories.
+/// Whether two texts agree except for what stands in memories.
 pub(crate) fn agree_elsewhere(one: &[u8], other: &[u8]) -> bool
     ensures { result ≡ spec.agree_elsewhere (spec.text_lines one.now) (spec.text_lines other.now) }
 {

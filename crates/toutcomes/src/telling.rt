@@ -53,7 +53,7 @@ pub fn telling_of(alloc: Global, state: &Rendezvous) -> Result<Telling, AllocErr
     }
 }
 
-/// Whether two tellings are one outcome, or one freeze.
+/// Whether two tellings tell of the same outcome, or of the same freeze.
 pub fn is_one(one: &Telling, other: &Telling) -> bool
     ensures { result ≡ spec.is_one one.now other.now }
 {

@@ -5,11 +5,11 @@ use Rattle.std.proofs.lemmas.Bool.{cases_eq, and_parts, and_from, eqb-true, eq-e
 use Rattle.tplan.specs.declared.plan.End.{End}
 use Rattle.tplan.specs.Wires.{end_at, same_end}
 
--- two ends of the same node and link are one
+-- two ends of the same node and link are the same
 pub end_same : (e f : End) → e.node ≡ f.node → e.link ≡ f.link → e ≡ f
 end_same e f p q = ap (λ (m : ℕ). end_at m e.link) p ∙ ap (λ (k : ℕ). end_at f.node k) q
 
--- ends that the test finds the same are one
+-- ends that the test finds the same are equal
 pub same_end-true : (e f : End) → same_end e f ≡ true → e ≡ f
 same_end-true e f h =
     let both : ((e.node == f.node) ≡ true) × ((e.link == f.link) ≡ true) = and_parts _ _ h in
@@ -23,7 +23,7 @@ same_end-self e = and_from _ _ (eq-eqb e.node e.node refl) (eq-eqb e.link e.link
 pub same_end-false : (e f : End) → same_end e f ≡ false → e ≢ f
 same_end-false e f h q = let p : true ≡ false = sym (same_end-self f) ∙ rw q at h in cc
 
--- two ends are one, or not
+-- two ends are the same, or not
 pub cases_end : (e f : End) → (e ≡ f) ⊎ (e ≢ f)
 cases_end e f = by (same_end e f) refl
   where

@@ -1,11 +1,11 @@
-//! Names of files, as texts that contracts see as their bytes alone.
+//! Names of files, as texts that contracts see only as their bytes.
 
 ghost use Rattle.std.specs.Prelude.{◌≡◌, IfOk};
 
 use std::alloc::{AllocError, Global};
 use std::marker::Model;
 
-/// The name of a file, which contracts see as its bytes alone.
+/// The name of a file, which contracts see only as its bytes.
 #[derive(Debug, Drop)]
 pub struct FileName {
     text: String,

@@ -99,7 +99,7 @@ pub enum BuildFault {
     BadTimeslice,
     /// An end of this wire, source or sink is no link of a node.
     BadEnd(usize),
-    /// The two ends of this wire are one.
+    /// The two ends of this wire are the same.
     SameEnd(usize),
     /// An end of this wire, source or sink is one of an earlier one.
     EndTwice(usize),

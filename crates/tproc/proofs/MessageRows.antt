@@ -46,7 +46,7 @@ module _ (n : ℕ) (K : Kind → List ℕ → List ℕ → List Waiter → List 
       → deschedule_break n c m.registers.wptr ≡ None → Obeys K (waiting_for process reason m)
   waits-keeps process reason m c f own h = law.waits process reason m c f.0 f.1 own h
 
-  -- one that waits, but for no link, is queued
+  -- one that waits, and not for a link, is queued
   release-keeps : (process : ℕ) (reason : Reason) (m : Control) (c : Claims) → Obeys K m
       → HasWaiter m.waiting process reason → IsNoLink reason → Leads n (PartObeys K) c (release process m)
   unfolding release

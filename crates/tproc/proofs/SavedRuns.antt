@@ -40,8 +40,8 @@ LinkIs (Some x) w s t =
     (x.0 ≡ w → x.1 < 2 ^ 32 → word_at t (word_below w link_word) ≡ x.1)
     × ((x.0 ≡ w → ⊥) → word_at t (word_below w link_word) ≡ word_at s (word_below w link_word))
 
--- what a store leaves of another: the saved Iptr of each workspace that is watched, and its link but for the one that
--- was set
+-- what a store leaves of another: the saved Iptr of each workspace that is watched, and its link except for the one
+-- that was set
 pub record Leaves (watched : List ℕ) (link : Option (ℕ × ℕ)) (s t : Store) : Type 0 where
   pub size : length t ≡ length s
   pub iptrs : (w : ℕ) → is_among w watched ≡ true
@@ -181,7 +181,7 @@ module _ (n : ℕ) (small : n ≤ 2 ^ 31) (D : List ℕ) where
               omega (arith, e, leb-true _ _ slots.0, leb-true _ _ slots.1);
         }
 
-    -- it stands where cells are put apart from it
+    -- it is unchanged where cells are put apart from it
     word_stands : (t t' : Store) (w k : ℕ) → length t ≡ n → has_saved c w ≡ true → is_slot k ≡ true
         → Stands (Some (word_span (word_below w k)) ∷ []) t t'
         → word_at t' (word_below w k) ≡ word_at t (word_below w k)
@@ -234,7 +234,7 @@ module _ (n : ℕ) (small : n ≤ 2 ^ 31) (D : List ℕ) where
         leaves_then D l first t (with_cells t span.start new) h (put_size t span new e inside size)
         (λ w k d s _. put_word t span new e inside unsaved size w k (f.among w d) s)
 
-    -- two saved words are at different addresses, unless they are one
+    -- two saved words are at different addresses, unless they are the same
     addresses : (v j w k : ℕ) → has_saved c v ≡ true → is_slot j ≡ true → has_saved c w ≡ true → is_slot k ≡ true
         → (v ≡ w → j ≡ k → ⊥) → word_below v j ≡ word_below w k → ⊥
     addresses v j w k a h b i differs e = by (cases_eq v w)
@@ -309,7 +309,7 @@ module _ (n : ℕ) (small : n ≤ 2 ^ 31) (D : List ℕ) where
           );
         }
 
-  -- so it is for a run
+  -- the same holds for a run
   pub sets_run : {A : Type 0} (Q : Option (ℕ × ℕ) → A → Type 0) (x : Action A) (first old new : Store) (c : Claims)
       (l : Option (ℕ × ℕ)) (a : A) (s : Store)
       → length first ≡ n → length old ≡ n → IsFine n D c → Leaves D l first new → Sets D Q l x

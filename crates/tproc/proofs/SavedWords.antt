@@ -1,5 +1,5 @@
--- The first two saved words of each process that is queued or waits stand in each move, but for the link of the last of
--- a queue that another process joins.
+-- The first two saved words of each process that is queued or waits are unchanged by each move, except for the link of
+-- the last of a queue that another process joins.
 use Rattle.std.proofs.Common.{◌≡◌, ℕ, zero, suc, ◌+◌, ◌-◌, ◌<◌, ◌≤◌, refl, sym, ap, subst, ◌∙◌, List, [], ◌∷◌, ◌++◌}
 use Rattle.std.proofs.Common.{length, take, drop, Bool, true, false, All, Ok, Option, Some, None, inl, inr, arith}
 use Rattle.std.specs.Prelude.{◌==◌, IfSome, option_map}
@@ -356,7 +356,7 @@ module _ (n n' : Machine) (p : IsPlaced n) (words : All IsWord (descheduled n'.c
           inr (joined link leaves n.control.low n'.control.low v e (λ w. omega arith) behind.1
           (is_word v (omega (arith, pushed v n.control.low n'.control.low behind.1))))
 
--- so the saved words stand in each move
+-- so the saved words are unchanged by each move
 pub saved_words_stand : SavedWordsStand
 saved_words_stand n p =
     record {

@@ -56,7 +56,7 @@ last_is : (w : ℕ) (ws : List ℕ) → last_of (w ∷ ws) ≡ Some (last_from w
 last_is w ws = let e : length (w ∷ ws) - 1 ≡ length ws = omega arith in rw e (last_found w ws)
 
 module _ (n n' : Machine) where
-  -- a chain whose links stand, but for that of the last
+  -- a chain whose links stand, except for that of the last
   chain_stands : (w : ℕ) (ws : List ℕ) → LinksStand (take (length ws) (w ∷ ws)) n n' → Chain n.store w ws
       → Chain n'.store w ws
   chain_stands w [] h c = tt

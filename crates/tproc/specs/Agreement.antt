@@ -30,11 +30,11 @@ Agrees claims m = AgreesWith [] claims m
 abbrev pub StillAgrees : Control → Control → Type 0
 StillAgrees m m' = (others : List ℕ) (c : Claims) → AgreesWith others c m → AgreesWith others c m'
 
--- whatever claims agreed but for this workspace agree now
+-- whatever claims agreed except for this workspace agree now
 abbrev pub Settles : ℕ → Control → Control → Type 0
 Settles w m m' = (others : List ℕ) (c : Claims) → AgreesWith (w ∷ others) c m → AgreesWith others c m'
 
--- whatever claims agreed do so now but for this workspace
+-- whatever claims agreed do so now except for this workspace
 abbrev pub Unsettles : ℕ → Control → Control → Type 0
 Unsettles w m m' = (others : List ℕ) (c : Claims) → AgreesWith others c m → AgreesWith (w ∷ others) c m'
 

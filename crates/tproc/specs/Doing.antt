@@ -25,7 +25,7 @@ use Rattle.tproc.specs.Steps.{after, step, step_left_by, step_answered}
 abbrev pub machine_of : Engine → Machine
 machine_of engine = record { control = engine.state; store = engine.claimed.memory.bytes }
 
--- what came of an action: control and store are what it gives; or its break is named, and both are as they were
+-- the result of an action: control and store are what it gives; or its break is named, and both are as they were
 abbrev pub CameOf : {A : Type 0} → Result ((Control × A) × Store) Break → Control → Store → Result A Break → Control
     → Store → Type 0
 CameOf (Ok ((m, x), s)) old cells result new cells' = (result ≡ Ok x) × (new ≡ m) × (cells' ≡ s)
@@ -44,12 +44,12 @@ DoesFrom from x old result new =
     new.state
     new.claimed.memory.bytes
 
--- the store where a row has first laid a word down at the workspace, if it does so
+-- the store where a row has first stored a word at the workspace, if it does so
 abbrev pub laid : Option ℕ → ℕ → Store → Store
 laid None workspace cells = cells
 laid (Some word) workspace cells = with_word cells workspace word
 
--- an action is done where the row first lays a word down at the workspace, if it does so
+-- an action is done where the row first stores a word at the workspace, if it does so
 abbrev pub DoesLaid : {A : Type 0} → Option ℕ → Action (Control × A) → Engine → Result A Break → Engine → Type 0
 DoesLaid first x old result new =
     CameOf
@@ -57,7 +57,7 @@ DoesLaid first x old result new =
     old.claimed.memory.bytes)) old.state
     old.claimed.memory.bytes result new.state new.claimed.memory.bytes
 
--- an action of the control alone, as a step
+-- an action that changes only the control, as a step
 abbrev pub as_step : Action Control → StepAction
 as_step x = x >>= (λ m. answer (m, ran.Instruction))
 
@@ -77,7 +77,7 @@ abbrev pub onward : {A B : Type 0} → Result A Break → (A → Result B Break)
 onward (Ok x) rest = rest x
 onward (Err b) rest = Err b
 
--- the part of an action is done where the row has first laid a word down. from: the store with that word
+-- the part of an action is done where the row has first stored a word. from: the store with that word
 abbrev pub DoesActionFrom : {A : Type 0} → Action A → ClaimedMemory → Store → Result A Break → ClaimedMemory → Type 0
 DoesActionFrom {A} x old from result new =
     (f : A → StepAction) (store : Store) → length store ≡ length old.memory.bytes

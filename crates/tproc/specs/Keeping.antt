@@ -23,7 +23,8 @@ ClaimsStayApart = (n n' : Machine) (r : Ran) → IsPlaced n → step n ≡ Ok (n
 abbrev pub Stands : Offer → Machine → Machine → Type 0
 Stands o n n' = bytes_at n'.store o.buffer o.length ≡ bytes_at n.store o.buffer o.length
 
--- the buffer of a pending message stands in a step, and in whatever a link does but for the bytes that come in
+-- the buffer of a pending message is unchanged by a step, and by whatever a link does except for the bytes that come
+-- in
 abbrev pub ClaimedBytesStand : Type 0
 ClaimedBytesStand = (n : Machine) (l : ℕ) (o : Offer) → IsPlaced n → (output_of n l ≡ Some o) ⊎ (input_of n l ≡ Some o)
     → ((n' : Machine) (r : Ran) → step n ≡ Ok (n', r) → Stands o n n')

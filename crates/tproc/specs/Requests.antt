@@ -30,7 +30,7 @@ MayTouch claimed mode start size =
 abbrev pub MayDeschedule : ClaimedMemory → (workspace : ℕ) → Type 0
 MayDeschedule claimed workspace = deschedule_break (length claimed.memory.bytes) claimed.marks workspace ≡ None
 
--- a request, without the registers that go on and the word that is laid down
+-- a request, without the registers that go on and the word that is stored
 abbrev pub request : Request → channels.Request
 request q = record {
   process = q.process;
@@ -40,11 +40,11 @@ request q = record {
   length = q.length;
 }
 
--- the first word, if there is one, may be laid into the workspace of the process that asks
+-- the first word, if there is one, may be stored at the workspace of the process that asks
 abbrev pub MayLay : ClaimedMemory → (workspace : ℕ) (first : Option ℕ) → Type 0
 MayLay claimed workspace first = IfSome first (λ _. MayWriteWord claimed workspace)
 
--- a request of the process that runs, whose first word may be laid down
+-- a request of the process that runs, whose first word may be stored
 pub record IsRequest (q : Request) (engine : Engine) : Type 0 where
   pub own : IsOwn q.process engine.state
   pub free : MayLay engine.claimed engine.state.registers.wptr q.first
@@ -60,7 +60,7 @@ pub record MayLeave (claimed : ClaimedMemory) (workspace : ℕ) (q : channels.Re
 abbrev pub is_own_word : (workspace address : ℕ) → Bool
 is_own_word w address = (address == word_below w 1) || (address == word_below w 2) || (address == word_below w 3)
 
--- a message that was laid down at the workspace is offered
+-- a message that was stored at the workspace is offered
 abbrev pub offers_at_workspace : ℕ → ℕ → Control → channels.StepAction
 offers_at_workspace length process m =
     let r = m.registers in

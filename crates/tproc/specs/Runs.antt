@@ -1,5 +1,5 @@
 -- Steps in a row.
--- Source: own choice, what several steps come to.
+-- Source: own choice, the result of several steps.
 use Rattle.std.specs.Prelude.{◌≡◌, ◌⊎◌, ℕ, zero, suc, ◌+◌, ◌-◌, ◌<◌, Bool, true, false, [], Option, Some, None, Result}
 use Rattle.std.specs.Prelude.{Ok, Err, unwrap_or, if◌then◌else◌}
 use Rattle.tword.specs.declared.breaks.Break.{Break}
@@ -16,7 +16,7 @@ goes_on ran.Idle = false
 goes_on ran.Halted = false
 goes_on _ = true
 
--- a row with so many more steps in front
+-- a row with k more steps in front
 abbrev pub behind : ℕ → Machine × RanMany → Machine × RanMany
 behind k (n, row) = (n, record { count = k + row.count; last = row.last })
 
@@ -29,9 +29,9 @@ abbrev pub followed : (Machine → Machine × RanMany) → Result Ran Break → 
 followed rest (Ok r) n = if goes_on r then behind 1 (rest n) else (n, ends_with (Some (Ok r)))
 followed rest (Err b) n = (n, ends_with (Some (Err b)))
 
--- at most so many steps in a row: the machine after them, how many were done that may be followed by another, and the
--- answer of the step behind them, where that is the last one: it halted the processor, there was none, or it breaks a
--- rule
+-- at most this number of steps in a row: the machine after them, how many were done that may be followed by another,
+-- and the answer of the step behind them, where that is the last one: it halted the processor, there was none, or it
+-- breaks a rule
 unfoldable pub row : ℕ → Machine → Machine × RanMany
 row zero n = (n, ends_with None)
 row (suc k) n = followed (λ m. row k m) (step_answered (step n)) (step_left_by n (step n))
@@ -41,7 +41,7 @@ abbrev pub rest_of_row : ℕ → Option (Result Ran Break) → Machine → Machi
 rest_of_row left None n = row left n
 rest_of_row left (Some answer) n = followed (λ m. row (left - 1) m) answer n
 
--- the process that runs, of this priority, does its next instructions, this many, and no other has a say: it is high,
+-- the process that runs, of this priority, does its next instructions, this many, and no other may run: it is high,
 -- or no high one is queued and its timeslice goes on behind them
 pub record RunsAlone (priority count : ℕ) (m : Control) : Type 0 where
   pub going : m.halted ≡ false

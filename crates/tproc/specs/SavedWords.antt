@@ -45,7 +45,7 @@ abbrev pub QueueGoesOn : (before after : List ℕ) → Machine → Machine → T
 QueueGoesOn before after n n' = (IsRestOf before after × LinksStand before n n') ⊎ IsJoined before after n n'
 
 -- what a move leaves of the saved words: each saved Iptr, the link of each process that waits, and those of the queues
--- but for the last one of a queue that another process joins
+-- except for the last one of a queue that another process joins
 pub record SavedStand (n n' : Machine) : Type 0 where
   pub iptrs : All (λ w. WordStands iptr_word w n n') (descheduled n.control)
   pub waiting : LinksStand (map (λ w. workspace_of w.process) n.control.waiting) n n'
@@ -64,7 +64,7 @@ pub record OfEachMove (P : Machine → Machine → Type 0) (n : Machine) : Type 
       IsTrue (is_inside (length n.store) span) → is_saved (claims_of n.control) span ≡ false
       → P n (loaded start bytes n)
 
--- the first two saved words of a process that is queued or waits stand until the scheduler sets them
+-- the first two saved words of a process that is queued or waits are unchanged until the scheduler sets them
 abbrev pub SavedWordsStand : Type 0
 SavedWordsStand = (n : Machine) → IsPlaced n → OfEachMove SavedStand n
 

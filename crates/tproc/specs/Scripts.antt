@@ -5,11 +5,11 @@ use Rattle.tproc.specs.declared.offer.Offer.{Offer}
 use Rattle.tproc.specs.Machine.{Control}
 use Rattle.tproc.specs.LinkChannels.{link_end, with_link}
 
--- what is left of an offer behind so many bytes
+-- what is left of an offer behind n bytes
 abbrev pub offer_moved : ℕ → Offer → Offer
 offer_moved n o = record o { buffer = o.buffer + n; length = o.length - n }
 
--- the input of a link goes on behind so many bytes
+-- the input of a link goes on behind n bytes
 abbrev pub input_moved : ℕ → ℕ → Control → Control
 input_moved l n c =
     with_link l (record (link_end c l) { input = option_map (offer_moved n) (link_end c l).input }) c

@@ -278,7 +278,7 @@ noticed-running : state_noticed 0x8000_00f4 (with_enabled 2 0x8000_0101 (enables
 unfolding computes notice
 noticed-running = refl
 
--- the process that runs may not write its state word: the word stands
+-- the process that runs may not write its state word: the word is unchanged
 noticed-silent : state_noticed 0x8000_00f4
     (with_output 0 0x8000_00d1 0x8000_00f4 1 (with_enabled 2 0x8000_0101 (enables 0 0))) ≡ 0x8000_0001
 unfolding computes notice
@@ -296,7 +296,7 @@ noticed-waiting : (notice 2 (with_waiter 0x8000_00d1 Chooses (with_enabled 2 0x8
 unfolding computes notice
 noticed-waiting = refl
 
--- `startp` beside so many queued processes, in a larger memory
+-- `startp` beside a given number of queued processes, in a larger memory
 abbrev crowd : ℕ → List ℕ
 crowd zero = []
 crowd (suc k) = (0x8000_0120 + 12 * k) ∷ crowd k

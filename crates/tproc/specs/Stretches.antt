@@ -3,7 +3,7 @@
 use Rattle.std.specs.Prelude.{ℕ, zero, suc, ◌+◌}
 use Rattle.tproc.specs.Machine.{Control}
 
--- a control after so many instructions of a process of this priority that runs alone: a low one counts them
+-- a control after k instructions of a process of this priority that runs alone: a low one counts them
 abbrev pub alone_for : (priority count : ℕ) → Control → Control
 alone_for zero k m = m
 alone_for (suc p) k m = record m { count = m.count + k }

@@ -47,7 +47,7 @@ pub struct Request {
     pub channel: Word,
     pub buffer: Word,
     pub length: u32,
-    /// The word that is first laid down at the workspace, if the row does so.
+    /// The word that is first stored at the workspace, if the row does so.
     pub first: Option<Word>,
     /// The registers with which the process goes on, if it does not wait.
     pub after: Registers,
@@ -80,7 +80,7 @@ pub fn is_choosing(state: Word) -> bool
     state.get() == ENABLING || state.get() == READY
 }
 
-/// Lays the first word of a row down at the workspace, if the row has one.
+/// Stores the first word of a row at the workspace, if the row has one.
 pub fn lay(claimed: &mut ClaimedMemory, workspace: Word, first: Option<Word>)
     requires free { MayLay claimed.old workspace first }
     ensures cells { claimed.new.memory.bytes ≡ laid first workspace claimed.old.memory.bytes }

@@ -351,7 +351,7 @@ impl ClaimedMemory {
         self.memory.bytes.set_byte(address, byte);
     }
 
-    /// The byte at an address, and `None` outside the memory alone.
+    /// The byte at an address, and `None` only outside the memory.
     pub fn byte_at(&self, address: Word) -> Option<u8>
         ensures byte { result ≡ byte_at self.now.memory.bytes address }
         ensures there { is_some result ≡ is_inside (length self.now.memory.bytes) (byte_span address) }

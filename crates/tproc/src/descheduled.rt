@@ -43,7 +43,7 @@ impl Model for Descheduled {
 }
 
 impl Descheduled {
-    /// No queued and no waiting process, with room for all that may live in a memory of so many bytes.
+    /// No queued and no waiting process, with room for all that may live in a memory of `size` bytes.
     ///
     /// # Errors
     /// Where the allocator refuses.

@@ -38,7 +38,7 @@ pub fn start_queued(
 
 impl Engine {
     /// The first process that may run is dispatched: a high one, the interrupted one, a low one.
-    // In line, so that it costs little where there is none.
+    // Inlined, so that it costs little where there is none.
     #[inline(always)]
     pub fn dispatch(&mut self) -> Ran
         requires { AreThreaded (machine_of self.old) }

@@ -40,13 +40,13 @@ pub fn first_ready_guard_is_selected()
     ensures told { SelectedIsTold }
 {}
 
-/// The saved Iptr of each process that is queued or waits stands in each move, and so does its queue link, but for
-/// that of the last of a queue that another process joins.
+/// The saved Iptr of each process that is queued or waits is unchanged by each move, and so is its queue link, except
+/// for that of the last of a queue that another process joins.
 pub fn saved_words_stand()
     ensures { SavedWordsStand }
 {}
 
-/// Whoever follows the queue links from the front of a queue finds the queue: so it is before there is a process,
+/// Whoever follows the queue links from the front of a queue finds the queue: this holds before there is a process,
 /// and after each move.
 pub fn queues_stay_threaded()
     ensures first { EmptyIsThreaded }

@@ -43,7 +43,7 @@ impl Model for ProcessTable {
 }
 
 impl ProcessTable {
-    /// A table without processes, with room for all that may live in a memory of so many bytes.
+    /// A table without processes, with room for all that may live in a memory of `size` bytes.
     ///
     /// # Errors
     /// Where the allocator refuses.

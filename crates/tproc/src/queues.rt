@@ -122,7 +122,7 @@ impl State {
         ensures fewer { descheduled_count self.new + 1 ≡ descheduled_count self.old }
         ensures saved { StillSaved self.old self.new }
     {
-        // To count them is to know that there are no more than may live.
+        // Counting them lets the prover know that there are no more than may live.
         let _count = self.descheduled.len();
         self.descheduled.forget(process);
     }

@@ -208,7 +208,7 @@ impl Engine {
         self.message(&q)
     }
 
-    /// A process offers the message of this length that it lays down at its workspace, which it may write.
+    /// A process offers the message of this length that it stores at its workspace, which it may write.
     fn send_laid(&mut self, size: u32, priority: Priority) -> Result<Ran, Break>
         requires runs { RunsAt (number priority) self.old.state }
         requires free { MayWriteWord self.old.claimed self.old.state.registers.wptr }
@@ -228,7 +228,7 @@ impl Engine {
         self.message(&q)
     }
 
-    /// A process lays a message of this length down at its workspace and offers it.
+    /// A process stores a message of this length at its workspace and offers it.
     pub fn send_from_workspace(&mut self, size: u32, priority: Priority) -> Result<Ran, Break>
         requires runs { RunsAt (number priority) self.old.state }
         ensures { Does (sends_from_workspace size (self.old.state.registers.wptr + (number priority)) self.old.state)

@@ -80,7 +80,7 @@ pub fn workspace_of(process: Word) -> Word
 
 impl State {
     /// No process, nothing pending and both flags clear, on a node of a kind, with room for all processes that may live
-    /// in a memory of so many bytes.
+    /// in a memory of `size` bytes.
     ///
     /// # Errors
     /// Where the allocator refuses.
@@ -367,7 +367,7 @@ impl State {
         }
     }
 
-    /// So many instructions of a process that runs alone are counted, if it is low.
+    /// `count` instructions of a process that runs alone are counted, if it is low.
     #[inline]
     pub fn count_alone(&mut self, priority: Priority, count: u32)
         requires { RunsAlone (number priority) count self.old }
@@ -383,7 +383,7 @@ impl State {
         }
     }
 
-    /// The priority of the process that runs, and how many instructions it does before another may have a say: none
+    /// The priority of the process that runs, and how many instructions it does before another may run: none
     /// where no process runs.
     #[inline]
     pub fn stretch(&self) -> (Priority, u32)

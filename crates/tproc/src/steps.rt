@@ -234,7 +234,7 @@ impl Engine {
                 self.jumped(priority);
                 Ok(Ran::Instruction)
             }
-            // So that the answer of this call alone lies in memory.
+            // So that only the answer of this call lies in memory.
             Next::Schedule(o) => match self.scheduled(o, priority, i.length) {
                 Ok(ran) => Ok(ran),
                 Err(broken) => Err(broken),
@@ -247,8 +247,8 @@ impl Engine {
         }
     }
 
-    /// Instructions of the current process in a row, at most so many, while no other has a say and as long as each is
-    /// one of the most common ones and the process goes on behind it: how many were done.
+    /// At most `most` instructions of the current process in a row, while no other may run and as long as each
+    /// is one of the most common ones and the process goes on behind it: how many were done.
     pub fn go_on_alone(&mut self, priority: Priority, most: u32) -> u32
         requires { RunsAlone (number priority) most self.old.state }
         ensures gone { gone_on result self.old.claimed.memory.kind self.old.claimed.marks self.old.state.registers
@@ -263,7 +263,7 @@ impl Engine {
         count
     }
 
-    /// One instruction of the current process, while no other has a say. `None` where the process goes on, and nothing
+    /// One instruction of the current process, while no other may run. `None` where the process goes on, and nothing
     /// is changed but its registers, its count and the memory; else the answer of the step.
     #[tactic(auto, unfolding(crate::specs::Steps::instruction_step))]
     #[inline(always)]

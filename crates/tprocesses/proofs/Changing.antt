@@ -1,4 +1,4 @@
--- Changes of kinds that commute come to the same in both orders, and what a change awakens was shut.
+-- Changes of kinds that commute have the same result in both orders, and what a change awakens was shut.
 use Rattle.std.proofs.Common.{◌≡◌, ℕ, refl, sym, ap, ◌∙◌, Bool, true, false, true≢false}
 use lib.IntN.{+ℤ_comm, +ℤ_assoc}
 use Rattle.std.specs.Prelude.{ℤ, ◌+ℤ◌, ◌&&◌, is_some}

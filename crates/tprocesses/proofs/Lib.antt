@@ -1,4 +1,4 @@
--- whether agents and places are one
+-- whether agents and places are the same
 mod Told
 -- what instructions depend on
 pub mod Depended

@@ -179,7 +179,7 @@ module _ (p : Plan) (a : Agent) where
   spares_more seen [] c h k = (k, tt)
   spares_more seen (x ∷ xs) c h k = (h.0, spares_more seen xs c h.1 k)
 
-  -- so of one change, where it is so of the rest
+  -- the same of one change, where it holds for the rest
   step_open : (seen : Seen) (x : Changed) (b : Agent) (q : Place) → b ≢ a → IsGate (process_machine p) b q
       → Spares (process_machine p) a seen x → (after : Value → Value)
       → ((v : Value) → is_open p b q v ≡ true

@@ -1,4 +1,4 @@
--- Whether two agents or two places are one is told.
+-- Whether two agents or two places are the same is told.
 use Rattle.std.proofs.Common.{◌≡◌, ◌≢◌, ℕ, refl, sym, ap, ◌∙◌, Bool, true, false, List, [], ◌∷◌, true≢false}
 use Rattle.std.specs.Prelude.{◌==◌, ◌&&◌}
 use Rattle.std.proofs.lemmas.Bool.{and_parts, and_from, eqb-true, eq-eqb}
@@ -12,7 +12,7 @@ use Rattle.tprocesses.specs.Places.{Error, HaltOnError, Life, Successions, Messa
 use Rattle.tprocesses.specs.Places.{FlagChanged, same_path, same_root, same_name, same_side, same_place}
 use Rattle.tprocesses.specs.Machine.{Agent, Process, Channel, Wire, Successor, same_agent}
 
--- two numbers that the test finds the same are one
+-- two numbers that the test finds the same are equal
 same_number : (m n : ℕ) → (m == n) ≡ true → m ≡ n
 same_number m n h = eqb-true m n h
 

@@ -49,7 +49,7 @@ abbrev pub later_origins : List Origin → List Origin
 later_origins [] = []
 later_origins (o ∷ os) = os
 
--- the registers but for A, B and C
+-- the registers except for A, B and C
 abbrev pub other_registers : Registers → Registers
 other_registers r = record r { a = 0; b = 0; c = 0 }
 

@@ -94,7 +94,7 @@ started wdesc iptr = record { wdesc = wdesc; iptr = iptr }
 abbrev image : (node k : ℕ) → Name
 image n k = record { node = n; root = Image k; path = [] }
 
--- so many steps of a process
+-- n steps of a process
 abbrev times : ℕ → Name → List Agent
 times n x = replicate n (Process x)
 
@@ -326,7 +326,7 @@ fed-left : option_map (λ s. s (Messages (end_at 1 0))) (after fed (times 6 (ima
 unfolding computes sender receiver node_plan
 fed-left = refl
 
--- a sink at link 1 of a node keeps what its process sends; it has room for so many bytes
+-- a sink at link 1 of a node keeps what its process sends; it has room for `room` bytes
 abbrev kept : ℕ → Plan
 kept room =
     record {

@@ -33,7 +33,7 @@ pub data Agent : Type 0 where
   -- a process that goes on where others have ended, by its node and the number of the word that counted them
   Successor : (node count : ℕ) → Agent
 
--- two agents are one
+-- two agents are the same
 abbrev pub same_agent : Agent → Agent → Bool
 same_agent (Process x) (Process y) = same_name x y
 same_agent (Channel n c) (Channel m d) = (n == m) && (c == d)

@@ -67,7 +67,7 @@ lives w n = count_by (λ q. workspace_of q.wdesc == w) n.image.processes
 abbrev pub of_node : {A : Type 0} → Plan → ℕ → A → (NodePlan → A) → A
 of_node p n otherwise f = elim (slice_get p.nodes n) [ Some plan ↦ f plan | None ↦ otherwise ]
 
--- the source, or the sink, at an end: they are numbered after the nodes, and have their link 0 alone
+-- the source, or the sink, at an end: they are numbered after the nodes, and have only their link 0
 abbrev pub source_at : Plan → End → Option SourcePlan
 source_at p e =
     if (e.link == 0) && nat_le (length p.nodes) e.node then slice_get p.sources (e.node - length p.nodes) else None

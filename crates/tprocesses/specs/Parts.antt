@@ -61,7 +61,7 @@ infixl 10 ◌>>◌
 abbrev pub ◌>>◌ : {A B : Type 0} → Part A → Part B → Part B
 a >> b = a >>= (λ _. b)
 
--- a part for its effect alone
+-- a part that is done only for its effect
 abbrev pub Doing : Type 0
 Doing = Part (Unit {0})
 

@@ -53,29 +53,29 @@ pub data Place : Type 0 where
   -- a flag of the node was changed
   FlagChanged : ℕ → Place
 
--- two paths are one
+-- two paths are the same
 abbrev pub same_path : List ℕ → List ℕ → Bool
 same_path [] [] = true
 same_path (x ∷ xs) (y ∷ ys) = (x == y) && same_path xs ys
 same_path _ _ = false
 
--- two roots are one
+-- two roots are the same
 abbrev pub same_root : Root → Root → Bool
 same_root (Image k) (Image l) = k == l
 same_root (After w i) (After v j) = (w == v) && (i == j)
 same_root _ _ = false
 
--- two names are one
+-- two names are the same
 abbrev pub same_name : Name → Name → Bool
 same_name x y = (x.node == y.node) && same_root x.root y.root && same_path x.path y.path
 
--- two sides are one
+-- two sides are the same
 abbrev pub same_side : Side → Side → Bool
 same_side Input Input = true
 same_side Output Output = true
 same_side _ _ = false
 
--- two places are one
+-- two places are the same
 abbrev pub same_place : Place → Place → Bool
 same_place (WordAt n k) (WordAt m l) = (n == m) && (k == l)
 same_place (Sending n k) (Sending m l) = (n == m) && (k == l)

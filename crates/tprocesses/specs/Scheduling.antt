@@ -88,7 +88,7 @@ abbrev pub laid_down : Option ℕ → Store
 laid_down (Some v) = bytes_if true (to_le_bytes w32 v)
 laid_down None = bytes_if false (to_le_bytes w32 0)
 
--- `outbyte` and `outword`: the message is laid down at the workspace
+-- `outbyte` and `outword`: the message is stored at the workspace
 abbrev pub sends_from_workspace : ℕ → Site → Name → Context → Doing
 sends_from_workspace length s x c = do
   channel ← known c.b

@@ -59,7 +59,7 @@ abbrev pub is_absent : Stand → Bool
 is_absent Absent = true
 is_absent _ = false
 
--- a process comes to be there with a workspace that no other one has
+-- a process is added with a workspace that no other one has
 abbrev pub comes : Site → Name → Context → (Context → Stand) → Doing
 comes s x c stand = do
   life ← see (Life s.number c.wptr)

@@ -46,7 +46,7 @@ free_cells Saved cells = stopping (Breaks SavedWord)
 free_cells Receiving cells = stopping (Breaks InTransit)
 free_cells _ cells = stopping WordInUse
 
--- two uses are one
+-- two uses are the same
 abbrev pub same_use : Use → Use → Bool
 same_use Free Free = true
 same_use Saved Saved = true

@@ -9,7 +9,8 @@ pub fn the_process_machine_is_tidy()
     ensures { ProcessMachineIsTidy }
 {}
 
-/// The process machine of each plan is lawful: its steps come to the same in either order, but for those that clash.
+/// The process machine of each plan is lawful: its steps have the same result in either order, except for those that
+/// clash.
 pub fn the_process_machine_is_lawful()
     ensures { ProcessMachineIsLawful }
 {}

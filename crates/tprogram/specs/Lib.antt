@@ -1,2 +1,2 @@
--- What each command may come to, and the exit status of the program.
+-- The verdicts that each command may have, and the exit status of the program.
 pub mod Statuses

@@ -13,10 +13,10 @@ use tcommands::{
 use topening::{Fault, Verdict};
 use twords::Command;
 
-/// Does a command, and answers what it comes to. The threads of a run are started by `threads`.
+/// Does a command, and answers its verdict. The threads of a run are started by `threads`.
 ///
-/// What is written goes to files and streams, of which no contract can speak; what the bytes of the files come to is
-/// the contract of the calls of `ttext`, `tstanding`, `toutcomes`, `tfindings` and `tcheck`.
+/// What is written goes to files and streams, of which no contract can speak; what follows from the bytes of the files
+/// is in the contracts of the calls of `ttext`, `tstanding`, `toutcomes`, `tfindings` and `tcheck`.
 ///
 /// # Errors
 /// Those of the call that does the command.
@@ -25,7 +25,7 @@ pub(crate) fn do_command<R: Threads + Sync>(
     threads: &R,
     command: &Command,
 ) -> Result<Verdict, Fault>
-    // it comes only to what a command of its kind may come to
+    // the verdict is one that a command of its kind may have
     ensures { IfOk result (IsVerdictOf command.now) }
 {
     match command {

@@ -16,9 +16,9 @@ use twords::Command;
 const MISTAKEN: u8 = 2;
 
 /// Does the command that the words ask for, and tells its fault on standard error, if it has one. Answers the exit
-/// status of the program: that of what the command comes to, or of its fault; where there is no command 0 if help was
+/// status of the program: that of the command's verdict, or of its fault; where there is no command, 0 if help was
 /// given, 2 for words that are a mistake, 3 where help could not be written, 4 where there was no memory. Where
-/// standard error fails too, the status alone tells. The threads of a run are started by `threads`.
+/// standard error fails too, only the status tells of the fault. The threads of a run are started by `threads`.
 pub fn do_asked<R: Threads + Sync>(
     rt: &HostRuntime,
     threads: &R,

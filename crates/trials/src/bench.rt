@@ -1,5 +1,5 @@
-//! Benchmarks, each by its name: so much work of it is done, and its name, how many operations it did, and their answer
-//! are printed. `bench/run` times them against plain Rust.
+//! Benchmarks, each by its name: a given amount of its work is done, and its name, how many operations it did, and
+//! their answer are printed. `bench/run` times them against plain Rust.
 
 mod answer;
 mod crew;
@@ -28,14 +28,14 @@ enum Benchmark {
     Decode,
     Local(Claims),
     Processor(Job),
-    /// A ring of so many nodes, with messages of so many bytes.
+    /// A ring with this number of nodes, and messages of this length in bytes.
     Ring(u8, u32),
     Pipeline,
-    /// So many workers that go on in rounds, with slices of so many runs.
+    /// A load for workers that go on in rounds: how many runs a slice has, and how many workers there are.
     Rounds(Load, u32, usize),
-    /// So many free workers, with slices of so many runs.
+    /// A load for free workers: how many runs a slice has, and how many workers there are.
     Turns(Load, u32, usize),
-    /// Turns over so many nodes that wait for ever.
+    /// Turns over this number of nodes, which wait for ever.
     Idle(u8),
 }
 
@@ -116,7 +116,7 @@ const BENCHMARKS: &[(&str, Benchmark)] = &[
     ("turn-idle-64", Benchmark::Idle(64)),
 ];
 
-/// Does so much work of a benchmark.
+/// Does this amount of work of a benchmark.
 fn done<R: Threads + Sync>(
     rt: &R,
     alloc: Global,
@@ -151,7 +151,7 @@ fn done<R: Threads + Sync>(
     }
 }
 
-/// Does so much work of the benchmark of a name, or of each by the name `all`, and prints what came of it.
+/// Does this amount of work of the benchmark of a name, or of each by the name `all`, and prints the result.
 pub fn run<R: Threads + Sync>(
     host: &HostRuntime,
     rt: &R,

@@ -1,6 +1,6 @@
-//! Trials of the crates that run nets: `trials bench NAME AMOUNT` does so much work of a benchmark, or of each by the
-//! name `all`, and `trials refusals NET WORKERS` lets a net run whose calls may be refused memory. Several trials may
-//! follow one another.
+//! Trials of the crates that run nets: `trials bench NAME AMOUNT` does this amount of work of a benchmark, or of each
+//! by the name `all`, and `trials refusals NET WORKERS` lets a net run whose calls may be refused memory. Several
+//! trials may follow one another.
 #![tactic(auto)]
 
 mod bench;

@@ -1,7 +1,7 @@
-//! Calls that are refused memory: one of four nets is built, and runs by so many workers, in rounds and free, or in
-//! rounds alone with packets that are held. A call that is refused gives back what it took, and is called again. It is
-//! printed which call was refused, and then what the net came to, which is the same whichever request for memory is
-//! refused.
+//! Calls that are refused memory: one of four nets is built, and runs by a given number of workers, in rounds and
+//! free, or only in rounds, with packets that are held. A call that is refused gives back what it took, and is called
+//! again. It is printed which call was refused, and then the result of the net, which is the same whichever request
+//! for memory is refused.
 //!
 //! At most one request of a run may be refused: `tests/sweep` refuses each in turn, by a library that is preloaded.
 
@@ -40,7 +40,7 @@ fn run_both<R: Threads + Sync>(
     workers::run(alloc, copy, workers, story)
 }
 
-/// What the calls came to, as a page. Free workers know no holds.
+/// The result of the calls, as a page. Free workers have no holds.
 fn told<R: Threads + Sync>(rt: &R, alloc: Global, asked: Asked) -> Result<Vec<u8>, Fault> {
     let Asked { example, workers } = asked;
     let mut story = Story::new(alloc);
@@ -53,7 +53,7 @@ fn told<R: Threads + Sync>(rt: &R, alloc: Global, asked: Asked) -> Result<Vec<u8
     story.page(alloc)
 }
 
-/// What the calls came to, as a page, by a second attempt where memory was refused beside the calls that are looked
+/// The result of the calls, as a page, by a second attempt where memory was refused beside the calls that are looked
 /// at.
 fn told_at_last<R: Threads + Sync>(rt: &R, alloc: Global, asked: Asked) -> Result<Vec<u8>, Fault> {
     match told(rt, alloc, asked) {
@@ -62,7 +62,7 @@ fn told_at_last<R: Threads + Sync>(rt: &R, alloc: Global, asked: Asked) -> Resul
     }
 }
 
-/// What is printed where the calls came to no end.
+/// What is printed where the calls did not end.
 fn complaint(fault: Fault) -> &'static str {
     match fault {
         Fault::Memory => "memory is refused more than once",
@@ -70,7 +70,7 @@ fn complaint(fault: Fault) -> &'static str {
     }
 }
 
-/// Lets the net of a name run by so many workers, and prints what came of it. None where there is no such net, else
+/// Lets the net of a name run by `workers` workers, and prints the result. None where there is no such net, else
 /// whether the calls came to their end.
 pub fn run<R: Threads + Sync>(host: &HostRuntime, rt: &R, net: &str, workers: u32) -> Option<bool> {
     let example = Example::named(net)?;

@@ -53,7 +53,7 @@ next holds slice m r p b =
           (suc r) (round holds slice r p)
     ]
 
--- with so many rounds, events and notes before
+-- with k rounds, and these events and notes, before
 module _ (k : ℕ) (es : List Event) (ns : List Note) where
   abbrev behind : Progress → Progress
   behind p = record { net = p.net; events = es ++ p.events; notes = ns ++ p.notes }

@@ -14,7 +14,7 @@ get-take (suc k) n [] x h = cc
 get-take (suc k) zero (y ∷ ys) x h = h
 get-take (suc k) (suc n) (y ∷ ys) x h = get-take k n ys x h
 
--- what stands behind the first stands so many places later
+-- what stands behind the first k elements stands k places later in the whole list
 get-drop : {A : Type 0} (k n : ℕ) (xs : List A) (x : A) → slice_get (drop k xs) n ≡ Some x
     → slice_get xs (k + n) ≡ Some x
 get-drop zero n xs x h = let e : 0 + n ≡ n = omega arith in rw e h

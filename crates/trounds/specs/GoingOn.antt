@@ -6,11 +6,11 @@ use Rattle.trounds.specs.declared.report.Report.{Report}
 use Rattle.tnet.specs.Net.{NetState}
 use Rattle.trounds.specs.Reports.{report, refusal}
 
--- a hold, where the rounds are counted anew after so many of them
+-- a hold, where the rounds are counted anew after the first `done` of them
 abbrev pub hold_after : ℕ → Hold → Hold
 hold_after done h = record h { from = h.from - done; until = h.until - done }
 
--- holds, where the rounds are counted anew after so many of them
+-- holds, where the rounds are counted anew after the first `done` of them
 abbrev pub holds_after : ℕ → List Hold → List Hold
 holds_after done holds = map (hold_after done) holds
 

@@ -119,7 +119,7 @@ part_arrived lay holds r p l = part_packet lay holds r kind.Data l (part_packet 
 abbrev pub part_arrivals : List Inbox → List Hold → ℕ → Part → ℕ → Part
 part_arrivals before holds r p l = part_arrived (slice_index_or before l empty_inbox) holds r p l
 
--- so many runs of the node, each if it is enabled
+-- a given number of runs of the node, each if it is enabled
 abbrev pub part_runs : ℕ → Part → Part
 part_runs zero p = p
 part_runs (suc k) p = part_runs k (part_does Run p)

@@ -29,7 +29,7 @@ reported r = record {
       r.progress.net;
 }
 
--- the report of at most so many rounds of a net, by the plain definition
+-- the report of at most `most` rounds of a net, by the plain definition
 abbrev pub report : List Hold → ℕ → ℕ → NetState → Report
 report holds slice most net = reported (rounds holds slice most net)
 

@@ -53,13 +53,13 @@ part_by rule s = part_of_round rule.holds.now rule.slice rule.round s
 abbrev pub parts_by : RoundRule → List Station → List Part
 parts_by rule stations = parts rule.holds.now rule.slice rule.round stations
 
--- a round node has room for so many rows of events, notes and sendings
+-- a round node has room for e rows of events, n notes and m sendings
 pub record HasListRoom (e n m : ℕ) (r : RoundNode) : Type 0 where
   pub events : vec_len r.events + e ≤ vec_capacity r.events
   pub notes : vec_len r.notes + n ≤ vec_capacity r.notes
   pub outbox : vec_len r.outbox + m ≤ vec_capacity r.outbox
 
--- a round node has written down no more than so many rows of events, notes and sendings
+-- a round node has written down no more than e rows of events, n notes and m sendings
 pub record Spends (e n m : ℕ) (r r' : RoundNode) : Type 0 where
   pub events : vec_len r'.events ≤ vec_len r.events + e
   pub event_room : vec_capacity r'.events ≡ vec_capacity r.events
@@ -131,8 +131,8 @@ AdvancesBy rule stations a stations' a' =
     Advances rule.holds.now rule.slice rule.round stations a.events a.notes.items stations' a'.events
     a'.notes.items
 
--- rounds end so: after so many of them, with this net and these notes; their events are behind those that were kept
--- before, if any are kept
+-- rounds end after `count` of them, in this way, with this net and these notes; their events are behind those that
+-- were kept before, if any are kept
 pub record EndSo (x : Rounds) (ending : Ending) (count : ℕ) (net : NetState) (before events : Option (List Event))
     (notes : List Note) : Type 0 where
   pub done : List Event
@@ -144,7 +144,7 @@ pub record EndSo (x : Rounds) (ending : Ending) (count : ℕ) (net : NetState) (
   }
   pub events_are : events ≡ with_more done before
 
--- the pieces of a net have room for so many nodes and for what lies at their links, and none of these is among them
+-- the pieces of a net have room for `count` nodes and for what lies at their links, and none of these is among them
 pub record HasPlaces (count : ℕ) (p : NetParts) : Type 0 where
   pub few : count ≤ most_nodes
   pub no_nodes : p.nodes.items ≡ []

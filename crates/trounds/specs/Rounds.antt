@@ -39,7 +39,7 @@ try_event e p = tried_as e p (after_event p.net e)
 abbrev pub try_act : ℕ → Act → Progress → Progress
 try_act n act p = try_event (record { node = n; act = act }) p
 
--- two kinds of packets are one
+-- two kinds of packets are the same
 abbrev pub same_kind : PacketKind → PacketKind → Bool
 same_kind kind.Data kind.Data = true
 same_kind kind.Ack kind.Ack = true
@@ -72,7 +72,7 @@ try_packet before holds r n k l p =
 abbrev pub each_link : (ℕ → Progress → Progress) → Progress → Progress
 each_link f p = fold (λ p l. f l p) p four_links
 
--- so many runs of a node, each if it is enabled
+-- a given number of runs of a node, each if it is enabled
 abbrev pub run_some : ℕ → ℕ → Progress → Progress
 run_some zero n p = p
 run_some (suc k) n p = run_some k n (try_act n Run p)

@@ -42,7 +42,7 @@ impl Awake {
         left.trailing_zeros() as usize
     }
 
-    /// The nodes behind the first ones, which are so many, counted from 0 again.
+    /// The nodes behind the first `count` ones, counted from 0 again.
     #[inline(always)]
     pub fn behind(self, count: usize) -> Self
         requires { count < most_nodes }

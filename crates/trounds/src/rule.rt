@@ -1,8 +1,8 @@
-//! What the parts of a round go by.
+//! What the parts of a round depend on.
 
 use tplan::Hold;
 
-/// What each part of a round goes by.
+/// What each part of a round depends on.
 #[derive(Clone, Copy)]
 pub struct RoundRule<'a> {
     /// The packets that are held, in some rounds.

@@ -35,7 +35,7 @@ use Rattle.tseen.proofs.Added.{linked, IsAdded, is_added}
 use Rattle.tseen.proofs.Queued.{seats, seated, seat_of, HasProcess}
 use Rattle.tseen.proofs.Built.{queued, queued_joined, IsBeside, lies_below, cell_stays}
 
--- so many processes were added
+-- these processes were added
 pub record IsBuilt (start : Machine) (memory : ℕ) (ds : List Process) (m : Machine) : Type 0 where
   pub control : m.control ≡ queued ds start.control
   pub iptrs : All (λ q. word_at m.store (word_below (workspace_of q.wdesc) iptr_word) ≡ q.iptr) ds

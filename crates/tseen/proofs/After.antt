@@ -128,7 +128,7 @@ deed_at p a s = deed_of (walk_from (record { changes = []; message = None; stops
 abbrev pub if_open : Bool → ProcessStep × State → Option (ProcessStep × State)
 if_open t x = if t then Some x else None
 
--- so it is of a step that an agent makes
+-- the same holds for a step that an agent makes
 pub after_agent_step : (p : Plan) (a : Agent) (s s' : State) (Q : Unit {0} → State → Type 0) → AgentMakes p a s s'
     → After (step_of p a) s Q → Q tt s'
 after_agent_step p a s s' Q m h =

@@ -1,4 +1,4 @@
--- A process that sends or receives on an internal channel: it lays down its message, if it has to, and takes its half.
+-- A process that sends or receives on an internal channel: it stores its message, if it has to, and takes its half.
 use Rattle.std.proofs.Common.{◌≡◌, ℕ, ◌+◌, ◌≤◌, ◌<◌, ◌/◌, refl, sym, ap, subst, true, false, true≢false, length}
 use Rattle.std.proofs.Common.{get_or}
 use Rattle.std.proofs.Common.{Option, Some, None, arith, ◌⊎◌, inl, inr}
@@ -106,7 +106,7 @@ module _ (p : Plan) (c : Configuration) (s : State) (n : ℕ) (x : Name) (k : Is
         ≡ run_from (internal_message (left_by o (registers_at p c s n x k size))
         (request_for o (m.registers.wptr + rank running.level) m.registers)
         (control_at p c s n x k o size)) store claims laid
-    -- what is laid down lies in the buffer
+    -- what is stored lies in the buffer
     pub first : (laid ≡ store)
         ⊎ ((laid ≡ with_word store m.registers.wptr m.registers.a) × (start_of o m.registers ≡ m.registers.wptr)
         × (0 < length_of o m.registers) × LiesWord (length store) m.registers.wptr)
@@ -138,7 +138,7 @@ module _ (p : Plan) (c : Configuration) (s : State) (n : ℕ) (x : Name) (k : Is
         (takes_half_then site running.whole x (context_at p c s n x k size) (side_of o) m.registers.b
         (buffer_for o m.registers) p u Q asked.on.tells.words (λ v taken. q u v laid asked taken))
 
-    -- the message is laid down
+    -- the message is stored
     module _ (u : State) (on : GoesOn n k.plan.memory s u store store) where
       permits_then : Permits u n claims
       permits_then = permits_on s u n claims on.keeps running.permits

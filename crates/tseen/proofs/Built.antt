@@ -1,4 +1,4 @@
--- A processor of a plan after so many of its processes were added.
+-- A processor of a plan after some of its processes were added.
 use Rattle.std.proofs.Common.{◌≡◌, ℕ, ◌+◌, ◌-◌, ◌<◌, ◌≤◌, ◌^◌, refl, ◌∙◌, List, [], ◌∷◌, ◌++◌, length, get_or, Bool}
 use Rattle.std.proofs.Common.{true, false, None, ◌⊎◌, inl, inr, arith, ◌&&◌, ◌%◌, cond}
 use Rattle.std.specs.Int.{w32, to_le_bytes}

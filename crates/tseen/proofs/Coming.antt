@@ -1,4 +1,4 @@
--- A process comes to be there, and another one starts it.
+-- A process is added, and another one starts it.
 use Rattle.std.proofs.Common.{◌≡◌, ℕ, refl, Bool, true, false, ◌%◌}
 use Rattle.std.specs.Prelude.{◌==◌, pos, if◌then◌else◌}
 use Rattle.std.proofs.lemmas.Bool.{eq-eqb}

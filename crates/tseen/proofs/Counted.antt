@@ -104,7 +104,7 @@ moved_by true false false d h k = ap IsAmount (omega (arith, ints))
 moved_by false true false d h k = ap IsAmount (omega (arith, ints))
 moved_by false false false d h k = refl
 
--- so it is where a process has another workspace
+-- the same holds where a process has another workspace
 pub moved_count : (site : Site) (old new w d : ℕ)
     → moved site old new w (IsAmount (pos (d + cond (old == w) 1 0))) ≡ IsAmount (pos (d + cond (new == w) 1 0))
 moved_count site old new w d =

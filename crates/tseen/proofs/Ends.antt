@@ -228,7 +228,7 @@ module _ (p : Plan) (c : Configuration) (s : State) (n : ℕ) (x : Name) (k : Is
             subst (λ z. After (counts z) u Counted)
             (sym (h ∙ same_a d.after (unchanged p c s n x k i decodes pp t d Endp is))) counts_then
 
--- so it is after each such step
+-- the same holds after each such step
 pub ends_counted : (p : Plan) (c : Configuration) (s s' : State) (n : ℕ) (x : Name) (k : IsCurrent p c s n x)
     → next_of k.node.machine ≡ Some (Schedule Endp) → Makes p x s s' → HasCounted p c s n x k s'
 ends_counted p c s s' n x k next makes =

@@ -59,7 +59,7 @@ told_bind (seeing p next) f s o Q h = told_bind (next (s p)) f s o Q h
 told_bind (changing p c next) f s o Q h = told_bind next f (changed p c s) o Q h
 told_bind (telling m next) f s o Q h = told_bind next f s (Some m) Q h
 
--- so it is of a step that an agent makes
+-- the same holds for a step that an agent makes
 agent_told : (p : Plan) (a : Agent) (s s' : State) (Q : Option Store → Type 0) → (m : AgentMakes p a s s')
     → Tells (step_of p a) s None Q → Q m.label.deed.message
 agent_told p a s s' Q m h =

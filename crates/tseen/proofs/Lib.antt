@@ -5,7 +5,7 @@ mod Loaded
 mod Added
 -- the processes of an image in their queues
 mod Queued
--- a processor after so many processes were added
+-- a processor after some of its processes were added
 mod Built
 -- processes that are added one after another
 mod Adding

@@ -60,7 +60,7 @@ known_then : {B : Type 0} (o : Option ℕ) (value : ℕ) (f : ℕ → Part B) (s
 known_then (Some a) value f s Q h k = subst (λ z. After (f z) s Q) (sym h) k
 known_then None value f s Q h k = tt
 
--- what is laid down is known where the register is
+-- what is stored is known where the register is
 laid_known : (o : Option ℕ) (value : ℕ) → Knows o value → (j : ℕ)
     → KnowsCell (get_or (laid_down o) j None) (get_or (as_cells (to_le_bytes w32 value)) j None)
 laid_known (Some a) value h j =
@@ -213,7 +213,7 @@ module _ (p : Plan) (c : Configuration) (s : State) (n : ℕ) (x : Name) (k : Is
         (ap (λ (z : Registers). z.halt_on_error) same)
         (counted_by Out running.level (record m { registers = r })).count)))))))
 
-    -- the message is laid down
+    -- the message is stored
     module _ (v : State)
         (written : IsWordWritten site running.whole u v context.wptr (laid_down context.a)) where
       abbrev laid : Store

@@ -349,7 +349,7 @@ module _ (p : Plan) (c : Configuration) (s : State) (n : ℕ) (x : Name) (k : Is
         by i a b d e (inr f) =
             rest i (word_now i ∙ e ∙ g.met.words i) (emptied_else i f ∙ used_then i f a b d) f
 
-    -- its use: as before, but for the channel word, which is free
+    -- its use: as before, except for the channel word, which is free
     pub used_now : (i : ℕ) → ((i ≡ j) × (use_of z n i ≡ Free)) ⊎ (use_of z n i ≡ use_of s n i)
     used_now =
         by_word_now (λ i. ((i ≡ j) × (use_of z n i ≡ Free)) ⊎ (use_of z n i ≡ use_of s n i)) (λ e. inl (refl, e))

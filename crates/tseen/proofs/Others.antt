@@ -48,7 +48,7 @@ module _ (n : ℕ) (s s' : State) (run_stays : (q : ℕ) → s' (HasRun n q) ≡
   has_run_stays stand h =
       IfSome_then (context_in stand) h (λ k e. run_stays k.priority ∙ e)
 
-  -- a process that is queued and stands where it stood
+  -- a process that is queued and stays where it was
   pub queued_stays : (process : ℕ) (y : Name) → s' (Standing y) ≡ s (Standing y)
       → word_at node'.machine.store (word_below (workspace_of process) iptr_word)
       ≡ word_at node.machine.store (word_below (workspace_of process) iptr_word)

@@ -131,7 +131,7 @@ module _ (p : Plan) (plan : NodePlan) (n : ℕ) (s t s' : State) (named : Seat �
       not_free : Engaged ≡ Free → ⊥
       not_free e = cc
 
-  -- another process stands where it stood
+  -- another process stays where it was
   other_stand : (y : Name) (stand : Stand) → s (Standing y) ≡ IsStand stand → is_running (IsStand stand) ≡ false
       → s' (Standing y) ≡ IsStand stand
   other_stand y stand e h = by (same_name x y) refl

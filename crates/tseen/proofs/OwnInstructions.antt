@@ -202,7 +202,7 @@ module _ (p : Plan) (steps : List ProcessStep) (end : State) (k : IsCertificate 
   operation Outword next = message Outword next refl (is_link m.registers.b) refl
   operation o next = absurd (never_done o next (λ u i. tt))
 
-  -- so it is with each instruction
+  -- the same holds for each instruction
   pub instruction : Leads p c n s r
   instruction = by done.0 done.1 done.2
     where

@@ -196,7 +196,7 @@ module _ (site : Site) (whole : site.size % 4 ≡ 0) (claims : Claims) (u : Uses
     pub alike : EndAlike u same r r' x outcome
     pub on : GoesOn n site.size s t new store
 
-  -- so it is after an action was performed, where all that it read is known or need not be
+  -- the same holds after an action was performed, where all that it read is known or need not be
   abbrev pub Ends : Bool → Action Outcome → Store → Store → State → Performed Outcome → State → Type 0
   Ends same y old new s p t = (same ≡ true → p.known ≡ true) → IsDone same y old new s p.value t
 

@@ -67,7 +67,7 @@ module _ (s : State) (n : ℕ) (store : Store) (c : Claims) (w : ℕ) where
   linked_then None there = record { size = refl; only = λ i h. refl; known = λ i. inr refl }
   linked_then (Some v) there = linked_to v (there v refl).0 (there v refl).1
 
--- so it is told of still
+-- so it is still told of
 pub linked_tells : (s : State) (n size : ℕ) (store store' : Store) → IsLinked s n store store' → Tells s n size store
     → Tells s n size store'
 linked_tells s n size store store' k t =

@@ -43,7 +43,7 @@ pub nothing_more : (p : Plan) (a : Agent) (s : State) (r : IsComeTo p s) (g : Go
     → handed p e g.reached.steps ≡ before
 nothing_more p a s r g e other before h = hands_nothing p a s r g e other ∙ h
 
--- a run went on while the net did, or steps were made of which only so many may come one after another
+-- a run went on while the net did, or it made steps of which only a limited number may come one after another
 abbrev pub Progress : (p : Plan) (s s' : State) → IsComeTo p s → IsComeTo p s' → Configuration → Configuration → Type 0
 Progress p s s' r r' c c' =
     (length r.steps < length r'.steps) ⊎ ((length r.steps ≤ length r'.steps) × (weight_of c' < weight_of c))

@@ -31,7 +31,7 @@ same_word store k v w known =
     (subst (λ (s : Store). are_known s ≡ true) e known))
     ∙ ap (λ i. from_le_bytes w32 (shown (slice_range store i (i + 4)))) (sym f)
 
--- so it is of each node that is shown
+-- the same holds for each node that is shown
 pub known_words_are_there : KnownWordsAreThere
 known_words_are_there s n plan named sent node shown k inside known =
     same_word node.machine.store k _ (shown.store k inside) known

@@ -61,7 +61,7 @@ shared_word span c above h =
           (omega arith),
     )
 
--- so it is with lists of claims
+-- the same holds for lists of claims
 no_claim : (span : Span) (claims : List (Option Span)) → IsAbove span
     → ((k : ℕ) → IsWordOf span k → list_any (overlaps_claim (word_of_number k)) claims ≡ false)
     → list_any (overlaps_claim span) claims ≡ false

@@ -46,7 +46,7 @@ hiding_holds f a (x ∷ s) h =
     by true k = tt
     by false k = k
 
--- what is claimed of a processor is so of one that is hidden
+-- what is claimed of a processor holds for one that is hidden
 module _ (n : Machine) where
   as_long : length (hidden n).store ≡ length n.store
   as_long = length-hiding_from (λ a. is_input (claims_of n.control) (byte_span a)) most_neg n.store

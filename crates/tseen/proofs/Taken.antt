@@ -161,7 +161,7 @@ module _ (p : Plan) (c : Configuration) (s : State) (n : ℕ) (x : Name) (k : Is
       (channel_now site running.whole x (context_at p c s n x k h.size) (side_of o) channel (buffer_for o m.registers)
       u v taken asked.on.tells.words lies.2 unspoilt)
 
-  -- what is laid down is another word
+  -- what is stored is another word
   pub same_word : word_at laid channel ≡ word_at store channel
   same_word = by asked.first
     where

@@ -237,7 +237,7 @@ module _ (s : Place → Value) (n : ℕ) (sent : ℕ → Option Pending) (m : Ma
     writable : claim_break (claims_of m.control) Writes span ≡ None
     writable = rw (still, unsent, unsaved) refl
 
--- so it is of each node that is shown, with a word that is no saved word and not of a pending input
+-- the same holds for each node that is shown, with a word that is no saved word and not of a pending input
 module _ (s : Place → Value) (n : ℕ) (plan : NodePlan) (named : Seat → Name) (sent : ℕ → Option Pending) (node : Node)
     (shown : ShowsNode s n plan named sent node) (placed : IsPlaced node.machine) (k : ℕ)
     (not_in_saved : (word_in (s (WordAt n k))).used ≡ Saved → ⊥)

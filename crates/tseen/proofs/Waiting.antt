@@ -84,7 +84,7 @@ module _ (s : State) (n : ℕ) (node : Node) where
       by (Runs d) f = absurd f
       by Ended f = absurd f
 
-  -- two that are queued or wait under one name are one
+  -- two that are queued or wait under one name are the same
   pub one_process : (q r : Seat) (a b : ℕ) (x : Name) → (q ≡ Queued a) ⊎ (q ≡ Waiting a)
       → (r ≡ Queued b) ⊎ (r ≡ Waiting b) → IsSeated s n node q x → IsSeated s n node r x → a ≡ b
   one_process q r a b x e f k l =

@@ -102,7 +102,7 @@ module _ (p : Plan) (none : fault_of p ≡ None) where
               let node : w.a.node ≡ length p.nodes + (place - length p.wires) = ap (λ (z : End). z.node) e in
               (omega (arith, node), omega (arith, node, past, within), ap (λ (z : End). z.link) e)
 
-  -- so it is of an end that has a wire, and its far end
+  -- the same holds for an end that has a wire, and its far end
   pub wire_joins : (e f : End) → far_end (all_wires p) e ≡ Some f → AreJoined p e f
   wire_joins e f h = ends_joined p (all_wires p) e f all_good h
 

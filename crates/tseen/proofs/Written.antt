@@ -49,7 +49,7 @@ keeps_more n s t u a b =
       others = λ q h. b.others q h ∙ a.others q h;
     }
 
--- a word was laid down, for this use, with the cells from a place on
+-- a word was stored, for this use, with the cells from a place on
 pub record IsLaidFor (used : Use) (v : Value) (words : Store) (from : ℕ) : Type 0 where
   pub word : Word
   pub is : v ≡ IsWord word
@@ -57,7 +57,7 @@ pub record IsLaidFor (used : Use) (v : Value) (words : Store) (from : ℕ) : Typ
   pub four : length word.cells ≡ 4
   pub cells : (j : ℕ) → j < 4 → get_or word.cells j None ≡ get_or words (from + j) None
 
--- words in a row were laid down
+-- words in a row were stored
 pub record AreLaidFor (used : Use) (n first count : ℕ) (words : Store) (s t : State) : Type 0 where
   pub inside : (k : ℕ) → first ≤ k → k < first + count → IsLaidFor used (t (WordAt n k)) words (4 * (k - first))
   pub outside : (k : ℕ) → (k < first) ⊎ (first + count ≤ k) → t (WordAt n k) ≡ s (WordAt n k)
@@ -139,7 +139,7 @@ pub record AreSet (n from : ℕ) (new : Store) (s t : State) : Type 0 where
   pub inside : (j : ℕ) → j < length new → cell t n (from + j) ≡ get_or new j None
   pub outside : (i : ℕ) → (i < from) ⊎ (from + length new ≤ i) → cell t n i ≡ cell s n i
 
--- words that were free and are laid down
+-- words that were free and are stored
 pub laid_keeps : (n first count : ℕ) (words : Store) (s t : State)
     → ((k : ℕ) → first ≤ k → k < first + count → use_of s n k ≡ Free) → AreLaid n first count words s t → Keeps n s t
 laid_keeps n first count words s t free l =
@@ -171,7 +171,7 @@ laid_keeps n first count words s t free l =
     kept k h (inr a) (inr b) = l.outside k (inr b)
     kept k h (inr a) (inl b) = absurd (h (free k a b))
 
--- a cell of words that are laid down, and of the others
+-- a cell of words that are stored, and of the others
 pub laid_cell : {used : Use} (n first count : ℕ) (words : Store) (s t : State)
     → AreLaidFor used n first count words s t → (j : ℕ) → j < 4 * count → cell t n (4 * first + j) ≡ get_or words j None
 laid_cell {used} n first count words s t l j b =

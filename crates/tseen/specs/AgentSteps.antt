@@ -34,7 +34,7 @@ NeverStops p a s =
 abbrev pub NothingStops : Plan → (Place → Value) → Type 0
 NothingStops p s = (a : Agent) → NeverStops p a s
 
--- so it is wherever a run of a plan with a certificate leads
+-- the same holds wherever a run of a plan with a certificate leads
 abbrev pub CertifiedRunsNeverStop : Type 0
 CertifiedRunsNeverStop =
     (p : Plan) (steps others : List ProcessStep) (end s : Place → Value) → IsCertificate p steps end

@@ -17,7 +17,7 @@ use Rattle.tseen.specs.Steps.{IsCurrent, Makes, LeadsTo, is_dispatching, next_of
 abbrev pub BreaksNothing : Configuration → ℕ → Type 0
 BreaksNothing c n = (b : Break) (c' : Configuration) → IsFreeze c n b c' → IsMismatch c n
 
--- so it is where the node's own step leads on
+-- the same holds where the node's own step leads on
 abbrev pub StepsThatLeadBreakNothing : Type 0
 StepsThatLeadBreakNothing =
     (p : Plan) (c : Configuration) (n : ℕ) (s : Place → Value) → LeadsTo p c n s → BreaksNothing c n

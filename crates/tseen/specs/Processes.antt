@@ -54,7 +54,7 @@ module _ (s : Place → Value) (n : ℕ) where
     pub error : s (Error n) ≡ IsFlag r.error
     pub halting : s (HaltOnError n) ≡ IsFlag r.halt_on_error
 
-  -- no flag was changed, or processes of one priority alone have run
+  -- no flag was changed, or only processes of one priority have run
   abbrev pub KeepsFlags : Type 0
   KeepsFlags = (flag_in (s (FlagChanged n)) && flag_in (s (HasRun n 0)) && flag_in (s (HasRun n 1))) ≡ false
 

@@ -104,7 +104,7 @@ LocalInstructionsAreSeen =
     (p : Plan) (c : Configuration) (s s' : Place → Value) (n : ℕ) (x : Name) → (k : IsCurrent p c s n x)
     → next_of k.node.machine ≡ Some Go → Makes p x s s' → LeadsTo p c n s'
 
--- so is a jump of a high process
+-- a jump of a high process is seen as the step of the process
 abbrev pub HighJumpsAreSeen : Type 0
 HighJumpsAreSeen =
     (p : Plan) (c : Configuration) (s s' : Place → Value) (n : ℕ) (x : Name) → (k : IsCurrent p c s n x)
@@ -119,7 +119,7 @@ LowJumpsAreSeen =
     → next_of k.node.machine ≡ Some Jumped → k.node.machine.control.current ≡ Some 1
     → yields k.node.machine.control ≡ false → Makes p x s s' → Makes p x s' s'' → LeadsTo p c n s''
 
--- one that yields is seen as the jump alone
+-- one that yields is seen as only the jump
 abbrev pub YieldsAreSeen : Type 0
 YieldsAreSeen =
     (p : Plan) (c : Configuration) (s s' : Place → Value) (n : ℕ) (x : Name) → (k : IsCurrent p c s n x)
@@ -159,7 +159,7 @@ LoadedPrioritiesAreSeen =
     (p : Plan) (c : Configuration) (s s' : Place → Value) (n : ℕ) (x : Name) → (k : IsCurrent p c s n x)
     → next_of k.node.machine ≡ Some (Schedule Ldpri) → Makes p x s s' → LeadsTo p c n s'
 
--- so is `stoperr` where Error is clear
+-- `stoperr` where Error is clear is seen as its instruction
 abbrev pub UnstoppedAreSeen : Type 0
 UnstoppedAreSeen =
     (p : Plan) (c : Configuration) (s s' : Place → Value) (n : ℕ) (x : Name) → (k : IsCurrent p c s n x)
@@ -172,7 +172,7 @@ stops_process r Stopp = true
 stops_process r Stoperr = r.error
 stops_process r _ = false
 
--- so is one that ends its process
+-- an operation that ends its process is seen as its instruction
 abbrev pub StopsAreSeen : Type 0
 StopsAreSeen =
     (p : Plan) (c : Configuration) (s s' : Place → Value) (n : ℕ) (x : Name) (o : Operation)
@@ -199,11 +199,11 @@ pub record IsSteadyNode (node : Node) : Type 0 where
   pub hides : hidden node.machine ≡ node.machine
   pub steady : node.role ≡ Processor → IsSteady node
 
--- all nodes are so
+-- all nodes are steady in this way
 abbrev pub AreSteady : Configuration → Type 0
 AreSteady c = (n : ℕ) (node : Node) → node_of c n ≡ Some node → IsSteadyNode node
 
--- the nodes of a plan without a fault are so before the first step
+-- the nodes of a plan without a fault are steady in this way before the first step
 abbrev pub OpeningNodesAreSteady : Type 0
 OpeningNodesAreSteady = (p : Plan) → fault_of p ≡ None → ArePlanWords p → AreSteady (opening_configuration p)
 

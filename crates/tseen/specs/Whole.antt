@@ -65,7 +65,7 @@ HasMessagesLeft p c s =
     → (node : Node) × (node_of c (length p.nodes + k) ≡ Some node)
     × ShowsSource s (end_at (length p.nodes + k) 0) node
 
--- so many steps a run of a net has at most, if a certificate of its plan has these steps. Between two steps of the
+-- how many steps a run of a net has at most, if a certificate of its plan has these steps. Between two steps of the
 -- process machine each node may notice four offers, see four outputs to be over, and go back to a process that was
 -- interrupted
 abbrev pub most_steps : Plan → List ProcessStep → ℕ

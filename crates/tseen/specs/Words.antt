@@ -45,7 +45,7 @@ module _ (s : Place → Value) (n : ℕ) where
     pub saved : All AreSavedWords (descheduled m)
     -- the buffers of pending inputs
     pub inputs : (l : ℕ) (o : Offer) → (link_end m l).input ≡ Some o → IsUsed Receiving (buffer_of o)
-    -- a word has bytes of one of them alone
+    -- a word has bytes of only one of them
     pub inputs_apart : (j k l : ℕ) (o q : Offer) → (link_end m k).input ≡ Some o → (link_end m l).input ≡ Some q
         → covers j (buffer_of o) ≡ true → covers j (buffer_of q) ≡ true → k ≡ l
     -- the buffers of the outputs that are not over

@@ -47,17 +47,18 @@ pub fn local_instructions_are_seen()
     ensures { LocalInstructionsAreSeen }
 {}
 
-/// So it is if it is a jump of a high process.
+/// The same holds if it is a jump of a high process.
 pub fn high_jumps_are_seen()
     ensures { HighJumpsAreSeen }
 {}
 
-/// After a jump of a low process that does not yield, it is so once its process has gone on from its rest.
+/// After a jump of a low process that does not yield, the same holds once its process has gone on from its rest.
 pub fn low_jumps_are_seen()
     ensures { LowJumpsAreSeen }
 {}
 
-/// After a jump at which a low process yields, the state after the jump alone shows what the node's own step leads to.
+/// After a jump at which a low process yields, the state after the jump itself shows what the node's own step leads
+/// to.
 pub fn yields_are_seen()
     ensures { YieldsAreSeen }
 {}
@@ -73,18 +74,18 @@ pub fn loaded_priorities_are_seen()
     ensures { LoadedPrioritiesAreSeen }
 {}
 
-/// So is what `stoperr` leads to where Error is clear.
+/// What `stoperr` leads to, where Error is clear, is shown by the state after the step of its process.
 pub fn unstopped_are_seen()
     ensures { UnstoppedAreSeen }
 {}
 
-/// So is what `stopp` leads to, or `stoperr` where Error is set.
+/// What `stopp` leads to, or `stoperr` where Error is set, is shown by the state after the step of its process.
 pub fn stops_are_seen()
     ensures { StopsAreSeen }
 {}
 
-/// So is what `endp` leads to where other processes have still to end at its count, if the step of their successor does
-/// not stop.
+/// What `endp` leads to, where other processes have still to end at its count, is shown by the state after the step of
+/// its process, if the step of their successor does not stop.
 pub fn ends_are_seen()
     ensures { EndsAreSeen }
 {}
@@ -142,7 +143,7 @@ pub fn notices_are_seen()
     ensures { NoticesAreSeen }
 {}
 
-/// So it is where a message of a source is over, and the source offers its next one.
+/// The same holds where a message of a source is over, and the source offers its next one.
 pub fn source_wakes_are_seen()
     ensures { SourceWakesAreSeen }
 {}
@@ -158,12 +159,13 @@ pub fn steps_that_lead_break_nothing()
     ensures { StepsThatLeadBreakNothing }
 {}
 
-/// Nor does a break of a dispatch.
+/// No break of a dispatch freezes the node either.
 pub fn dispatches_break_nothing()
     ensures { DispatchesBreakNothing }
 {}
 
-/// Nor does a break of any other instruction than `endp` and communications, if the step of its process does not stop.
+/// No break of an instruction freezes the node either, if it is not `endp` or a communication and the step of its
+/// process does not stop.
 pub fn instructions_break_nothing()
     ensures { InstructionsBreakNothing }
 {}

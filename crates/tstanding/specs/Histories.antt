@@ -53,7 +53,7 @@ abbrev pub lacking_place : Place → Option NodeState → Option Fault
 lacking_place p (Some n) = option_map fault.NoMemory (first_outside (processor_of n.role n.machine) p)
 lacking_place p None = Some (fault.NoNode p.node)
 
--- what a net lacks of that which a history is of
+-- the fault of a net that does not have what a history is of
 abbrev pub lack_of : History → NetState → Option Fault
 lack_of (history.Node asked) net = lacking_node asked.node (node_at net asked.node)
 lack_of (history.Bytes p) net = lacking_place p (node_at net p.node)

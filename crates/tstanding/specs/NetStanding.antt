@@ -72,7 +72,7 @@ without_names net = refl
 abbrev pub named_standing : List NodeNames → Reached → List ℕ
 named_standing names r = named_nodes names r.net ++ (stuck_text r.net ++ r.halts)
 
--- what is printed of where so many events lead: behind where the net stands the last line of a replay
+-- what is printed of where this number of events leads: where the net stands, and then the last line of a replay
 abbrev pub standing_text : List NodeNames → ℕ → Reached → List ℕ
 standing_text names events r = named_standing names r ++ replay_end events
 

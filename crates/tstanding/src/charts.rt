@@ -25,7 +25,7 @@ use tword::Items;
 /// before all events were found to be enabled and all memory is taken.
 ///
 /// # Errors
-/// The faults of `replay_text`. But for `Output` nothing was written.
+/// The faults of `replay_text`. Unless the error is `Output`, nothing was written.
 pub fn chart_text<W: CountedWrite>(
     alloc: Global,
     wiring: &Wiring,

@@ -31,8 +31,8 @@ use tword::{Items, Kind};
 /// `where_text` does. Answers its verdict, by whether a node is frozen.
 ///
 /// # Errors
-/// `Log` with the first bad line of the log, behind these events too, else those of `where_text`. But for `Output`
-/// nothing was written.
+/// `Log` with the first bad line of the log, behind these events too, else those of `where_text`. Unless the error is
+/// `Output`, nothing was written.
 pub fn where_files<W: CountedWrite>(
     alloc: Global,
     wiring: &Wiring,
@@ -72,8 +72,8 @@ pub fn where_files<W: CountedWrite>(
 /// `history_text` does. Answers its verdict, by whether a node is frozen.
 ///
 /// # Errors
-/// `Log` with the first bad line of the log, behind these events too, else those of `history_text`. But for `Output`
-/// nothing was written.
+/// `Log` with the first bad line of the log, behind these events too, else those of `history_text`. Unless the error
+/// is `Output`, nothing was written.
 pub fn history_files<W: CountedWrite>(
     alloc: Global,
     wiring: &Wiring,
@@ -116,8 +116,8 @@ pub fn history_files<W: CountedWrite>(
 /// `chart_text` does. Answers its verdict, by whether a node is frozen.
 ///
 /// # Errors
-/// `Log` with the first bad line of the log, behind these events too, else those of `chart_text`. But for `Output`
-/// nothing was written.
+/// `Log` with the first bad line of the log, behind these events too, else those of `chart_text`. Unless the error is
+/// `Output`, nothing was written.
 pub fn chart_files<W: CountedWrite>(
     alloc: Global,
     wiring: &Wiring,
@@ -158,7 +158,7 @@ pub fn chart_files<W: CountedWrite>(
 ///
 /// # Errors
 /// `Image` of node 0 where the file is no image, else `Output` where the writer failed. `Memory` where the
-/// allocator refused, but never where the file is no image. But for `Output` nothing was written.
+/// allocator refused, but never where the file is no image. Unless the error is `Output`, nothing was written.
 pub fn dis_file<W: CountedWrite>(
     alloc: Global,
     file: &[u8],
@@ -166,7 +166,7 @@ pub fn dis_file<W: CountedWrite>(
     names: Option<&Names>,
     out: &mut W,
 ) -> Result<(), Fault>
-    // each fault is the first that is due, and memory is wanted only for an image
+    // each fault is the first that is due, and memory can be lacking only for an image
     ensures answer { MatchResult result
         (λ _. IsOk (as_image 0 (image_of file.now)))
         (IsDue (as_image 0 (image_of file.now))) }

@@ -1,4 +1,4 @@
--- What free workers on the net of a wiring with its images answer and write. Which packets a turn finds hangs on the
+-- What free workers on the net of a wiring with its images answer and write. Which packets a turn finds depends on the
 -- timing of threads, so this is a relation.
 -- Source: own choice; the workers, their turns and what they come to are those of free workers' definitions.
 use Rattle.std.specs.Prelude.{ℕ, ◌≡◌, ◌⊎◌, [], List, Option, Result, Ok, Err, true}
@@ -30,7 +30,7 @@ use Rattle.ttext.specs.PrintedRuns.{printed_run}
 use Rattle.ttext.specs.declared.printed_run.RunEnd.{RunEnd}
 use Rattle.ttext.specs.declared.printed_run.RunEnd.TheVariants.{Turns}
 
--- a net for so many workers, if they are neither too few nor too many; the options' rounds are the turns
+-- a net for the workers of the options, if they are neither too few nor too many; the options' rounds are the turns
 abbrev pub shared_with : Options → Result NetState Fault → Result NetState Fault
 shared_with o (Ok net) = unless_refused (refusal o.workers [] net) net
 shared_with o (Err f) = Err f

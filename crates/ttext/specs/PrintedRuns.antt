@@ -54,6 +54,6 @@ abbrev pub listed_to_print : Printing → NetState → List Listed
 listed_to_print (Lines what) net = listed_for what net
 listed_to_print (Json with_nodes) net = []
 
--- what is printed of a replay of so many events
+-- what is printed of a replay of this number of events
 abbrev pub replayed_text : Printing → ℕ → Replayed → List ℕ
 replayed_text printing events r = printed_run printing r.notes r.net (end_by.Replay events)

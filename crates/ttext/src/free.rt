@@ -37,17 +37,17 @@ use trounds::NetFault;
 use tword::Items;
 use twords::Printing;
 
-/// Runs the net of a wiring and the files of its images, one file a node, by free workers: each makes so many turns
-/// as the options have rounds, on a thread of its own where one can be started, or stops at a full clock, or when
-/// none finds anything more to do; then they are gathered. It writes the trace, what is to be shown of the net then
-/// (the dump of each node, source and sink, where the net stands, or nothing), and a last line `end quiet`, or
-/// `end turns` where the net is not quiet. The wiring's holds are ignored. Nothing is written before the workers are
-/// gathered and all memory is taken.
+/// Runs the net of a wiring and the files of its images, one file a node, by free workers: each makes as many turns as
+/// the options have rounds, on a thread of its own where one can be started, or stops at a full clock, or when none
+/// finds anything more to do; then they are gathered. It writes the trace, what is to be shown of the net then (the
+/// dump of each node, source and sink, where the net stands, or nothing), and a last line `end quiet`, or `end turns`
+/// where the net is not quiet. The wiring's holds are ignored. Nothing is written before the workers are gathered and
+/// all memory is taken.
 ///
 /// # Errors
 /// The first of these: `Image` for the first file that is no image, `Net` for the lowest fault of the plan,
 /// `Rounds` with `BadWorkers` outside 1 to 64, `Output` where the writer failed. `Memory` where the allocator
-/// refused, in a turn too. But for `Output` nothing was written.
+/// refused, in a turn too. Unless the error is `Output`, nothing was written.
 pub fn free_text<R: Threads + Sync, W: CountedWrite>(
     rt: &R,
     alloc: Global,

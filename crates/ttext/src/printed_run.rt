@@ -27,11 +27,11 @@ use twords::{Printing, Show};
 /// How a run has ended, as its last line tells.
 #[derive(Clone, Copy)]
 pub enum RunEnd {
-    /// After so many rounds, in a net that is quiet or is not.
+    /// After `rounds` rounds, in a net that is quiet or is not.
     Rounds { is_quiet: bool, rounds: u32 },
     /// After the turns of free workers, in a net that is quiet or is not.
     Turns { is_quiet: bool },
-    /// After so many events of a log.
+    /// After `events` events of a log.
     Replay { events: u64 },
 }
 

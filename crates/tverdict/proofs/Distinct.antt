@@ -66,7 +66,7 @@ module _ (nodes : List Node)
       x.channels.apart k l c d at (ap (λ (z : Node). slice_get z.channels.items.items l) (sym node) ∙ by)
       (sym (address_known n k x c there at) ∙ same ∙ address_known n l y d beside by)
 
-  -- two agents that are there are one if they are one of the machine
+  -- two agents that are there are the same if they are the same agent of the machine
   pub agents_apart : (a b : Agent) → IsThere nodes a → IsThere nodes b → agent_of nodes a ≡ agent_of nodes b → a ≡ b
   agents_apart (agent.Process n k) (agent.Process m l) h g e =
       let name : name_there nodes n k ≡ name_there nodes m l = cc in

@@ -1,4 +1,4 @@
--- What stands at the places of one node is nothing to the others.
+-- What stands at the places of one node does not matter to the others.
 use Rattle.std.proofs.Common.{◌≡◌, ℕ, refl, sym, ap, ◌∙◌, Bool, true, false, List, Option, Some}
 use Rattle.std.specs.Prelude.{◌==◌, pos, slice_get, slice_set, if◌then◌else◌}
 use Rattle.std.proofs.lemmas.Bool.{eq-eqb, eqb-true, false≢true}

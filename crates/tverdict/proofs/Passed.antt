@@ -240,7 +240,7 @@ module _ (plan : Plan) (from to : End) where
           led = led_both;
         }
 
-  -- so it is by what the calls answered
+  -- the same holds by what the calls answered
   pub pass_err : {X : Type 0} (f : X → Store) (m0 m1 : Machine) (n0 n1 : Notes) (e : Fault)
       → DoesHalf plan first_part f from.node m0 n0 (Err e) m1 n1 → DoesPass plan from to m0 n0 (Err e) m1 n1
   pass_err f m0 m1 n0 n1 (fault.Stops why) first = pass_stops m0 m1 n0 n1 (reason_of why) first

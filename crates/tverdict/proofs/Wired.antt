@@ -32,7 +32,7 @@ left (suc k) [] = sym (le-ltb (suc k) 0 (omega arith))
 left zero (m ∷ ms) = sym (lt-ltb 0 (length (m ∷ ms)) (omega arith))
 left (suc k) (m ∷ ms) = left k ms ∙ one_more k (length ms)
 
--- whoever has no fewer than so many before is behind
+-- whoever has no fewer than n before is behind
 nobody_below : (n : ℕ) → nat_lt n 0 ≡ false
 nobody_below n = le-ltb n 0 (omega arith)
 

@@ -137,7 +137,7 @@ module _ (plan : Plan) (m m1 m2 m3 : Machine) (number : ℕ) (from to : End) (n2
   state2 =
       begin_state plan m1 m2 to.node b' numbers1 ∙ begin_state plan m m1 from.node b fits.nodes.numbers
 
-  -- the machine is as it was but for its nodes
+  -- the machine is as it was except for its nodes
   same2 : m2 ≡ record m { nodes = m2.nodes }
   same2 = b'.same ∙ ap (λ (x : Machine). record x { nodes = m2.nodes }) b.same
 

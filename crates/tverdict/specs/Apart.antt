@@ -17,7 +17,7 @@ pub record IsApart (plan : Plan) (nodes : List Node) (sent : List ℕ) (sinks : 
   pub after : (new : Node) → new.words.number ≡ k
       → node_at new rest ≡ state_of plan (slice_set nodes k new) sent sinks
 
--- so it is for each of its nodes
+-- the same holds for each of its nodes
 abbrev pub NodesAreApart : Type 0
 NodesAreApart =
     (plan : Plan) (nodes : List Node) (sent : List ℕ) (sinks : List Sink) (k : ℕ) (node : Node)

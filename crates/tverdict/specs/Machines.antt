@@ -93,7 +93,7 @@ pub record IsSound (plan : Plan) (m : Machine) : Type 0 where
   pub kept_places : (k : ℕ) (s : Sink) → slice_get m.sinks.items k ≡ Some s
       → s.place ≡ m.first_script + (length plan.nodes + length plan.sources + k)
 
--- it has done these steps of a run, the last one first, and stands where they lead
+-- it has done these steps of a run, the last one first, and its state is the one to which they lead
 pub record HasDone (plan : Plan) (m : Machine) (steps : List ProcessStep) : Type 0 where
   pub count : length steps ≡ m.done
   pub sound : IsSound plan m

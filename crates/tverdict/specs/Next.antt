@@ -32,11 +32,11 @@ pub record IsReadySuccessor (nodes : List Node) (a : Agent) : Type 0 where
 abbrev pub AwaitNothing : Node → Type 0
 AwaitNothing node = All (λ w. awaits w ≡ false) node.words.items.items
 
--- the machine is as it was but for its candidates
+-- the machine is as it was except for its candidates
 abbrev pub IsLookedAt : Machine → Machine → Type 0
 IsLookedAt old new = new ≡ record old { candidates = new.candidates }
 
--- it is as it was but for its candidates, and a successor may have come, with a clock, a slot and a hint
+-- it is as it was except for its candidates, and a successor may have come, with a clock, a slot and a hint
 pub record IsLookedOver (old new : Machine) : Type 0 where
   pub same : new ≡ record old { agents = new.agents; hints = new.hints; check = new.check; candidates = new.candidates }
   pub comes : ((new.agents ≡ old.agents) × (new.check ≡ old.check))

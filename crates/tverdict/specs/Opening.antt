@@ -55,12 +55,12 @@ pub record AreScriptPlaces (plan : Plan) (first : ℕ) (places : ℕ × ℕ) : T
   pub fresh : places.1 ≡ first + node_count plan
   pub fits : places.1 < 2 ^ 32
 
--- a check with so many agents more, each with its slot
+-- a check with n agents more, each with its slot
 abbrev pub with_agents : ℕ → Check → Check
 with_agents zero check = check
 with_agents (suc n) check = with_slot (with_agent (with_agents n check))
 
--- the check of so many places and agents before the first step
+-- the check of this number of places and agents before the first step
 abbrev pub first_check : (places agents : ℕ) → Check
 first_check places agents = with_agents agents (with_places places nothing_checked)
 

@@ -49,7 +49,7 @@ pub record Fits (plan : Plan) (m : Machine) : Type 0 where
   pub kept_places : (k : ℕ) (s : Sink) → slice_get m.sinks.items k ≡ Some s
       → s.place ≡ m.first_script + (length plan.nodes + length plan.sources + k)
 
--- all agents were found but for processes and channels of two nodes from these numbers on
+-- all agents were found except for processes and channels of two nodes from these numbers on
 pub record AreFoundBefore (plan : Plan) (one first_process first_channel other next_process next_channel : ℕ)
     (m : Machine) : Type 0 where
   pub processes : (j k : ℕ) → HasProcess m.nodes.items j k → (j ≡ one → k < first_process)
@@ -58,8 +58,8 @@ pub record AreFoundBefore (plan : Plan) (one first_process first_channel other n
       → (j ≡ other → k < next_channel) → Contains m.agents.items (agent.Channel j k)
   pub wires : (e f : End) → sender_to plan e ≡ Some f → Contains m.agents.items (agent.Wire e)
 
--- the step of an agent is done and not told: so many steps of a run lead to a state in which the agent of this number
--- has a step. That answers this, and leaves what the machine has now
+-- the step of an agent is done and not told: the steps of a run, as many as were done, lead to a state in which the
+-- agent of this number has a step. That answers this, and leaves what the machine has now
 pub record IsAnswered (plan : Plan) (number : ℕ) (answer : Result (Unit {0}) Reason) (m : Machine) : Type 0 where
   pub steps : List ProcessStep
   pub count : length steps ≡ m.done
@@ -82,7 +82,7 @@ pub record IsUntold (plan : Plan) (number n : ℕ) (m : Machine) : Type 0 where
       (changes (step_of plan answered.agent) answered.state) l
   pub fits : Fits plan m
 
--- the same where the node had so many processes and channels before, and all agents were found
+-- the same where the node had this number of processes and channels before, and all agents were found
 pub record IsDone (plan : Plan) (number n processes channels : ℕ) (m : Machine) : Type 0 where
   pub untold : IsUntold plan number n m
   pub found : AreFoundBefore plan n processes channels n processes channels m
@@ -141,7 +141,7 @@ pub record KeepsTold (number n : ℕ) (old new : Machine) : Type 0 where
 abbrev pub IsTelling : (number n : ℕ) → Machine → Type 0
 IsTelling number n m = (plan : Plan) × (at : List ℕ) × Contains at n × HasTold plan number at m
 
--- the check has so many places more
+-- the check has `count` places more
 pub record AddsPlaces (old : Machine) (count : ℕ) (new : Machine) : Type 0 where
   pub check : new.check ≡ with_places count old.check
   pub fresh : new.fresh_place ≡ old.fresh_place + count

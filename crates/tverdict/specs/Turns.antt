@@ -20,7 +20,7 @@ pub record HasMade (plan : Plan) (old : Machine) (number : ℕ) (new : Machine) 
   pub done : new.done ≡ old.done + 1
   pub kept : KeepsAgents old new
 
--- what a turn tells is so
+-- what a turn tells is true
 abbrev pub IsTurned : Plan → Machine → Turn → Machine → Type 0
 IsTurned plan old (turn.Made number) new = HasMade plan old number new
 IsTurned plan old turn.Over new = Follows plan new × HasNoStep plan new × (new.done ≡ old.done)

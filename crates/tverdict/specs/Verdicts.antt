@@ -26,8 +26,8 @@ use Rattle.tverdict.specs.declared.verdict.Verdict.TheVariants as verdict
 use Rattle.tverdict.specs.Agents.{IsThere}
 use Rattle.tverdict.specs.Machines.{machine_at, agents, Follows, HasStep}
 
--- there is a run of so many steps that is a certificate of the plan, so it is the only run, and the machine stands at
--- its end
+-- there is a run of as many steps as were done that is a certificate of the plan, so it is the only run, and the
+-- machine stands at its end
 pub record EndsCertified (plan : Plan) (m : Machine) : Type 0 where
   pub steps : List ProcessStep
   pub count : length steps ≡ m.done

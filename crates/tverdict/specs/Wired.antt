@@ -31,7 +31,7 @@ pub record BeginsAt (old : Machine) (n : ℕ) (new : Machine) : Type 0 where
   pub none : slice_get old.nodes.items n ≡ None → new.nodes.items ≡ old.nodes.items
   pub same : new ≡ record old { nodes = new.nodes }
 
--- a node of this number has so many processes and channels, if there is one
+-- these are the counts of processes and channels of the node of this number, if there is one
 pub record AreCounts (m : Machine) (n : ℕ) (counts : Counts) : Type 0 where
   pub processes : (a : Node) → slice_get m.nodes.items n ≡ Some a
       → counts.processes ≡ length a.processes.items.items
@@ -84,7 +84,7 @@ pub record IsUntoldAt (plan : Plan) (number n o : ℕ) (others : Notes) (m : Mac
       (changes (step_of plan answered.agent) answered.state) l
   pub fits : Fits plan m
 
--- the same where the nodes had so many processes and channels before, and all agents were found
+-- the same where the two nodes had these numbers of processes and channels before, and all agents were found
 pub record IsDoneAt (plan : Plan) (number n processes channels o processes' channels' : ℕ) (others : Notes)
     (m : Machine) : Type 0 where
   pub untold : IsUntoldAt plan number n o others m

@@ -9,7 +9,7 @@ use Rattle.tprocesses.specs.Machine.{Role, is_passable, offer_place, role_at, ta
 use Rattle.tverdict.specs.declared.machine.Machine.{Machine}
 use Rattle.tverdict.specs.Machines.{machine_at}
 
--- the messages of the source of this number, if its end is at this link: a source has its link 0 alone
+-- the messages of the source of this number, if its end is at this link: a source has only its link 0
 abbrev pub messages_by : ℕ → Option SourcePlan → List (List ℕ)
 messages_by link (Some s) = if link == 0 then s.messages else []
 messages_by link None = []

@@ -67,7 +67,7 @@ impl Agent {
         }
     }
 
-    /// Whether two agents are one.
+    /// Whether two agents are the same.
     #[inline(always)]
     pub(crate) fn is_same(self, other: Agent) -> bool
         ensures yes { result ≡ true → self ≡ other }

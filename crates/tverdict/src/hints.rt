@@ -6,7 +6,7 @@ use std::alloc::{AllocError, Global};
 /// How many hints there are.
 const HINTS: usize = 65_536;
 
-/// The numbers that agents may have. It is a hint alone, which whoever takes it has to check: two agents may share one.
+/// The numbers that agents may have. It is only a hint, which whoever takes it has to check: two agents may share one.
 #[derive(Drop)]
 pub struct AgentHints {
     numbers: Vec<u32>,

@@ -3,7 +3,7 @@
 ghost use Rattle.tverdict.specs.Apart.{CallsAtNodesRun, NodesAreApart};
 ghost use Rattle.tverdict.specs.Numbers.{PlacesAreNumbered};
 
-/// What stands at the places of one node is nothing to the others, nor to sources and sinks.
+/// What stands at the places of one node does not matter to the other nodes, nor to sources and sinks.
 pub fn nodes_are_apart()
     ensures { NodesAreApart }
 {}

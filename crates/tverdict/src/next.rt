@@ -78,8 +78,8 @@ impl Machine {
         Ok(())
     }
 
-    /// The number of a successor that has a step, where no agent in the list has one. It comes to the list: its word
-    /// was spoilt by a step that has not looked at it.
+    /// The number of a successor that has a step, where no agent in the list has one. It is added to the list: its
+    /// word was spoilt by a step that has not looked at it.
     ///
     /// # Errors
     /// Those of `add_agent`. Then nothing is told of the machine.

@@ -91,7 +91,7 @@ fn empty_sinks(alloc: Global, plans: &[SinkPlan], first_place: u32) -> Result<Ve
     Ok(sinks)
 }
 
-/// A check of so many places and agents, before the first step.
+/// A check of `places` places and `agents` agents, before the first step.
 ///
 /// # Errors
 /// Where the allocator refuses.
@@ -133,7 +133,7 @@ struct CheckedAgents {
     candidates: Vec<u32>,
 }
 
-/// All agents that there are before the first step, with a check of them and of so many places. Each may have a step.
+/// All agents that there are before the first step, with a check of them and of `places` places. Each may have a step.
 ///
 /// # Errors
 /// Where the allocator refuses, or there are too many.
@@ -160,7 +160,7 @@ fn checked_agents(
     })
 }
 
-/// The number so many places behind another, if it fits.
+/// The number that comes `count` places behind another, if it fits.
 fn place_behind(place: u32, count: usize) -> Option<u32>
     ensures { IfSome result (λ behind. behind ≡ place + count) }
 {

@@ -1,4 +1,4 @@
-//! What a plan has to have before its machine opens: no fault. A net is built of a copy of the plan, which tells.
+//! What a plan has to have before its machine opens: no fault. A net is built of a copy of the plan, to find that out.
 
 ghost use Rattle.std.specs.Prelude.{◌≡◌, IfOk, MatchResult};
 ghost use Rattle.tnet.specs.Building.{fault_of, IsFaultOf};

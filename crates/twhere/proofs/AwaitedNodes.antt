@@ -27,7 +27,7 @@ use Rattle.twhere.specs.Standing.{by_descriptor, circle_facts, circles_text, ins
 use Rattle.twhere.specs.Waits.{is_at, leads_to, node_waits_for, role_waits, wait_at, waiter_waits, waits_for}
 use Rattle.twhere.proofs.NodeBits.{none_set}
 
--- so much was added, and this is left of the whole
+-- a part was added, and this is left of the whole
 pub record AddsOn (net : NetState) (k : ℕ) (old now : NodeSet) (left whole : List Wait) : Type 0 where
   pub before : List Wait
   pub adds : Adds net k old now before

@@ -58,7 +58,7 @@ IsSaved n process = has_saved (claims_of n.control) (workspace_of process) ≡ t
 abbrev IsSavedAt : Machine → ℕ → Type 0
 IsSavedAt n w = (has_saved (claims_of n.control) w ≡ true) × (w % 4 ≡ 0)
 
--- so it is with each workspace of those that are queued or wait
+-- the same holds for each workspace of those that are queued or wait
 all_saved : (n : Machine) → IsClaimed n → All (IsSavedAt n) (descheduled n.control)
 all_saved n claimed k d l = (found (descheduled n.control) k d l, eqb-true _ _ (claimed.saved k d l).0)
 

@@ -7,7 +7,7 @@ use Rattle.twhere.specs.Circles.{circle, numbers_from}
 abbrev by_pairs : List (ℕ × ℕ) → ℕ → ℕ → Bool
 by_pairs pairs a b = list_any (λ p. (p.0 == a) && (p.1 == b)) pairs
 
--- the circle of each of so many nodes
+-- the circle of each of `count` nodes
 abbrev circles : ℕ → List (ℕ × ℕ) → List (Option (List ℕ))
 circles count pairs = map (circle count (by_pairs pairs)) (numbers_from 0 count)
 

@@ -12,18 +12,18 @@ numbers_from first end = range_with_len first (end - first)
 abbrev pub is_among : List ℕ → ℕ → Bool
 is_among xs n = list_any (λ x. x == n) xs
 
--- among so many nodes, by which of them waits for which
+-- among `count` nodes, by which of them waits for which
 module _ (count : ℕ) (waits : ℕ → ℕ → Bool) where
   -- the nodes from the lowest on that wait for one of these
   abbrev pub waiting_for : (lowest : ℕ) → List ℕ → List ℕ
   waiting_for lowest ends = filter (λ a. list_any (waits a) ends) (numbers_from lowest count)
 
-  -- the nodes from which just so many steps lead to the lowest, each from a node to one that it waits for
+  -- the nodes from which exactly this number of steps leads to the lowest, each from a node to one that it waits for
   abbrev pub leading : (lowest steps : ℕ) → List ℕ
   leading lowest zero = lowest ∷ []
   leading lowest (suc k) = waiting_for lowest (leading lowest k)
 
-  -- so many steps lead from a node to itself, through none that is lower
+  -- this number of steps leads from a node to itself, through none that is lower
   abbrev pub comes_round : (lowest steps : ℕ) → Bool
   comes_round lowest k = is_among (leading lowest k) lowest
 
@@ -35,7 +35,8 @@ module _ (count : ℕ) (waits : ℕ → ℕ → Bool) where
   abbrev pub first_of : (lowest a : ℕ) → List ℕ → ℕ
   first_of lowest a ends = unwrap_or (find (λ c. waits a c && is_among ends c) (numbers_from lowest count)) lowest
 
-  -- the nodes on the way of so many steps from a node to the lowest, each the first from which the others lead there
+  -- the nodes on the way of this number of steps from a node to the lowest, each the first from which the others lead
+  -- there
   abbrev pub way : (lowest steps a : ℕ) → List ℕ
   way lowest zero a = []
   way lowest (suc k) a =

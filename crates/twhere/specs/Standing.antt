@@ -118,7 +118,7 @@ process_facts name n p r =
     line (name ++ (word_text (r.wptr + p) ++ priority_text p))
     ++ (iptr_fact n r.iptr ++ (register_facts r ++ flag_facts r))
 
--- no process runs: the flags alone
+-- no process runs: only the flags
 abbrev pub idle_facts : Registers → List ℕ
 idle_facts r = line (codes "  runs          none") ++ flag_facts r
 
@@ -339,7 +339,7 @@ lack_text want (Halted n) = node_lacks n (codes " is halted")
 lack_text want Room = room_text want
 lack_text want Partner = partner_text want
 
--- what is lacking behind a wire; a link without one is told as such already
+-- what is lacking behind a wire; a link without one is told of already
 abbrev pub lacking_text : NetState → ℕ → NodeState → Want → Option End → List ℕ
 lacking_text net k n want (Some e) = codes ", " ++ lack_text want (lack net k n want e)
 lacking_text net k n want None = []
@@ -392,7 +392,7 @@ abbrev pub circle_fact : (lowest : ℕ) → Option (List ℕ) → List ℕ
 circle_fact lowest (Some behind) = line (numbered (codes "circle ") lowest ++ flat_map awaited_text behind)
 circle_fact lowest None = []
 
--- the circles of so many nodes, by which of them waits for which, in the order of their lowest nodes
+-- the circles of `count` nodes, by which of them waits for which, in the order of their lowest nodes
 abbrev pub circle_facts : ℕ → (ℕ → ℕ → Bool) → List ℕ
 circle_facts count waits = flat_map (λ n. circle_fact n (circle count waits n)) (numbers_from 0 count)
 

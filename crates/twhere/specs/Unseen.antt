@@ -19,7 +19,7 @@ hidden_net net = record net { nodes = map hidden_node net.nodes }
 abbrev pub HiddenIsUnseen : Type 0
 HiddenIsUnseen = (net : NetState) → IsSound net → where_text (hidden_net net) ≡ where_text net
 
--- nets that agree but for hidden bytes have one text
+-- nets that agree except for hidden bytes have one text
 abbrev pub TextIsOfTheView : Type 0
 TextIsOfTheView =
     (a b : NetState) → IsSound a → IsSound b → hidden_net a ≡ hidden_net b → where_text a ≡ where_text b

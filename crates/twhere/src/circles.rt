@@ -52,7 +52,7 @@ fn put_circle<W: CountedWrite>(out: &mut Output<'_, W>, waits: &[NodeSet], lowes
     }
 }
 
-/// The nodes of a circle of so many steps behind its lowest node, up to that one again.
+/// The nodes of a circle of `steps` steps behind its lowest node, up to that one again.
 fn put_way<W: CountedWrite>(out: &mut Output<'_, W>, waits: &[NodeSet], lowest: usize, steps: usize)
     requires few { length waits.now ≤ most_nodes }
     requires there { lowest < length waits.now }
@@ -88,7 +88,7 @@ fn circle_size(waits: &[NodeSet], lowest: usize) -> Option<usize>
     None
 }
 
-/// The nodes from which just so many steps lead to the lowest.
+/// The nodes from which exactly `steps` steps lead to the lowest.
 fn leading(waits: &[NodeSet], lowest: usize, steps: usize) -> NodeSet
     requires few { length waits.now ≤ most_nodes }
     requires there { lowest < length waits.now }

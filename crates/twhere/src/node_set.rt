@@ -18,7 +18,7 @@ impl NodeSet {
         NodeSet { nodes: 0 }
     }
 
-    /// This node alone.
+    /// The set with only this node.
     pub(crate) fn only(node: usize) -> Self
         requires { node < most_nodes }
         ensures { (n : ℕ) → has_node result n ≡ (node == n) }

@@ -11,7 +11,7 @@ use tfiles::writing::output::Output;
 use tproc::Processor;
 use tword::Word;
 
-/// The process that runs, or that broke the rule; where there is none, the flags alone.
+/// The process that runs, or that broke the rule; where there is none, only the flags.
 pub(crate) fn put_running<W: CountedWrite>(out: &mut Output<'_, W>, processor: &Processor)
     ensures { Tells W.contents W.failures out.old out.new
         (spec.running_facts processor.now processor.now.control.current) }

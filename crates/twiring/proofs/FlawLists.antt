@@ -53,7 +53,7 @@ pub items_end : (first : Bool) (e : Entry) (k : ℕ) (vs : List Value) → lengt
 items_end first e k vs l =
     ap (λ (us : List Value). items_flaws first e k (items_view us)) (drop_of_length-le vs l)
 
--- what is no want of memory is what is told
+-- what is not lack of memory is what is told
 pub told_flaws : {A : Type 0} (p : Part) (k : Key) (told answer : Reading A) → IsWiringAnswer told answer
     → answer ≢ Err OutOfMemory → key_flaws p k answer ≡ key_flaws p k told
 told_flaws p k told answer (inl e) other = absurd (other e)

@@ -12,7 +12,7 @@ use Rattle.tplan.specs.declared.wiring.WiringFault.TheVariants.{OutOfMemory, Unk
 use Rattle.twiring.specs.Wirings.{Names, is_one_of, has_unknown, IsWiringAnswer}
 use Rattle.twiring.specs.WiringParts.{Reading, lower, both, made, known, one_more, more_in, end_in}
 
--- want of memory is the lowest fault
+-- lack of memory is the lowest fault
 lower-memory : (f : WiringFault) → lower OutOfMemory f ≡ OutOfMemory
 lower-memory OutOfMemory = refl
 lower-memory _ = refl

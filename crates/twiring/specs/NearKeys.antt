@@ -9,16 +9,17 @@ abbrev pub swapped : List ℕ → List ℕ
 swapped (x ∷ y ∷ rest) = y ∷ x ∷ rest
 swapped name = name
 
--- two names are the same but for the first letter of one of them, or of both, or but for the order of the first two
+-- two names are the same except for the first letter of one of them, or of both, or except for the order of the first
+-- two
 abbrev pub differ_first : List ℕ → List ℕ → Bool
 differ_first a b =
     bytes_eq (drop 1 a) b || bytes_eq a (drop 1 b) || bytes_eq (drop 1 a) (drop 1 b) || bytes_eq (swapped a) b
 
--- two names are the same before a place, and from there on but for the first letter, or the order of the first two
+-- two names are the same before a place, and from there on except for the first letter, or the order of the first two
 abbrev pub differ_at : List ℕ → List ℕ → ℕ → Bool
 differ_at a b place = bytes_eq (take place a) (take place b) && differ_first (drop place a) (drop place b)
 
--- two names are the same but for a letter that is put in, left out or changed, or two neighbours that are swapped
+-- two names are the same except for a letter that is put in, left out or changed, or two neighbours that are swapped
 abbrev pub differ_once : List ℕ → List ℕ → Bool
 differ_once a b = list_any (differ_at a b) (range_with_len 0 (length a + 1))
 

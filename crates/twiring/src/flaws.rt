@@ -1,4 +1,4 @@
-//! Everything that keeps a text from being a wiring, and not the lowest fault alone.
+//! Everything that keeps a text from being a wiring, and not only the lowest fault.
 
 ghost use Rattle.std.specs.Prelude.{◌≡◌, ◌≢◌, ◌++◌, ◌↔◌, [], map, IfOk, IsOk, OnOk};
 ghost use Rattle.toml.specs.View.{view, items_view, table_view};

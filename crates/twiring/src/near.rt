@@ -37,7 +37,7 @@ fn begin_alike(a: &[u8], b: &[u8]) -> bool
     a.starts_with(b) || b.starts_with(a)
 }
 
-/// Whether two names are the same but for a letter that is put in, left out or changed, or two neighbours that are
+/// Whether two names are the same except for a letter that is put in, left out or changed, or two neighbours that are
 /// swapped.
 fn differ_once(a: &[u8], b: &[u8]) -> bool
     ensures { result ≡ spec.differ_once a.now b.now }
@@ -50,8 +50,8 @@ fn differ_once(a: &[u8], b: &[u8]) -> bool
     false
 }
 
-/// Whether two names are the same before a place, and from there on but for the first letter, or the order of the first
-/// two.
+/// Whether two names are the same before a place, and from there on except for the first letter, or the order of the
+/// first two.
 fn differ_at(a: &[u8], b: &[u8], place: usize) -> bool
     requires { place ≤ length a.now }
     ensures { result ≡ spec.differ_at a.now b.now place }
@@ -59,8 +59,8 @@ fn differ_at(a: &[u8], b: &[u8], place: usize) -> bool
     place <= b.len() && a[..place] == b[..place] && differ_first(&a[place..], &b[place..])
 }
 
-/// Whether two names are the same but for the first letter of one of them, or of both, or but for the order of the
-/// first two.
+/// Whether two names are the same except for the first letter of one of them, or of both, or except for the order of
+/// the first two.
 fn differ_first(a: &[u8], b: &[u8]) -> bool
     ensures { result ≡ spec.differ_first a.now b.now }
 {

@@ -278,7 +278,7 @@ impl Bytes {
         ensures inside { result ≡ true → is_inside (length self.now) (word_span address) ≡ true }
         ensures found { result ≡ (is_aligned address && is_clear counts.now address) }
     {
-        // To ask for the size is to know that no memory ends at the last address.
+        // Asking for the size lets the prover know that no memory ends at the last address.
         let _ = self.size();
         if address.get() % 4 != 0 {
             return false;
@@ -317,7 +317,7 @@ impl Bytes {
         self.bytes[place(address)]
     }
 
-    /// The byte at an address, and `None` outside the memory alone.
+    /// The byte at an address, and `None` only outside the memory.
     #[inline]
     pub fn byte_at(&self, address: Word) -> Option<u8>
         ensures byte { result ≡ byte_at self.now address }

@@ -38,7 +38,7 @@ impl Model for ClaimTable {
 }
 
 impl ClaimTable {
-    /// No claims, for a memory of so many bytes: none has more than there are addresses from #80000000 on.
+    /// No claims, for a memory of `size` bytes: none has more than there are addresses from #80000000 on.
     pub fn new(alloc: Global, size: u32) -> Result<ClaimTable, AllocError>
         ensures zeros { IfOk result (λ t. (slot : ℕ) → slot < length t → slice_index t slot ≡ 0) }
         ensures sized { IfOk result (λ t. length t ≡ min (size / 4) lowest_word) }
@@ -81,7 +81,7 @@ impl ClaimTable {
             && self.counts[first + 2] == 0
     }
 
-    /// The counts of so many words, from this slot on; of fewer where the table ends before.
+    /// The counts of `most` words, from slot `first` on; of fewer where the table ends before.
     #[inline(always)]
     pub fn from_slot(&self, first: usize, most: usize) -> &[u16]
         ensures few { length result.now ≤ most }
@@ -188,7 +188,8 @@ fn sum_of(counts: &[u16]) -> u32
     counts.iter().map(|count| u32::from(*count)).sum()
 }
 
-/// The slots of the words that a span has a byte of, in a table of so many: the first, and the one behind the last.
+/// The slots of the words that a span has a byte of, in a table of `slots` slots: the first, and the one behind the
+/// last.
 #[inline]
 fn slots_of(span: &Span, slots: usize) -> (usize, usize)
     ensures order { result.0 ≤ result.1 }

@@ -5,7 +5,7 @@ use crate::word::Word;
 use std::alloc::{AllocError, Global};
 
 /// For each process that is queued or waits, where it was put in a list: a table with a hint for each two words of a
-/// memory. The workspaces of two such processes lie three words apart or more, so no two share one. It is a hint alone,
+/// memory. The workspaces of two such processes lie three words apart or more, so no two share one. It is only a hint,
 /// which whoever takes it has to check: the process may have gone, or be one outside the memory or of another priority.
 #[derive(Drop)]
 pub struct Hints {
@@ -13,7 +13,7 @@ pub struct Hints {
 }
 
 impl Hints {
-    /// A table without hints, for a memory of so many bytes. A workspace may begin behind its end.
+    /// A table without hints, for a memory of `size` bytes. A workspace may begin behind its end.
     ///
     /// # Errors
     /// Where the allocator refuses.

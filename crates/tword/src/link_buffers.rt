@@ -18,7 +18,7 @@ const NOTHING: (u64, u64) = (u64::MAX, 0);
 /// The buffers that the inputs, or the outputs, of the four links claim. Contracts see them by link.
 ///
 /// `bounds` has those of each, and `low` and `high` bound them all, so that most spans need no look at each. The
-/// latter are taken anew with each change.
+/// latter are taken again with each change.
 #[derive(Drop)]
 pub struct LinkBuffers {
     claimed: [Option<Span>; 4],

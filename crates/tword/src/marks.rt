@@ -50,8 +50,8 @@ impl Model for Marks {
 
 impl Marks {
     /// No claims, and room for those of four inputs, four outputs and the workspaces of all processes: no other call
-    /// takes memory. A claim in a memory of so many bytes is found in constant time; for another one, all are gone
-    /// over.
+    /// takes memory. A claim in a memory of `size` bytes is found in constant time; to find another one, all are
+    /// looked at.
     ///
     /// # Errors
     /// `OutOfMemory` where the allocator refuses.
@@ -244,7 +244,7 @@ impl Marks {
         self.table.are_three_clear(lowest)
     }
 
-    /// The counts of the words of a memory of so many bytes, from the first that programs may use on, for those who
+    /// The counts of the words of a memory of `size` bytes, from the first that programs may use on, for those who
     /// touch many words in a row.
     #[inline(always)]
     pub fn open_counts(&self, size: u32) -> &[u16]

@@ -38,7 +38,7 @@ impl Model for Saved {
 }
 
 impl Saved {
-    /// A list without workspaces, with room for those of all processes, in a memory of so many bytes. A workspace may
+    /// A list without workspaces, with room for those of all processes, in a memory of `size` bytes. A workspace may
     /// begin behind its end.
     pub fn new(alloc: Global, size: u32) -> Result<Saved, AllocError>
         ensures { IfOk result (λ s. s ≡ []) }

@@ -29,7 +29,7 @@ text_read m id None e h =
     absurd (true≢false (sym bad))
 text_read m id (Some s) e h = (s, refl, ap (λ o. option_map_or (λ t. t) o []) (e ∙ first_value-rows (found_of m) id))
 
--- a number of a range, as a getter of a type of so many bits reads it
+-- a number of a range, as a getter of a type of `bits` bits reads it
 pub number_read : (E : Type 0) (G : List ℕ → Result ℕ E → Type 0) (bits most : ℕ) (m : ArgMatches) (id : Text)
     (r : Option ℕ)
     → ((t : Text) → one_text (found_of m) id ≡ Some t → ReadsOne G t r)

@@ -48,7 +48,7 @@ number_rule id parser default = record (option_rule id) { parser = Some parser; 
 abbrev pub between : ℕ → ℕ → ValueParser
 between least most = Signed (pos least) (pos most)
 
--- the numbers that are at most so far from zero
+-- the numbers that are at most this far from zero
 abbrev pub around : ℕ → ValueParser
 around most = Signed (neg_ℤ (pos most)) (pos most)
 
@@ -74,7 +74,7 @@ number_at id rows = option_map_or (λ t. digits_value 10 (without_leading_plus t
 abbrev pub signed_at : Text → List Row → ℤ
 signed_at id rows = option_map_or (λ t. signed_digits_value 10 t) (one_of id rows) (pos 0)
 
--- a number is at most so far from zero
+-- a number is at most this far from zero
 abbrev pub IsWithin : ℕ → ℤ → Type 0
 IsWithin most n = (neg_ℤ (pos most) ≤ℤ n) × (n ≤ℤ pos most)
 
@@ -94,7 +94,7 @@ pub record HasBetween (least most : ℤ) (id : Text) (rows : List Row) : Type 0 
   pub read : one_of id rows ≡ Some text
   pub within : IsSignedIn least most text
 
--- the argument has a number that is at most so far from zero
+-- the argument has a number that is at most this far from zero
 abbrev pub HasSigned : ℕ → Text → List Row → Type 0
 HasSigned most id rows = HasBetween (neg_ℤ (pos most)) (pos most) id rows
 

@@ -289,7 +289,7 @@ example_free_defaults : command_of (codes "temu" ∷ codes "free" ∷ codes "pai
 unfolding clap_on_literals
 example_free_defaults = refl
 
--- a million states, or so many; all steps, or so many
+-- a million states, or a given number; all steps, or a given number
 example_explore : command_of (codes "temu" ∷ codes "explore" ∷ codes "pair.toml" ∷ [])
     ≡ Some (command.Explore (exploring (codes "pair.toml") 1000000 9223372036854775807 None show.Dump))
 unfolding clap_on_literals
@@ -316,7 +316,7 @@ example_explore_log : command_of (codes "temu" ∷ codes "explore" ∷ codes "--
 unfolding clap_on_literals
 example_explore_log = refl
 
--- where there is no certificate by as many steps, with dumps or with headings alone
+-- where there is no certificate by as many steps, with dumps or only with headings
 example_explore_certify : command_of
     (codes "temu" ∷ codes "explore" ∷ codes "--certify" ∷ codes "pair.toml" ∷ codes "--steps=100" ∷ [])
     ≡ Some (command.Explore (record (exploring (codes "pair.toml") 1000000 100 None show.Dump) { certify = true }))
@@ -331,7 +331,7 @@ example_explore_certify_none : command_of
 unfolding clap_on_literals
 example_explore_certify_none = refl
 
--- a certificate by all steps, or by so many
+-- a certificate by all steps, or by a given number
 example_certify : command_of (codes "temu" ∷ codes "certify" ∷ codes "pair.toml" ∷ [])
     ≡ Some (command.Certify (certifying (codes "pair.toml") 9223372036854775807 []))
 unfolding clap_on_literals
@@ -445,7 +445,7 @@ example_steps_names : command_of (codes "temu" ∷ codes "steps" ∷ codes "pair
 unfolding clap_on_literals
 example_steps_names = refl
 
--- a word by its address, or so many bytes
+-- a word by its address, or a given number of bytes
 example_watch : command_of (codes "temu" ∷ codes "watch" ∷ codes "pair.toml" ∷ codes "pair.log" ∷ codes "--node"
     ∷ codes "0" ∷ codes "--address" ∷ codes "80000100" ∷ [])
     ≡ Some (command.Watch (watching 0 2147483904 4 []))
@@ -542,7 +542,7 @@ example_show_of_run : refusals (codes "temu" ∷ codes "run" ∷ codes "pair.tom
 unfolding clap_on_literals
 example_show_of_run = refl
 
--- where a net stands is told in lines alone
+-- where a net stands is told only in lines
 example_json_where : refusals
     (codes "temu" ∷ codes "run" ∷ codes "pair.toml" ∷ codes "--json" ∷ codes "--show" ∷ codes "where" ∷ [])
     ≡ InvalidValue ∷ []

@@ -165,7 +165,7 @@ show_of word =
 abbrev pub show_in : List Row → Option Show
 show_in rows = show_of (text_at (codes "show") rows)
 
--- what is printed where this is to be shown, in lines or as JSON; where a net stands is told in lines alone
+-- what is printed where this is to be shown, in lines or as JSON; where a net stands is told only in lines
 abbrev pub printing_of : (as_json : Bool) → Show → Option Printing
 printing_of false what = Some (printing.Lines what)
 printing_of true show.Dump = Some (printing.Json true)

@@ -109,7 +109,7 @@ pub enum Command {
     Replay {
         wiring: FileName,
         log: FileName,
-        /// How many events are done at most; a negative number leaves out so many of the last ones.
+        /// How many events are done at most; a negative number says how many of the last ones are left out.
         events: i64,
         /// What is printed of the replay.
         printing: Printing,
@@ -118,7 +118,7 @@ pub enum Command {
     Where {
         wiring: FileName,
         log: FileName,
-        /// How many events are done at most; a negative number leaves out so many of the last ones.
+        /// How many events are done at most; a negative number says how many of the last ones are left out.
         events: i64,
         /// The files of names.
         names: NamesFiles,
@@ -131,7 +131,7 @@ pub enum Command {
     Chart {
         wiring: FileName,
         log: FileName,
-        /// How many events are done at most; a negative number leaves out so many of the last ones.
+        /// How many events are done at most; a negative number says how many of the last ones are left out.
         events: i64,
     },
     /// Looks through a wiring file and its images, and writes all that is wrong, or what the net is.
@@ -359,7 +359,7 @@ fn printing_asked(given: &ArgMatches) -> Option<Printing>
     printing_of(is_given(given, "json"), shown(given)?)
 }
 
-/// What is printed where this is to be shown, as JSON or in lines. Where a net stands is told in lines alone.
+/// What is printed where this is to be shown, as JSON or in lines. Where a net stands is told only in lines.
 fn printing_of(as_json: bool, show: Show) -> Option<Printing>
     ensures { result ≡ spec.printing_of as_json show }
 {

@@ -38,7 +38,7 @@ pub fn read_words(alloc: Global, words: &[&str]) -> Result<Command, CommandFault
     read_without_help(alloc, words.as_slice())
 }
 
-/// What words ask for in which help is asked for by `--help` alone.
+/// What words ask for in which help is asked for only by `--help`.
 fn read_without_help(alloc: Global, words: &[&str]) -> Result<Command, CommandFault>
     ensures command { IfOk result (λ c. spec.command_without_help (map (λ w. w.now) words.now) ≡ Some c) }
     ensures range { IfOk result IsInRange }

@@ -23,7 +23,7 @@ use tword::{Break, Span};
 /// pending link input is to write is hidden; of a sink the messages that it has kept whole are shown.
 ///
 /// # Errors
-/// Where the writer fails or takes nothing. Just so many of the first bytes are written as the fault tells.
+/// Where the writer fails or takes nothing. Then only the first bytes are written, as many as the fault tells.
 pub fn write_dump<W: CountedWrite>(out: &mut W, net: &Net) -> Result<(), WriteFault>
     ensures out { IsOut (W.contents out.old) (W.contents out.new) (dump_text (view net.now)) result }
     ensures cause { IfErr result (λ _. HasRisen (W.failures out.old) (W.failures out.new)) }

@@ -8,7 +8,7 @@ use crate::counted::CountedWrite;
 use crate::writing::output::Output;
 use crate::writing::text::put_decimal;
 
-/// The last line of a run by rounds, of which so many were done: `end quiet 9`, or `end rounds 9` where the net was
+/// The last line of a run of `rounds` rounds: `end quiet 9`, or `end rounds 9` where the net was
 /// not quiet.
 pub fn put_rounds_end<W: CountedWrite>(out: &mut Output<'_, W>, quiet: bool, rounds: u32)
     ensures { Tells W.contents W.failures out.old out.new (rounds_end quiet rounds) }
@@ -42,7 +42,7 @@ pub fn put_free_end<W: CountedWrite>(out: &mut Output<'_, W>, quiet: bool)
     }
 }
 
-/// The last line of a replay of so many events: `end replay 32`.
+/// The last line of a replay of `events` events: `end replay 32`.
 pub fn put_replay_end<W: CountedWrite>(out: &mut Output<'_, W>, events: u64)
     ensures { Tells W.contents W.failures out.old out.new (replay_end events) }
 {

@@ -132,7 +132,7 @@ fn put_line<W: CountedWrite>(
     }
 }
 
-/// Writes the line of some bytes, unless it has zeros alone.
+/// Writes the line of some bytes, unless it has only zeros.
 fn put_cells<W: CountedWrite>(
     out: &mut Output<'_, W>,
     address: u32,

@@ -81,7 +81,7 @@ impl<'a, W: CountedWrite> Output<'a, W> {
         }
     }
 
-    /// Makes room for so many bytes, or as much as there is.
+    /// Makes room for `count` bytes, or as much as there is.
     #[inline]
     fn make_room(&mut self, count: usize)
         ensures told { Tells W.contents W.failures self.old self.new [] }

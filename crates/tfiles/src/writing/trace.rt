@@ -20,7 +20,7 @@ use tword::Break;
 /// length and bytes), `halt 0` or `freeze 1 LengthMismatch`.
 ///
 /// # Errors
-/// Where the writer fails or takes nothing. Just so many of the first bytes are written as the fault tells.
+/// Where the writer fails or takes nothing. Then only the first bytes are written, as many as the fault tells.
 pub fn write_trace<W: CountedWrite>(out: &mut W, notes: &[Note]) -> Result<(), WriteFault>
     ensures out { IsOut (W.contents out.old) (W.contents out.new) (trace_text notes.now) result }
     ensures cause { IfErr result (λ _. HasRisen (W.failures out.old) (W.failures out.new)) }

@@ -38,7 +38,7 @@ impl<const N: usize> Waiting<N> {
         &self.bytes[..self.count]
     }
 
-    /// Whether there is room for so many more.
+    /// Whether there is room for `count` more.
     #[inline]
     pub(crate) fn has_room(&self, count: usize) -> bool
         ensures { IsTrue result ↔ (length self.now + count ≤ N) }

@@ -17,13 +17,13 @@ pub struct Answer {
 /// What may go wrong.
 #[derive(Clone, Copy, Debug)]
 pub enum Fault {
-    /// The memory is not to be had.
+    /// A memory cannot be made.
     Memory(MemoryFault),
     /// An access breaks a rule.
     Broken(Break),
     /// There is no memory for a plan, or for what workers do.
     Refused(AllocError),
-    /// A net is not to be had.
+    /// A net cannot be built.
     Unbuilt(BuildFault),
     /// Rounds did not come to their end.
     Stopped(NetFault),

@@ -25,7 +25,7 @@ pub enum Load {
     Computing,
     /// One message goes round, so that nearly all nodes wait.
     Waiting,
-    /// Each node sends and receives so many messages, and stops.
+    /// Each node sends and receives a given number of messages, and stops.
     Exchanging,
 }
 
@@ -81,7 +81,7 @@ fn plan(alloc: Global, load: Load, thousands: u32) -> Result<Plan, AllocError> {
     wired(alloc, nodes)
 }
 
-/// Does so many rounds, or so many turns of each worker: answers how many events that was, and the net after them.
+/// Does `count` rounds, or `count` turns of each worker: answers how many events that was, and the net after them.
 fn went_on<R: Threads + Sync>(
     rt: &R,
     alloc: Global,
@@ -95,8 +95,8 @@ fn went_on<R: Threads + Sync>(
     }
 }
 
-/// Does so many thousand Runs of each node where all compute, a hundred rounds for each thousand where nearly all wait,
-/// and a hundred messages of each node for each thousand where all send and receive, until the net is quiet; a slice is
+/// Does 1,000 Runs of each node for each of `thousands` where all compute, a hundred rounds for each where nearly all
+/// wait, and a hundred messages of each node for each where all send and receive, until the net is quiet; a slice is
 /// no longer than that. Answers with the number of events and a checksum of the memories.
 pub fn worked<R: Threads + Sync>(
     rt: &R,

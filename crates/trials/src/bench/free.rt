@@ -8,7 +8,7 @@ use tfree::laws::one_opening_stays;
 use tfree::{gather, open, turn_all};
 use tnet::Net;
 
-/// Does so many turns of each worker on a net: how many events that was, and the net after them.
+/// Does `count` turns of each worker on a net: how many events that was, and the net after them.
 pub fn turned<R: Threads + Sync>(
     rt: &R,
     alloc: Global,

@@ -13,7 +13,7 @@ const LENGTH: u32 = 4;
 /// How many Runs a node does at most in a turn.
 const SLICE: u32 = 64;
 
-/// The plan of so many nodes that each wait for a message.
+/// The plan of `nodes` nodes that each wait for a message.
 fn plan(alloc: Global, nodes: u8) -> Result<Plan, AllocError> {
     let mut waiting = Vec::new(alloc);
     for _node in 0..nodes {
@@ -22,8 +22,9 @@ fn plan(alloc: Global, nodes: u8) -> Result<Plan, AllocError> {
     wired(alloc, waiting)
 }
 
-/// Makes so many thousand turns over so many nodes, by one worker. In the first turn the nodes come to wait, and the
-/// others find nothing to do. Answers with the number of turns and a checksum of that and of how many events were done.
+/// Makes `thousands` times 1,000 turns over `nodes` nodes, by one worker. In the first turn the nodes come to wait,
+/// and the others find nothing to do. Answers with the number of turns and a checksum of that and of how many events
+/// were done.
 pub fn waited(alloc: Global, thousands: u32, nodes: u8) -> Result<Answer, Fault> {
     let plan = plan(alloc, nodes).map_err(Fault::Refused)?;
     let net = Net::build(alloc, plan).map_err(Fault::Unbuilt)?;

@@ -59,7 +59,7 @@ fn load(memory: &mut Memory, marks: &Marks) -> Result<(), Break> {
     Ok(())
 }
 
-/// Does so many instructions.
+/// Does `steps` instructions.
 #[inline(never)]
 fn run(
     registers: &mut Registers,
@@ -94,7 +94,7 @@ fn sum_of(r: &Registers) -> u32 {
     sum
 }
 
-/// Does so many thousand instructions of the loop, and answers with a checksum of registers and memory.
+/// Does `thousands` times 1,000 instructions of the loop, and answers with a checksum of registers and memory.
 pub fn looped(alloc: Global, thousands: u32, claims: Claims) -> Result<Answer, Fault>
     ensures { IfOk result (λ answer. answer.operations ≡ thousands * 1000) }
 {

@@ -82,7 +82,7 @@ fn load(memory: &mut Memory, marks: &Marks) -> Result<(), Break> {
     Ok(())
 }
 
-/// Decodes the code from its first instruction to the last, so many times, and adds up functions and operands.
+/// Decodes the code from its first instruction to the last, `turns` times, and adds up functions and operands.
 #[inline(never)]
 fn sum_of(memory: &Memory, marks: &Marks, turns: u32) -> Result<u32, Break> {
     let mut sum = 0u32;
@@ -98,7 +98,7 @@ fn sum_of(memory: &Memory, marks: &Marks, turns: u32) -> Result<u32, Break> {
     Ok(sum)
 }
 
-/// Decodes the code so many times, and answers with the sum.
+/// Decodes the code `turns` times, and answers with the sum.
 pub fn decoded(alloc: Global, turns: u32) -> Result<Answer, Fault>
     ensures { IfOk result (λ answer. answer.operations ≡ turns * INSTRUCTIONS) }
 {

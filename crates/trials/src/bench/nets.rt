@@ -24,7 +24,7 @@ pub const BACK: u32 = 0x8000_0018;
 /// How many Runs a node does at most in one turn.
 const SLICE: u32 = 64;
 
-/// A ring of so many nodes, each wired from its link 1 to link 2 of the next, with messages of so many bytes.
+/// A ring of `nodes` nodes, each wired from its link 1 to link 2 of the next, with messages of `length` bytes.
 #[derive(Clone, Copy)]
 pub struct Ring {
     pub nodes: u8,
@@ -88,7 +88,7 @@ pub fn wired(alloc: Global, nodes: Vec<NodePlan>) -> Result<Plan, AllocError> {
     })
 }
 
-/// A node that waits for a message of so many bytes, and then sends it on.
+/// A node that waits for a message of `length` bytes, and then sends it on.
 pub fn passes_on(alloc: Global, length: u32) -> Result<NodePlan, AllocError> {
     node(alloc, &PONG, &[BACK, ONWARD, BUFFER, length])
 }
@@ -132,7 +132,7 @@ pub fn turn(net: &mut Net, node: u8) -> u32 {
     done.wrapping_add(tried(net, node, Act::Send(1)))
 }
 
-/// Lets the nodes make so many turns, one node after the other: answers how many events were done.
+/// Lets the nodes make `count` turns, one node after the other: answers how many events were done.
 #[inline(never)]
 fn turns(net: &mut Net, ring: Ring, count: u64) -> u64 {
     let mut done = 0u64;
@@ -147,7 +147,7 @@ fn turns(net: &mut Net, ring: Ring, count: u64) -> u64 {
     done
 }
 
-/// The answer of so many events: their number, with a checksum of the memories after them.
+/// The answer of a benchmark of events: their number, with a checksum of the memories after them.
 pub fn answered(net: &Net, operations: u64) -> Answer {
     let mut sum = mixed(BEGIN, (operations % 4_294_967_296) as u32);
     for node in net.nodes() {
@@ -156,7 +156,7 @@ pub fn answered(net: &Net, operations: u64) -> Answer {
     Answer { operations, sum }
 }
 
-/// Does so many thousand turns, and answers with the number of events and a checksum of the memories.
+/// Does `thousands` times 1,000 turns, and answers with the number of events and a checksum of the memories.
 pub fn went_round(alloc: Global, thousands: u32, ring: Ring) -> Result<Answer, Fault> {
     let plan = plan(alloc, ring).map_err(Fault::Refused)?;
     let mut net = Net::build(alloc, plan).map_err(Fault::Unbuilt)?;

@@ -102,7 +102,7 @@ fn passes(net: &mut Net) -> u64 {
     done
 }
 
-/// Runs so many nets, one after another, and answers with the number of events and a checksum of the memories.
+/// Runs `nets` nets, one after another, and answers with the number of events and a checksum of the memories.
 pub fn went_through(alloc: Global, nets: u32) -> Result<Answer, Fault> {
     let mut operations = 0u64;
     let mut sum = BEGIN;

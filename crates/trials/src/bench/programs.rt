@@ -6,10 +6,9 @@ pub const START: u32 = 0x8000_0080;
 /// How many bytes a node has.
 pub const SIZE: u32 = 131_072;
 
-/// Goes over an array of 64 words by turns: adds each to a sum and puts the sum back, and then takes the sum's
-/// complement in part, or calls a procedure on it. Its workspace has the index, the count, the sum, a pointer, and
-/// from
-/// word 16 on the array.
+/// Goes over an array of 64 words: adds each to a sum and puts the sum back, and then takes the sum's complement in
+/// part, or calls a procedure on it. Its workspace has the index, the count, the sum, a pointer, and from word 16 on
+/// the array.
 #[rattlefmt::skip]
 pub const LOOP: [u8; 50] = [
     // start:
@@ -94,8 +93,8 @@ pub const PONG: [u8; 10] = [
     0x60, 0x06, // j again
 ];
 
-/// Counts up in a buffer, sends it and receives it, so many times, and stops. The workspace has the channel for
-/// sending, that for receiving, the buffer, the length, and from word 4 on the index and the count.
+/// Counts up in a buffer, sends it and receives it, a given number of times, and stops. The workspace has the channel
+/// for sending, that for receiving, the buffer, the length, and from word 4 on the index and the number of times.
 #[rattlefmt::skip]
 pub const COUNTED_PING: [u8; 20] = [
     // again:
@@ -106,8 +105,8 @@ pub const COUNTED_PING: [u8; 20] = [
     0x21, 0xf5, // stopp
 ];
 
-/// Receives a buffer and sends it back, so many times, and stops. The workspace has the channel for receiving, that
-/// for sending, the buffer, the length, and from word 4 on the index and the count.
+/// Receives a buffer and sends it back, a given number of times, and stops. The workspace has the channel for
+/// receiving, that for sending, the buffer, the length, and from word 4 on the index and the number of times.
 #[rattlefmt::skip]
 pub const COUNTED_PONG: [u8; 14] = [
     // again:

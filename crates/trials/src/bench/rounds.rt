@@ -7,7 +7,7 @@ use std::thread::Threads;
 use tnet::Net;
 use trounds::{Open, run_rounds};
 
-/// Does so many rounds of a net: how many events that was, and the net after them.
+/// Does `count` rounds of a net: how many events that was, and the net after them.
 pub fn went_round<R: Threads + Sync>(
     rt: &R,
     alloc: Global,

@@ -47,7 +47,7 @@ pub enum Others {
 pub enum Job {
     /// The loop of instructions that touch no other process, in a high process.
     Loop(Others),
-    /// So many low processes yield at each instruction.
+    /// This number of low processes yield at each instruction.
     Switch(u16),
     /// Two processes send messages of this length back and forth.
     Message(u32, Others),
@@ -109,7 +109,7 @@ fn crowd(p: &mut Processor, count: u16, iptr: u32) -> Result<(), Break> {
     Ok(())
 }
 
-/// Adds the others, and lets those that wait come so far.
+/// Adds the others, and lets those that are to wait reach that point.
 fn add_others(p: &mut Processor, others: Others) -> Result<(), Break> {
     match others {
         Others::Nobody => {}
@@ -152,7 +152,7 @@ fn prepare(p: &mut Processor, job: Job) -> Result<(), Break>
     }
 }
 
-/// Does so many steps, and answers how many processes were dispatched.
+/// Does `steps` steps, and answers how many processes were dispatched.
 #[inline(never)]
 fn run(p: &mut Processor, steps: u64) -> Result<u32, Break> {
     let mut dispatches = 0u32;
@@ -164,7 +164,7 @@ fn run(p: &mut Processor, steps: u64) -> Result<u32, Break> {
     Ok(dispatches)
 }
 
-/// Does so many thousand steps of a job, and answers with a checksum of the memory.
+/// Does `thousands` times 1,000 steps of a job, and answers with a checksum of the memory.
 pub fn worked(alloc: Global, thousands: u32, job: Job) -> Result<Answer, Fault>
     ensures { IfOk result (λ answer. answer.operations ≡ thousands * 1000) }
 {

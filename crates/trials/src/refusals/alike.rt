@@ -5,7 +5,7 @@ use tnet::Net;
 use tplan::End;
 use tproc::Processor;
 
-/// Whether two processors are alike but for their memories.
+/// Whether two processors are alike except for their memories.
 fn are_processors_alike(one: &Processor, other: &Processor) -> bool {
     for link in 0..4u8 {
         if one.link(link) != other.link(link) {

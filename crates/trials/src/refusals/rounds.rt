@@ -17,7 +17,7 @@ const ROUNDS: u32 = 100_000;
 /// How many Runs a node makes in a round at most.
 const SLICE: u32 = 64;
 
-/// A hold, where the rounds are counted anew after so many that were done.
+/// A hold, where the rounds are counted anew after `done` rounds.
 fn later(hold: Hold, done: u32) -> Hold
     ensures { result ≡ hold_after done hold }
 {
@@ -28,14 +28,14 @@ fn later(hold: Hold, done: u32) -> Hold
     }
 }
 
-/// The holds that are left after so many rounds.
+/// The holds that are left after `done` rounds.
 fn holds_left(alloc: Global, holds: &[Hold], done: u32) -> Result<Vec<Hold>, AllocError>
     ensures { IfOk result (λ left. left.items ≡ holds_after done holds.now) }
 {
     holds.iter().map(|hold| later(*hold, done)).collect(alloc)
 }
 
-/// Rounds of a net that go on after so many that were done.
+/// `rounds` more rounds of a net, of which `done` rounds were done before.
 fn more<R: Threads + Sync>(
     rt: &R,
     alloc: Global,

@@ -1,4 +1,4 @@
-//! What is told of the calls, and of what they came to.
+//! What is told of the calls, and of their result.
 
 use std::alloc::{AllocError, AllocFailed, Global};
 use tfiles::{Uncounted, WriteFault, write_dump, write_trace};
@@ -46,14 +46,14 @@ pub fn require(holds: bool, what: &'static str) -> Result<(), Fault> {
 #[derive(Clone, Copy)]
 pub enum Call {
     Build,
-    /// A call of `run_rounds`, before which so many rounds were done.
+    /// A call of `run_rounds`, before which this number of rounds was done.
     Rounds(u32),
     Open,
     Turn,
     Gather,
 }
 
-/// The call that was refused, if one was, and the text of what the calls came to.
+/// The call that was refused, if one was, and the text of their result.
 #[derive(Drop)]
 pub struct Story {
     refused: Option<Call>,

@@ -91,7 +91,7 @@ fn rotate_until_idle(workers: &mut Vec<Worker>, story: &mut Story) -> Result<(),
     Err(Fault::Wrong("the workers do not rest"))
 }
 
-/// The workers that came back are gathered, since want of memory was the fault.
+/// The workers that came back are gathered, since lack of memory was the fault.
 fn gathered_again(
     alloc: Global,
     workers: Vec<Worker>,

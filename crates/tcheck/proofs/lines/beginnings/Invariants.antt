@@ -4,7 +4,7 @@ use Rattle.twiring.specs.Flaws.{text_flaws}
 use Rattle.tcheck.specs.Lines.{first_lines, told}
 use Rattle.tcheck.proofs.lines.beginnings.Given as goal
 
--- the lines so far as a text, and all beginnings so far
+-- the lines up to here as a text, and all beginnings up to here
 abbrev pub invariant-loop-line : goal.invariant-loop-line
 invariant-loop-line l =
     (string_bytes l.text ≡ first_lines (map (λ s. s.now) l.lines) l.line-index)

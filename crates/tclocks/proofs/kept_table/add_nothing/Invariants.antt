@@ -1,4 +1,4 @@
--- So many places were added, and there is room for the others.
+-- Some places were added, and there is room for the others.
 use Rattle.std.proofs.Common.{◌≡◌, ℕ, ◌+◌, ◌-◌, ◌≤◌, List, ◌++◌, replicate, vec_len, vec_capacity}
 use Rattle.tclocks.specs.declared.kept.Kept.{Kept}
 use Rattle.tclocks.specs.declared.kept.Kept.TheVariants.{OfOne}

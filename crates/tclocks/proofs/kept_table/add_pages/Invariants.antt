@@ -1,4 +1,4 @@
--- So many pages were added, and there is room for the others.
+-- Some pages were added, and there is room for the others.
 use Rattle.std.proofs.Common.{◌≡◌, ℕ, ◌+◌, ◌-◌, ◌≤◌, List, [], ◌++◌, replicate, vec_len, vec_capacity}
 use Rattle.tclocks.specs.declared.kept.Kept.{Kept}
 use Rattle.tclocks.proofs.kept_table.add_pages.Given as goal

@@ -1,4 +1,4 @@
--- Of what kind 1 does not list, kind 2 lists `dup` alone.
+-- Of what kind 1 does not list, kind 2 lists only `dup`.
 use Rattle.std.proofs.Common.{◌≡◌, ◌∙◌, ℕ, sym, List, [], ◌∷◌, Option, Some, None, find, Bool, true, false, cond}
 use Rattle.std.specs.Prelude.{◌==◌, ◌&&◌}
 use Rattle.std.proofs.lemmas.Bool.{ne_eqb}

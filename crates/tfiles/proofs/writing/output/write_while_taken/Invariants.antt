@@ -3,7 +3,7 @@ use Rattle.std.specs.Io.KnownBytes.{Appends}
 use Rattle.tfiles.specs.Failures.{HasStayed}
 use Rattle.tfiles.proofs.writing.output.write_while_taken.Given as goal
 
--- so many bytes were taken, and no write has failed yet
+-- the first bytes were taken, as many as were counted, and no write has failed yet
 abbrev pub invariant-loop-taken : goal.invariant-loop-taken
 invariant-loop-taken g l = record {
   within : l.taken ≤ length l.bytes;
