@@ -29,6 +29,7 @@ beside them are refused; each fault has the file and the line before it.
 """
 import argparse
 import collections
+import json
 import pathlib
 import re
 import struct
@@ -58,6 +59,8 @@ OPERATIONS = dict(
 OPERATION_NAMES = {code: name for name, code in OPERATIONS.items()}
 # The first address of a memory, the first one that a program may use, and the bytes of the largest memory.
 LOWEST, FIRST, LARGEST = 0x80000000, 0x80000048, 1 << 24
+# What an image begins with.
+MAGIC = b"TEMUIMG1"
 # What a listing tells: segments and processes as pairs, addresses by name, and instructions as (address, text).
 Listing = collections.namedtuple("Listing", "segments processes names instructions")
 # The parts of a segment, each with the number of its line: a name, bytes with the instructions that are beside them,
@@ -73,7 +76,7 @@ class Wrong(Exception):
 
 def image(segments, processes):
     """Returns the bytes of an image of segments (address, bytes) and processes (descriptor, first instruction)."""
-    parts = [b"TEMUIMG1", struct.pack("<II", len(segments), len(processes))]
+    parts = [MAGIC, struct.pack("<II", len(segments), len(processes))]
     for address, code in segments:
         parts += [struct.pack("<II", address, len(code)), bytes(code)]
     parts += [struct.pack("<II", descriptor, start) for descriptor, start in processes]
@@ -305,14 +308,21 @@ def image_of(listing):
     return image(listing.segments, listing.processes)
 
 
+def table(name, **values):
+    """Returns the text of a table of a wiring, such as [[node]], with these values by their keys."""
+    told = (f"{key} = {json.dumps(value, ensure_ascii=False)}" for key, value in values.items())
+    return "\n".join([f"[[{name}]]", *told])
+
+
+def hold(end, kind, start, until):
+    """Returns the table of a hold of the packets of a kind at an end, in some rounds."""
+    return table("hold", end=end, kind=kind, **{"from": start}, until=until)
+
+
 def wiring(images, wires, memory=2048):
     """Returns the text of a wiring: nodes of these images, and wires as pairs of ends (node, link)."""
-    text = "version = 1"
-    for name in images:
-        text += f'\n\n[[node]]\nmemory = {memory}\nimage = "{name}"'
-    for a, b in wires:
-        text += f"\n\n[[wire]]\na = {list(a)}\nb = {list(b)}"
-    return text
+    nodes = (table("node", memory=memory, image=str(it)) for it in images)
+    return "\n\n".join(["version = 1", *nodes, *(table("wire", a=a, b=b) for a, b in wires)])
 
 
 def pipeline(images, memory=2048):

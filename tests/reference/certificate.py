@@ -3,10 +3,10 @@ import collections
 import re
 
 import races
+from memory import rows_of
 from net import Sink, Source
 from places import AgentKind, Kind, Place
 from process_machine import Looks, ProcessMachine
-from words import LOWEST
 
 
 class Certificate:
@@ -33,6 +33,11 @@ class Certificate:
         """Returns what is printed of a net that is certified."""
         return "\n".join(["certified", *self.dump(), f"end certified {self.verdict.steps}", ""])
 
+    def told(self):
+        """Returns what runs are compared with, as a text."""
+        messages = [f"{ends} {it}" for ends, told in self.messages.items() for it in told]
+        return "".join(f"{it}\n" for it in [*messages, *self.dump()])
+
     def agrees_with(self, dump):
         """Tells whether the dump of an end has each byte that is known here, and no node is frozen or halted."""
         known, shown = by_place(self.dump()), by_place(dump)
@@ -49,17 +54,16 @@ class Certificate:
             len(due) == len(told[ends]) and all(map(is_like, due, told[ends])) for ends, due in self.messages.items())
 
 
-def text_of(cells, between=""):
+def text_of(cells):
     """Returns the digits of bytes, and `~~` for each that is unknown."""
-    return between.join("~~" if it is None else f"{it:02x}" for it in cells)
+    return "".join("~~" if it is None else f"{it:02x}" for it in cells)
 
 
-def shown_cells(machine, number):
-    """Returns the bytes of a node at the end, and None for each that is unknown."""
-    cells = []
-    for word in range(machine.sizes[number] // 4):
-        cells += machine.value(Place(Kind.WORD, number, word)).cells
-    return cells
+def rows_at_end(machine, number):
+    """Returns the lines of the memory of a node at the end."""
+    words = (machine.value(Place(Kind.WORD, number, it)) for it in range(machine.sizes[number] // 4))
+    cells = [cell for word in words for cell in word.cells]
+    return rows_of(bytes(it or 0 for it in cells), bytes(it is None for it in cells), "~~")
 
 
 def dump_of(machine):
@@ -74,11 +78,7 @@ def dump_of(machine):
             yield from (f"kept {text_of(it)}" for it in kept)
         else:
             yield f"node {number} ok"
-            cells = shown_cells(machine, number)
-            for start in range(0, len(cells), 16):
-                row = cells[start : start + 16]
-                if any(it != 0 for it in row):
-                    yield f"{LOWEST + start:08x}: {text_of(row, ' ')}"
+            yield from rows_at_end(machine, number)
 
 
 def by_place(dump):

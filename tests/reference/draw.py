@@ -2,7 +2,7 @@
 sends, and nodes of several processes that compute, share words, and talk over channels and links."""
 import pathlib
 
-from images import OPERATIONS, image_of, read_listing
+from images import OPERATIONS, hold, image_of, read_listing, table
 from instructions import LOCAL
 from words import LOWEST
 
@@ -62,27 +62,24 @@ class Drawn:
 
     def write(self, room):
         """Writes listings, images and the wiring, and returns the wiring's path."""
-        text, dice = ["version = 2"], self.dice
-        if self.timeslice:
-            text.append(f"timeslice = {self.timeslice}")
+        tables, dice = [], self.dice
         for number, (lines, memory) in enumerate(self.nodes):
             listing, made = (pathlib.Path(room, f"{number}.{it}") for it in ("txt", "img"))
             listing.write_text("\n".join(lines) + "\n", encoding="utf-8")
             made.write_bytes(image_of(read_listing(listing)))
             kind = self.kinds.get(number)
-            text += ["[[node]]", f"memory = {memory}", f'image = "{made}"'] + ([f"kind = {kind}"] if kind else [])
+            tables.append(table("node", memory=memory, image=str(made), **{"kind": kind} if kind else {}))
         for ends in self.wires:
             a, b = dice.sample(ends, 2)
-            text += ["[[wire]]", f"a = {list(a)}", f"b = {list(b)}"]
-        for end, capacity in self.sinks:
-            text += ["[[sink]]", f"end = {list(end)}", f"capacity = {capacity}"]
+            tables.append(table("wire", a=a, b=b))
+        tables += [table("sink", end=end, capacity=capacity) for end, capacity in self.sinks]
         for end, messages in self.sources:
             digits = [dice.choice([str.upper, str.lower])(it.hex()) for it in messages]
-            text += ["[[source]]", f"end = {list(end)}", f"messages = {digits}"]
-        for end, kind, first, until in self.holds:
-            text += ["[[hold]]", f"end = {list(end)}", f'kind = "{kind}"', f"from = {first}", f"until = {until}"]
+            tables.append(table("source", end=end, messages=digits))
+        timeslice = [f"timeslice = {self.timeslice}"] if self.timeslice else []
         path = pathlib.Path(room, "net.toml")
-        path.write_text("\n".join(text) + "\n", encoding="utf-8")
+        text = "\n".join(["version = 2", *timeslice, *tables, *(hold(*it) for it in self.holds), ""])
+        path.write_text(text, encoding="utf-8")
         return path
 
 
@@ -519,8 +516,3 @@ def broken_bytes(content, dice):
         place = dice.choice([dice.randrange(len(content)), dice.randrange(min(40, len(content)))])
         content[place] = dice.choice([*b"\0\1\x10\n\r 09\xff", content[place] ^ 1, dice.randrange(256)])
     return bytes(content)
-
-
-def broken(dice):
-    """Draws a row whose files are to be broken."""
-    return row(dice)

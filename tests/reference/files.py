@@ -19,15 +19,19 @@ def read(name):
         raise Fault(f"file {name}") from fault
 
 
-def read_plan(name):
-    """Returns the plan of a wiring, its holds, and the bytes of the images of its nodes."""
+def read_net(name, log=None):
+    """Returns the plan of a wiring with the images of its nodes, its holds, and the events of a log, if there is one."""
     try:
         plan, paths, holds = formats.read_wiring(read(name).decode())
     except UnicodeDecodeError as fault:
         raise Fault(f"file {name}") from fault
     except formats.BadWiring as fault:
         raise Fault(f"wiring {fault}") from fault
-    return plan, holds, [read(it) for it in paths]
+    contents, events = [read(it) for it in paths], read_events(log) if log else None
+    # What is in the images is judged after the log.
+    for number, (node, content) in enumerate(zip(plan.nodes, contents)):
+        node.segments, node.processes = read_image(content, number)
+    return plan, holds, events
 
 
 def read_events(name):
@@ -38,13 +42,12 @@ def read_events(name):
         raise Fault(f"log line {fault}") from fault
 
 
-def load(plan, contents):
-    """Gives the nodes of a plan their images."""
-    for number, (node, content) in enumerate(zip(plan.nodes, contents)):
-        try:
-            node.segments, node.processes = images.read_image(content)
-        except images.BadImage as fault:
-            raise Fault(f"image {number} {fault}") from fault
+def read_image(content, number=0):
+    """Returns the segments and the processes of the image of a node."""
+    try:
+        return images.read_image(content)
+    except images.BadImage as fault:
+        raise Fault(f"image {number} {fault}") from fault
 
 
 def net_of(plan):
@@ -69,11 +72,3 @@ def replay(net, events):
     if early is not None:
         raise Fault(f"replay event {early}")
     return f"end replay {len(events)}"
-
-
-def leads_to(plan, log, heading, dump):
-    """Tells whether the events of a log lead to an outcome or a freeze, as an exploration told it."""
-    net = net_of(plan)
-    if rounds.replay(net, read_events(log)) is not None or formats.dump_of(net) != dump:
-        return False
-    return any(net.frozen) if heading.startswith("freeze ") else net.is_quiet() and not any(net.frozen)

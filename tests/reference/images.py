@@ -1,19 +1,20 @@
 """Boot images (docs/MACHINE.md, section 15) and the bytes of instructions.
 
-Images are written, and instructions encoded and told, by examples/make.py, which needs no other file, since it is for
-users; what the tests need besides is a reader of images.
+Images, listings and the tables of wirings are written, and instructions encoded and told, by examples/make.py, which
+needs no other file, since it is for users; what the tests need besides is a reader of images.
 """
 import pathlib
 import struct
 import sys
 
 sys.path.append(str(pathlib.Path(__file__).resolve().parents[2] / "examples"))
-# The names of functions and operations, the shortest bytes and the text of an instruction, images, listings, and the
-# memories of a dump.
-from make import FUNCTIONS, OPERATION_NAMES, OPERATIONS, chain, text_of  # noqa: E402,F401
-from make import image, image_of, memories, read_listing, word_at  # noqa: E402,F401
+# The codes and names of functions and operations, the shortest bytes of an instruction; addresses and words; images,
+# listings, the tables of a wiring, and the memories of a dump.
+from make import FUNCTIONS, NEGATIVE_PREFIX, OPERATE, OPERATION_NAMES, OPERATIONS, PREFIX, chain  # noqa: E402,F401
+from make import FIRST, LOWEST, MAGIC, signed  # noqa: E402,F401
+from make import hold, image, image_of, memories, read_listing, table, word_at  # noqa: E402,F401
 
-MAGIC, SEGMENTS, PROCESSES = b"TEMUIMG1", 4096, 512
+SEGMENTS, PROCESSES = 4096, 512
 
 
 class BadImage(Exception):

@@ -5,7 +5,7 @@ import itertools
 
 from words import FIRST, LOWEST, MODULUS
 
-# A message that pends at a link.
+# A message that is offered or asked for: by which process, and its buffer.
 Offer = collections.namedtuple("Offer", "process buffer length")
 
 
@@ -78,16 +78,22 @@ class Memory:
         for below in (12, 8, 4):
             self.touch_word(workspace - below, True)
 
-    def rows(self):
-        """Yields the rows of 16 bytes that have something to show: the address, and two hexadecimal digits a byte, or
-        `--` where it is hidden."""
-        hidden = bytearray(len(self.bytes))
+    def dump(self):
+        """Returns the lines that show the bytes, but for those that are hidden."""
+        hidden = bytearray(self.size)
         for offer in filter(None, self.inputs):
             hidden[offer.buffer - LOWEST : offer.buffer - LOWEST + offer.length] = b"\1" * offer.length
-        # Large blocks of zeros are passed over at once.
-        blocks = [range(it, min(it + 4096, len(hidden)), 16) for it in range(0, len(hidden), 4096)
-                  if (self.bytes[it : it + 4096] + hidden[it : it + 4096]).strip(b"\0")]
-        for start in itertools.chain.from_iterable(blocks):
-            row, mask = self.bytes[start : start + 16], hidden[start : start + 16]
-            if any(row) or any(mask):
-                yield LOWEST + start, ["--" if it else f"{byte:02x}" for byte, it in zip(row, mask)]
+        return rows_of(self.bytes, hidden, "--")
+
+
+def rows_of(content, masked, sign):
+    """Yields the line of each row of 16 bytes of a memory that has something to show: the address, and two hexadecimal
+    digits a byte, or a sign where it is masked."""
+    # Large blocks of zeros are passed over at once.
+    blocks = [range(it, min(it + 4096, len(content)), 16) for it in range(0, len(content), 4096)
+              if (content[it : it + 4096] + masked[it : it + 4096]).strip(b"\0")]
+    for start in itertools.chain.from_iterable(blocks):
+        row, mask = content[start : start + 16], masked[start : start + 16]
+        if any(row) or any(mask):
+            shown = [sign if is_masked else f"{byte:02x}" for byte, is_masked in zip(row, mask)]
+            yield f"{LOWEST + start:08x}: {' '.join(shown)}"

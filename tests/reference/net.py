@@ -45,16 +45,16 @@ class Plan:
     timeslice: int = 1024
 
 
+@dataclasses.dataclass
 class Source:
     """Offers its messages one after another at link 0."""
 
-    def __init__(self, messages):
-        self.messages, self.done, self.is_halted = messages, 0, False
+    messages: list
+    done: int = 0
+    is_halted = False
 
     def copy(self):
-        other = Source(self.messages)
-        other.done = self.done
-        return other
+        return dataclasses.replace(self)
 
     def has_step(self):
         return False
@@ -69,18 +69,18 @@ class Source:
         return None
 
 
+@dataclasses.dataclass
 class Sink:
     """Takes whatever comes at link 0, as long as it has room; it names no length."""
 
+    capacity: int
+    kept: list = dataclasses.field(default_factory=list)
+    part: bytes = b""
+    is_halted = False
     ANY = 0
 
-    def __init__(self, capacity):
-        self.capacity, self.kept, self.part, self.is_halted = capacity, [], b"", False
-
     def copy(self):
-        other = Sink(self.capacity)
-        other.kept, other.part = self.kept[:], self.part
-        return other
+        return dataclasses.replace(self, kept=self.kept[:])
 
     def has_step(self):
         return False

@@ -36,14 +36,6 @@ class Word(NamedTuple):
         return None if None in self.cells else int.from_bytes(bytes(self.cells), "little")
 
 
-class Message(NamedTuple):
-    """A message that is offered or asked for: by which process, and its buffer."""
-
-    process: tuple
-    buffer: int
-    length: int
-
-
 class Loan(NamedTuple):
     """The buffer of an output that was copied, until its sender goes on."""
 
@@ -88,7 +80,7 @@ class Kind(str, enum.Enum):
     WORD = "word"  # a word of memory, by its number
     SENDING = "sending"  # how many outputs on links that are not over have a byte of a word, by its number
     STANDING = "process"  # how a process stands, by its name
-    HALF = "channel"  # half of an internal channel, by address and whether it is the input: None or a message
+    HALF = "channel"  # half of an internal channel, by address and whether it is the input: None or an offer
     LINK_HALF = "link"  # half of a link, by number and whether it is the input
     ERROR, HALTING = "Error", "HaltOnError"
     LIFE = "workspace"  # how many processes have a workspace, by its address

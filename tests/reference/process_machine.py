@@ -1,14 +1,13 @@
 """The process machine (docs/MACHINE.md, section 17): each process that is ready has a step, and no queue, timeslice or
 interrupt decides whose turn it is. A step is told by what it has seen and what it changes."""
 from channels import is_link
-from images import FUNCTIONS, OPERATION_NAMES, text_of
-from memory import Break, Memory, require
+from memory import Break, Memory, Offer, require
 from net import Sink, Source
 from places import (DECREMENTS, FIRST_VALUES, LAST, REFUSALS, UNKNOWN, Act, Agent, AgentKind, Change, Context, Kind,
-                    LinkHalf, Loan, Message, Place, Standing, Status, Use, Word, cells_of)
+                    LinkHalf, Loan, Place, Standing, Status, Use, Word, cells_of)
 from processes import LOW, MOST_LIVE
-from processor import OPERATE, Processor
-from words import IPTR, LOWEST, MODULUS, NEXT, NOT_PROCESS, STATE, signed, workspace_of
+from processor import Processor
+from words import IPTR, LOWEST, MODULUS, NEXT, NOT_PROCESS, STATE, workspace_of
 
 
 class Step:
@@ -41,10 +40,6 @@ class Step:
     def left(self, place):
         """Returns what stands there after the changes so far."""
         return self.after[place] if place in self.after else self.machine.value(place)
-
-    def label(self):
-        """Returns what tells the step from others of its agent."""
-        return tuple(self.seen), tuple(self.changes), self.stop
 
 
 class Looks(Memory):
@@ -176,10 +171,10 @@ class Turn(Processor):
     def do_next(self):
         """Does the next instruction."""
         self.step.iptr = self.iptr
-        function, operand, self.iptr = self.fetch(self.iptr)
+        found = self.fetch(self.iptr)
         require(not self.memory.has_read_unknown, "SawTheScheduler")
-        name = OPERATION_NAMES[operand] if function == OPERATE else FUNCTIONS[function]
-        self.step.text = text_of(function, operand if function == OPERATE else signed(operand))
+        name, operand, self.iptr = found
+        self.step.text = found.text()
         require(name in USES, "HasAlternatives")
         needs, left = USES[name]
         unknown = {it for it, value in zip("ABC", self.context.stack) if value is None}
@@ -249,10 +244,10 @@ class Turn(Processor):
         self.memory.bound(count, 4)
         self.memory.not_sent(self.memory.word_place(count))
         self.step.change(self.memory.word_place(count), DECREMENTS[self.current])
-        self.status = Status.ENDED
+        self.leave()
 
-    def do_stopp(self):
-        self.write(self.wptr - IPTR, self.iptr)
+    def leave(self):
+        """The process ends."""
         self.status = Status.ENDED
 
     def do_stoperr(self):
@@ -273,7 +268,7 @@ class Turn(Processor):
     def take_half(self, half, empty, fault, buffer, length):
         """Takes half of a channel or a link, which is empty."""
         require(self.step.look(half) is empty, fault)
-        self.step.put(half, Message(self.step.agent.key, buffer, length))
+        self.step.put(half, Offer(self.step.agent.key, buffer, length))
 
     def on_internal_channel(self, is_input, length, channel, buffer):
         require(channel % 4 == 0, "Unaligned")
@@ -524,4 +519,4 @@ def is_open(kind, value):
         return value.use in (*LAST, Use.SPOILT)
     if kind is Kind.MESSAGES:
         return bool(value)
-    return isinstance(value, Message)
+    return isinstance(value, Offer)

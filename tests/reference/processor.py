@@ -1,20 +1,31 @@
 """A processor: it fetches the instructions of its processes and does them (docs/MACHINE.md, sections 3 to 8)."""
 import copy
+from typing import NamedTuple
 
 from channels import Channels
-from images import FUNCTIONS, OPERATION_NAMES, text_of
+from images import FUNCTIONS, NEGATIVE_PREFIX, OPERATE, OPERATION_NAMES, OPERATIONS, PREFIX
 from instructions import LOCAL, SIMPLE, Instructions
 from memory import Break, Memory, require
 from processes import LOW, Processes
-from words import MODULUS, signed
+from words import FIRST, LOWEST, MODULUS, signed
 
-PREFIX, NEGATIVE_PREFIX, OPERATE = (FUNCTIONS.index(it) for it in ("pfix", "nfix", "opr"))
 MOST_BYTES = 16
 
 
 def is_operation(code, kind):
     """Tells whether nodes of a kind have an operation."""
     return code in OPERATION_NAMES and (kind == 2 or OPERATION_NAMES[code] != "dup")
+
+
+class Fetched(NamedTuple):
+    """An instruction, and the address after it."""
+
+    name: str
+    operand: int
+    after: int
+
+    def text(self):
+        return self.name if self.name in OPERATIONS else f"{self.name} {signed(self.operand)}"
 
 
 class Processor(Processes, Channels, Instructions):
@@ -37,7 +48,7 @@ class Processor(Processes, Channels, Instructions):
         return other
 
     def fetch(self, start):
-        """Returns the instruction there: function, operand, and the address after it."""
+        """Returns the instruction there."""
         operand, at = 0, start
         for _ in range(MOST_BYTES):
             self.memory.touch(at, 1, False)
@@ -50,21 +61,19 @@ class Processor(Processes, Channels, Instructions):
             else:
                 operand = (operand + data) % MODULUS
                 require(function != OPERATE or is_operation(operand, self.kind), "NoSuchOperation")
-                return function, operand, at
+                return Fetched(OPERATION_NAMES[operand] if function == OPERATE else FUNCTIONS[function], operand, at)
         raise Break("LongPrefix")
 
     def text_at(self, start):
         """Returns the text of the instruction there, or the name of the break of its fetch."""
         try:
-            function, operand, _ = self.fetch(start)
-            return text_of(function, operand if function == OPERATE else signed(operand))
+            return self.fetch(start).text()
         except Break as fault:
             return str(fault)
 
     def do_instruction(self):
         """Does the next instruction of the process that runs."""
-        function, operand, after = self.fetch(self.iptr)
-        name = OPERATION_NAMES[operand] if function == OPERATE else FUNCTIONS[function]
+        name, operand, after = self.fetch(self.iptr)
         before, self.iptr = self.iptr, after
         try:
             jumps = self.execute(name, operand)
@@ -89,3 +98,19 @@ class Processor(Processes, Channels, Instructions):
             return False
         code = getattr(self, f"do_{name}")
         return bool(code(operand) if name in FUNCTIONS else code())
+
+
+def disassembly(segments, kind):
+    """Yields the lines that tell the instructions of segments, for nodes of a kind."""
+    for address, code in segments:
+        node = Processor(FIRST - LOWEST + len(code), kind)
+        node.memory.set(FIRST, code)
+        at = FIRST
+        while at < FIRST + len(code):
+            try:
+                found = node.fetch(at)
+                after, text = found.after, found.text()
+            except Break:
+                after, text = at + 1, f"db {code[at - FIRST]:02x}"
+            yield f"{(address + at - FIRST) % MODULUS:08x}: {text}"
+            at = after

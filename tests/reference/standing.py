@@ -1,7 +1,8 @@
-"""Where the processes and links of a net are, as `temu where` tells it (docs/MACHINE.md, section 15, Where), and all
-that a command prints of a net."""
-from formats import dump_of, heading
+"""Where the processes and links of a net are, as `temu where` tells it (docs/MACHINE.md, section 15, Where)."""
+import collections
+
 from channels import ALTERNATIVE, OnChannel, OnLink
+from formats import heading
 from net import LINKS, Sink, Source, links_of
 from processes import HIGH, LOW
 from processor import Processor
@@ -26,16 +27,6 @@ def standing_of(net):
 def halted_lines(net):
     """Returns a line for each event that halted a node: `where` alone has them, after all these."""
     return [f"halted node {number} by event {event}: {address(at)}: {text}" for number, event, at, text in net.halts]
-
-
-# What `--show` may show of a net.
-SHOWN = {"dump": dump_of, "where": standing_of, "none": lambda net: []}
-
-
-def printed(net, command, show, last):
-    """Returns the text that a command prints of a net, with its last line."""
-    trace, halted = ([], halted_lines(net)) if command == "where" else (net.notes, [])
-    return "".join(f"{it}\n" for it in [*trace, *SHOWN[show](net), *halted, last])
 
 
 def fact(name, told):
@@ -170,23 +161,22 @@ def lacking(net, number, far, is_input):
 
 def circles_of(joined):
     """Returns a line for each circle of nodes that wait for one another, from pairs of who waits for whom."""
-    waits = {}
+    waits = collections.defaultdict(set)
     for one, other in joined:
-        waits.setdefault(one, set()).add(other)
-    lines = []
-    for lowest in sorted(waits):
-        paths, seen = [(lowest,)], {lowest}
-        while paths:
-            ends = [path for path in paths if lowest in waits.get(path[-1], ())]
-            if ends:
-                lines.append("circle " + " waits for ".join(map(str, (*ends[0], lowest))))
-                break
-            # Paths of one length are in the order of numbers; the first to a node is the one that counts.
-            longer = []
-            for path in paths:
-                for it in sorted(waits.get(path[-1], ())):
-                    if it > lowest and it not in seen:
-                        seen.add(it)
-                        longer.append((*path, it))
-            paths = longer
-    return lines
+        waits[one].add(other)
+    circles = [circle_from(lowest, waits) for lowest in sorted(waits)]
+    return ["circle " + " waits for ".join(map(str, it)) for it in circles if it]
+
+
+def circle_from(lowest, waits):
+    """Returns the shortest circle of a node over nodes of higher numbers, of several the first, or None."""
+    # Paths of one length are in the order of numbers; the first to a node is the one that counts.
+    paths, seen = collections.deque([(lowest,)]), {lowest}
+    while paths:
+        path = paths.popleft()
+        nexts = waits.get(path[-1], ())
+        if lowest in nexts:
+            return (*path, lowest)
+        paths.extend((*path, it) for it in sorted(nexts) if it > lowest and it not in seen)
+        seen.update(nexts)
+    return None
