@@ -3,10 +3,11 @@ import collections
 import re
 
 import races
+from formats import place_of
 from memory import rows_of
 from net import Sink, Source
-from places import AgentKind, Kind, Place
-from process_machine import Looks, ProcessMachine
+from places import Kind, Place
+from process_machine import ProcessMachine
 
 
 class Certificate:
@@ -17,14 +18,11 @@ class Certificate:
         self.verdict = races.certify(self.machine, most, tell=self.tell, **how)
 
     def tell(self, step):
-        """Notes the message of a wire's step, before it is done."""
-        if step.agent.kind is AgentKind.WIRE:
-            far = self.machine.gates(step.agent)[0]
-            output = self.machine.value(far)
-            is_source = far.kind is Kind.MESSAGES
-            cells = output[0] if is_source else Looks(step, far.node).cells(output.buffer, output.length)
-            ends = f"{far.node}.{0 if is_source else far.key[0]} {step.agent.node}.{step.agent.key}"
-            self.messages[ends].append(text_of(cells))
+        """Notes the message of a wire's step."""
+        if step.message is not None:
+            receiver = step.agent.node, step.agent.key
+            ends = " ".join(f"{node}.{link}" for node, link in (self.machine.net.far[receiver], receiver))
+            self.messages[ends].append(text_of(step.message))
 
     def dump(self):
         return list(dump_of(self.machine))
@@ -85,15 +83,15 @@ def by_place(dump):
     """Returns the lines of a dump by place: rows of a memory by node and address, others by their order."""
     lines, others = {}, 0
     for line in dump:
-        is_row = line[8:9] == ":"
+        is_row = place_of(line) != line
         others += not is_row
-        lines[(others, line[:8]) if is_row else others] = line
+        lines[(others, place_of(line)) if is_row else others] = line
     return lines
 
 
 def zeros(line):
     """Returns the row that is not shown since it is all zeros, like a row that is shown; of other lines nothing."""
-    return line[:9] + " 00" * (len(line) // 3 - 3) if line[8:9] == ":" else ""
+    return place_of(line) + " 00" * (len(line) // 3 - 3) if place_of(line) != line else ""
 
 
 def is_like(known, shown):

@@ -1,5 +1,6 @@
 """The files of a net: a wiring with its images, and a log; what is wrong with them is told as `temu` tells it."""
 import pathlib
+import re
 
 import formats
 import images
@@ -11,12 +12,20 @@ class Fault(Exception):
     """A fault of an input, as its line tells it."""
 
 
+def shown(name):
+    """Returns the name of a file, with the bytes of control characters."""
+    def bytes_of(control):
+        return "".join(f"\\x{it:02x}" for it in control[0].encode())
+
+    return re.sub(r"[\x00-\x1f\x7f-\x9f]", bytes_of, str(name))
+
+
 def read(name):
     """Returns the bytes of a file."""
     try:
         return pathlib.Path(name).read_bytes()
     except (OSError, ValueError) as fault:
-        raise Fault(f"file {name}") from fault
+        raise Fault(f"file {shown(name)}") from fault
 
 
 def read_net(name, log=None):
@@ -24,7 +33,7 @@ def read_net(name, log=None):
     try:
         plan, paths, holds = formats.read_wiring(read(name).decode())
     except UnicodeDecodeError as fault:
-        raise Fault(f"file {name}") from fault
+        raise Fault(f"file {shown(name)}") from fault
     except formats.BadWiring as fault:
         raise Fault(f"wiring {fault}") from fault
     contents, events = [read(it) for it in paths], read_events(log) if log else None

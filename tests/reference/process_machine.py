@@ -17,6 +17,8 @@ class Step:
         self.machine, self.agent = machine, agent
         self.seen, self.changes, self.after = [], [], {}
         self.stop, self.iptr, self.text = None, None, ""
+        # The bytes that pass over a wire.
+        self.message = None
 
     def place(self, kind, key=None):
         """Returns a place of the agent's node."""
@@ -339,7 +341,7 @@ def wire_step(step):
     """A message is copied over a wire."""
     step.text = "copies"
     output, *inputs = map(step.look, step.machine.gates(step.agent))
-    content = taken(step, output)
+    step.message = content = taken(step, output)
     if inputs:
         deliver(step, inputs[0], content)
     else:

@@ -3,7 +3,7 @@ import re
 
 import files
 import rounds
-from formats import dump_of
+from formats import dump_of, place_of
 
 HEADING = re.compile(r"outcome (\d+) (ended|idle|stuck|freeze \d+ \w+(?: #[0-9a-f]{8})?)")
 
@@ -21,13 +21,8 @@ def text_of(found, rest):
     return "".join(f"{it}\n" for it in [*lines, *rest])
 
 
-def place_of(line):
-    """Returns what a line of a dump is about: the address of a row of a memory, or all of another line."""
-    return line[:9] if line[8:9] == ":" else line
-
-
 def changes(earlier, dump):
-    """Yields the lines of a dump that differ from those of an earlier one, those of a node after the node's own line."""
+    """Yields the lines of a dump that differ from an earlier one, those of a node after the node's own line."""
     heading = told = ""
     for line, other in zip(dump, earlier):
         if place_of(line) == line:
