@@ -1,13 +1,11 @@
 //! When the workers of rounds enter their gate.
 
-use crate::plans::{CODE, LOW, node, plan, transfer};
-use std::alloc::{AllocError, Global};
+use crate::examples::{Example, MESSAGE, SEVEN_RUNNERS, SIX_RUNNERS, built};
+use crate::fault::{Fault, require};
+use std::alloc::Global;
 use std::sync::atomic::{AtomicU64, Ordering};
-use std::test::Fail;
 use std::thread::Threads;
-use tnet::Net;
-use tplan::{BuildFault, Plan};
-use trounds::{Ending, Gate, run_rounds};
+use trounds::{Ending, Gate, Report, run_rounds};
 
 /// Each of two workers raises its flag at its first entry, and looks for the other's.
 #[derive(Drop)]
@@ -43,21 +41,6 @@ impl Gate for Flags {
     }
 }
 
-#[test]
-fn two_workers_overlap(rt: HostRuntime) -> Result<(), Fail> {
-    let flags = Flags {
-        first: AtomicU64::new(0),
-        second: AtomicU64::new(0),
-        first_saw: AtomicU64::new(0),
-        second_saw: AtomicU64::new(0),
-    };
-    let net = Net::build(rt.alloc(), transfer(rt.alloc())?)?;
-    assert!(rt; run_rounds(&rt, rt.alloc(), net, 20, 64, &[], 2, &flags).is_ok());
-    assert!(rt; flags.first_saw.load(Ordering::SeqCst) == 1);
-    assert!(rt; flags.second_saw.load(Ordering::SeqCst) == 1);
-    Ok(())
-}
-
 /// Which worker entered which round, a bit for each pair: worker 1 in round 2 is bit 10. Workers and rounds are
 /// below 8.
 #[derive(Drop)]
@@ -81,57 +64,87 @@ impl Gate for Entries {
     }
 }
 
-/// `count` nodes that run for ever: each jumps to itself.
-fn runners(alloc: Global, count: usize) -> Result<Plan, AllocError> {
-    let mut nodes = Vec::new(alloc);
-    for _node in 0..count {
-        let only = node(alloc, &[(CODE, &[0x60, 0x0e])], &[LOW])?;
-        nodes.push(only)?;
-    }
-    plan(alloc, nodes, &[])
-}
-
-/// Nodes, workers, and the pairs that are due in five rounds: each worker has as many nodes as the others, the last
-/// fewer, and one that would have none does not start.
-const ENTRIES: &[(usize, usize, u64)] = &[
-    (6, 1, 0x1f),
-    (6, 3, 0x1f_1f1f),
-    (6, 4, 0x1f_1f1f),
-    (6, 7, 0x1f1f_1f1f_1f1f),
-    (7, 1, 0x1f),
-    (7, 3, 0x1f_1f1f),
-    (7, 4, 0x1f1f_1f1f),
-    (7, 7, 0x1f_1f1f_1f1f_1f1f),
-];
-
-/// Whether five rounds of this number of nodes are done by this number of workers, through their gate.
-fn are_done<R: Threads + Sync>(
+/// Rounds of a net by this number of workers, through their gate.
+fn made<R: Threads + Sync, G: Gate + Sync>(
     rt: &R,
     alloc: Global,
-    nodes: usize,
+    example: &Example,
+    rounds: u32,
     workers: usize,
-    entries: &Entries,
-) -> Result<bool, BuildFault> {
-    let net = Net::build(alloc, runners(alloc, nodes)?)?;
-    match run_rounds(rt, alloc, net, 5, 64, &[], workers, entries) {
-        Ok(report) => {
-            let events = report.events.as_slice().len();
-            Ok(report.end == Ending::Rounds && nodes.checked_mul(5 * 64) == Some(events))
-        }
-        Err(_refused) => Ok(false),
+    gate: &G,
+) -> Result<Report, Fault> {
+    let net = built(alloc, example)?;
+    match run_rounds(rt, alloc, net, rounds, 64, &[], workers, gate) {
+        Ok(report) => Ok(report),
+        Err(_refused) => Err(Fault::Wrong("rounds are refused")),
     }
+}
+
+/// Two workers make rounds, and each sees that the other has entered too.
+fn attempt_two<R: Threads + Sync>(rt: &R, alloc: Global) -> Result<(), Fault> {
+    let flags = Flags {
+        first: AtomicU64::new(0),
+        second: AtomicU64::new(0),
+        first_saw: AtomicU64::new(0),
+        second_saw: AtomicU64::new(0),
+    };
+    made(rt, alloc, &MESSAGE, 20, 2, &flags)?;
+    require(
+        flags.first_saw.load(Ordering::SeqCst) == 1 && flags.second_saw.load(Ordering::SeqCst) == 1,
+        "a worker does not see the other",
+    )
 }
 
 #[test]
-fn each_started_worker_enters_once_a_round(rt: HostRuntime) -> Result<(), Fail> {
-    for (nodes, workers, due) in ENTRIES {
-        let entries = Entries {
-            entered: AtomicU64::new(0),
-            strange: AtomicU64::new(0),
-        };
-        assert!(rt; are_done(&rt, rt.alloc(), *nodes, *workers, &entries)?);
-        assert!(rt; entries.entered.load(Ordering::SeqCst) == *due);
-        assert!(rt; entries.strange.load(Ordering::SeqCst) == 0);
+fn two_workers_overlap(rt: HostRuntime) -> Result<(), Fault> {
+    attempt_two(&rt, rt.alloc())
+}
+
+/// Nodes that run for ever, how many there are, workers, and the pairs that are due in five rounds: each worker has as
+/// many nodes as the others, the last fewer, and one that would have none does not start.
+const ENTRIES: &[(Example, usize, usize, u64)] = &[
+    (SIX_RUNNERS, 6, 1, 0x1f),
+    (SIX_RUNNERS, 6, 3, 0x1f_1f1f),
+    (SIX_RUNNERS, 6, 4, 0x1f_1f1f),
+    (SIX_RUNNERS, 6, 7, 0x1f1f_1f1f_1f1f),
+    (SEVEN_RUNNERS, 7, 1, 0x1f),
+    (SEVEN_RUNNERS, 7, 3, 0x1f_1f1f),
+    (SEVEN_RUNNERS, 7, 4, 0x1f1f_1f1f),
+    (SEVEN_RUNNERS, 7, 7, 0x1f_1f1f_1f1f_1f1f),
+];
+
+/// Whether five rounds of `nodes` nodes that run for ever are over.
+fn are_done(report: &Report, nodes: usize) -> bool {
+    report.end == Ending::Rounds
+        && nodes.checked_mul(5 * 64) == Some(report.events.as_slice().len())
+}
+
+/// Five rounds of nodes by this number of workers, who enter as is due.
+fn attempt_entries<R: Threads + Sync>(
+    rt: &R,
+    alloc: Global,
+    example: &Example,
+    nodes: usize,
+    workers: usize,
+    due: u64,
+) -> Result<(), Fault> {
+    let entries = Entries {
+        entered: AtomicU64::new(0),
+        strange: AtomicU64::new(0),
+    };
+    let report = made(rt, alloc, example, 5, workers, &entries)?;
+    require(are_done(&report, nodes), "the rounds end otherwise")?;
+    require(
+        entries.entered.load(Ordering::SeqCst) == due
+            && entries.strange.load(Ordering::SeqCst) == 0,
+        "workers enter otherwise",
+    )
+}
+
+#[test]
+fn each_started_worker_enters_once_a_round(rt: HostRuntime) -> Result<(), Fault> {
+    for (example, nodes, workers, due) in ENTRIES {
+        attempt_entries(&rt, rt.alloc(), example, *nodes, *workers, *due)?;
     }
     Ok(())
 }

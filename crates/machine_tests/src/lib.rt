@@ -3,9 +3,15 @@
 #![tactic(auto)]
 
 #[cfg(test)]
+mod alike;
+#[cfg(test)]
 mod boundaries;
 #[cfg(test)]
 mod encodings;
+#[cfg(test)]
+mod examples;
+#[cfg(test)]
+mod fault;
 #[cfg(test)]
 mod free;
 #[cfg(test)]
@@ -13,13 +19,15 @@ mod gates;
 #[cfg(test)]
 mod node_copies;
 #[cfg(test)]
-mod plans;
-#[cfg(test)]
 mod processors;
 #[cfg(test)]
 mod random_code;
 #[cfg(test)]
+mod refusals;
+#[cfg(test)]
 mod rounds;
+#[cfg(test)]
+mod story;
 #[cfg(test)]
 mod texts;
 #[cfg(test)]

@@ -1,12 +1,10 @@
 //! Small programs on a processor, to which processes are added between steps: each as a script of what is done to it
 //! and of what is then seen.
 
-ghost use Rattle.std.specs.Prelude.{IfOk};
 ghost use Rattle.tproc.specs.Opening.{HasNobody};
 
+use crate::fault::{Fault, require};
 use std::alloc::Global;
-use std::process::Abort;
-use std::test::Fail;
 use tproc::{Processor, Ran};
 use tword::{Break, Kind, MemoryFault, Word};
 
@@ -15,7 +13,7 @@ use tword::{Break, Kind, MemoryFault, Word};
 enum Line {
     /// A process is let in, with its first address.
     Adds(u32, u32),
-    /// This number of steps is done, each with this outcome.
+    /// So many steps are done, each with this outcome.
     Steps(u32, Ran),
     /// The word of the memory at this address is this one.
     Word(u32, u32),
@@ -84,18 +82,14 @@ fn holds(p: &mut Processor, line: &Line) -> bool {
     }
 }
 
-/// A script on a processor.
-fn play(rt: &impl Abort, p: &mut Processor, script: &[Line]) {
-    for (at, line) in script.iter().enumerate() {
-        assert!(rt; holds(p, line), "line {at}");
+/// Whether all lines of a script hold on a processor, one after another.
+fn hold(p: &mut Processor, script: &[Line]) -> bool {
+    for line in script {
+        if !holds(p, line) {
+            return false;
+        }
     }
-}
-
-/// A processor with `size` bytes of memory.
-fn processor(alloc: Global, size: u32) -> Result<Processor, MemoryFault>
-    ensures { IfOk result HasNobody }
-{
-    Processor::new(alloc, size, 1_024, Kind::One)
+    true
 }
 
 /// Where a probe stores what it finds; no script uses it otherwise.
@@ -107,27 +101,6 @@ const LOW: u32 = 0x8000_0080;
 /// The code of a high process that interrupts, at this address.
 const HIGH: u32 = 0x8000_00a0;
 
-/// Puts the code of a low and of a high process.
-fn put_both(p: &mut Processor, low: &[u8], high: &[u8]) -> bool
-    requires { HasNobody p.old }
-    ensures { HasNobody p.new }
-{
-    put(p, FOUND, &[0xaa; 4]) && put(p, LOW, low) && put(p, HIGH, high)
-}
-
-/// Plays a script in which a high process with this code interrupts a low one with that code.
-fn interrupt<R: Alloc<A = Global> + Abort>(
-    rt: &R,
-    low: &[u8],
-    high: &[u8],
-    script: &[Line],
-) -> Result<(), Fail> {
-    let mut p = processor(rt.alloc(), 2_048)?;
-    assert!(rt; put_both(&mut p, low, high));
-    play(rt, &mut p, script);
-    Ok(())
-}
-
 /// `mint; adc 192; mint; adc 131; ldc 6; move; stopp`: moves the probe over the jump.
 const MOVER: &[u8] = &[
     0x24, 0xf2, 0x2c, 0x80, 0x24, 0xf2, 0x28, 0x83, 0x46, 0x24, 0xfa, 0x21, 0xf5,
@@ -136,13 +109,24 @@ const MOVER: &[u8] = &[
 /// The probe: `stl 1; testerr; stl 2; stopp`.
 const PROBE: &[u8] = &[0xd1, 0x22, 0xf9, 0xd2, 0x21, 0xf5];
 
-/// Puts the probe, what moves it, and bytes where it stores what it finds.
-fn put_probe(p: &mut Processor) -> bool
+/// Puts the code of a low and of a high process, the probe, what moves it, and bytes where probes store what they find.
+fn put_all(p: &mut Processor, low: &[u8], high: &[u8]) -> bool
     requires { HasNobody p.old }
     ensures { HasNobody p.new }
 {
-    put(p, 0x8000_00b0, MOVER) && put(p, 0x8000_00c0, PROBE) && put(p, 0x8000_0104, &[0xaa; 8])
+    put(p, FOUND, &[0xaa; 4])
+        && put(p, LOW, low)
+        && put(p, HIGH, high)
+        && put(p, 0x8000_00b0, MOVER)
+        && put(p, 0x8000_00c0, PROBE)
+        && put(p, 0x8000_0104, &[0xaa; 8])
 }
+
+/// `testerr; stopp`.
+const CLEARS_ERROR: &[u8] = &[0x22, 0xf9, 0x21, 0xf5];
+
+/// `seterr; ldc 5`, and a jump to itself.
+const JUMPS_TO_ITSELF: &[u8] = &[0x21, 0xf0, 0x45, 0x60, 0x0e];
 
 /// A low process sets Error, loads 5, and then jumps to that very jump. A high one interrupts it, clears Error by
 /// `testerr`, and stops. A second one moves a probe over the jump, and stops. So the low one stores A, and then 0 if
@@ -169,21 +153,12 @@ const GOES_ON: &[Line] = &[
     Line::Steps(1, Ran::Idle),
 ];
 
-#[test]
-fn an_interrupted_process_goes_on_as_it_was(rt: HostRuntime) -> Result<(), Fail> {
-    let mut p = processor(rt.alloc(), 2_048)?;
-    assert!(rt; put_probe(&mut p));
-    assert!(rt; put_both(&mut p, &[0x21, 0xf0, 0x45, 0x60, 0x0e], CLEARS_ERROR));
-    play(&rt, &mut p, GOES_ON);
-    Ok(())
-}
-
 // In these a low process sets Error, loads 5, jumps to its next instruction and is interrupted by a high one, which
 // clears Error by `testerr`. Then a probe stores what it finds: `mint; stnl 496` stores A, and behind `testerr` 0 if
 // Error was set, else 1.
 
-/// `testerr; stopp`.
-const CLEARS_ERROR: &[u8] = &[0x22, 0xf9, 0x21, 0xf5];
+/// `seterr; ldc 5; j 0; mint; stnl 496`.
+const STORES_A: &[u8] = &[0x21, 0xf0, 0x45, 0x00, 0x24, 0xf2, 0x21, 0x2f, 0xe0];
 
 const GETS_A_BACK: &[Line] = &[
     Line::Adds(0x8000_0101, LOW),
@@ -197,11 +172,10 @@ const GETS_A_BACK: &[Line] = &[
     Line::Word(FOUND, 5),
 ];
 
-#[test]
-fn an_interrupted_process_gets_a_back(rt: HostRuntime) -> Result<(), Fail> {
-    let low = [0x21, 0xf0, 0x45, 0x00, 0x24, 0xf2, 0x21, 0x2f, 0xe0];
-    interrupt(&rt, &low, CLEARS_ERROR, GETS_A_BACK)
-}
+/// `seterr; ldc 5; j 0; testerr; mint; stnl 496`.
+const STORES_ERROR: &[u8] = &[
+    0x21, 0xf0, 0x45, 0x00, 0x22, 0xf9, 0x24, 0xf2, 0x21, 0x2f, 0xe0,
+];
 
 const GETS_ERROR_BACK: &[Line] = &[
     Line::Adds(0x8000_0101, LOW),
@@ -215,13 +189,11 @@ const GETS_ERROR_BACK: &[Line] = &[
     Line::Word(FOUND, 0),
 ];
 
-#[test]
-fn an_interrupted_process_gets_error_back(rt: HostRuntime) -> Result<(), Fail> {
-    let low = [
-        0x21, 0xf0, 0x45, 0x00, 0x22, 0xf9, 0x24, 0xf2, 0x21, 0x2f, 0xe0,
-    ];
-    interrupt(&rt, &low, CLEARS_ERROR, GETS_ERROR_BACK)
-}
+/// `seterr; ldc 5; j 0`.
+const JUMPS_ON: &[u8] = &[0x21, 0xf0, 0x45, 0x00];
+
+/// `testerr; testerr; mint; stnl 496`.
+const LOOKS_AT_ERROR: &[u8] = &[0x22, 0xf9, 0x22, 0xf9, 0x24, 0xf2, 0x21, 0x2f, 0xe0];
 
 const HAS_ERROR_CLEAR: &[Line] = &[
     Line::Adds(0x8000_0101, LOW),
@@ -232,12 +204,6 @@ const HAS_ERROR_CLEAR: &[Line] = &[
     Line::Steps(4, Ran::Instruction),
     Line::Word(FOUND, 1),
 ];
-
-#[test]
-fn the_process_that_interrupts_has_error_clear(rt: HostRuntime) -> Result<(), Fail> {
-    let high = [0x22, 0xf9, 0x22, 0xf9, 0x24, 0xf2, 0x21, 0x2f, 0xe0];
-    interrupt(&rt, &[0x21, 0xf0, 0x45, 0x00], &high, HAS_ERROR_CLEAR)
-}
 
 /// Where the code of many processes begins: `stopp`.
 const MANY: u32 = 0x8000_3000;
@@ -316,18 +282,77 @@ fn come_to_rest(p: &mut Processor, first: u32, apart: u32) -> bool {
     stop_in_turn(p, first.wrapping_add(apart), apart, 512) && step_once(p) == Ok(Ran::Idle)
 }
 
-/// The first workspaces, and how far apart they are.
-const WORKSPACES: &[(u32, u32)] = &[(0x8000_0060, 16), (0x8000_0054, 12), (0x8000_0100, 20)];
+/// Whether as many as may live, at workspaces with this distance, come and go as they have to.
+fn come_and_go(p: &mut Processor, first: u32, apart: u32) -> bool {
+    fill(p, first, apart)
+        && is_full(p, first, apart)
+        && has_room(p, first, apart)
+        && come_to_rest(p, first, apart)
+}
+
+/// What is tried on a processor.
+#[derive(Clone, Copy)]
+enum Trial {
+    /// A high process with the second code interrupts a low one with the first, and the script holds.
+    Interrupt(&'static [u8], &'static [u8], &'static [Line]),
+    /// As many processes as may live come and go: the first workspace, and the distance to the next one.
+    Crowd(u32, u32),
+}
+
+/// What is tried, and what is wrong if it fails.
+const TRIALS: &[(&str, Trial)] = &[
+    (
+        "an interrupted process does not go on as it was",
+        Trial::Interrupt(JUMPS_TO_ITSELF, CLEARS_ERROR, GOES_ON),
+    ),
+    (
+        "an interrupted process does not get A back",
+        Trial::Interrupt(STORES_A, CLEARS_ERROR, GETS_A_BACK),
+    ),
+    (
+        "an interrupted process does not get Error back",
+        Trial::Interrupt(STORES_ERROR, CLEARS_ERROR, GETS_ERROR_BACK),
+    ),
+    (
+        "a process that interrupts does not have Error clear",
+        Trial::Interrupt(JUMPS_ON, LOOKS_AT_ERROR, HAS_ERROR_CLEAR),
+    ),
+    (
+        "not as many processes as may live come and go, 16 bytes apart",
+        Trial::Crowd(0x8000_0060, 16),
+    ),
+    (
+        "not as many processes as may live come and go, 12 bytes apart",
+        Trial::Crowd(0x8000_0054, 12),
+    ),
+    (
+        "not as many processes as may live come and go, 20 bytes apart",
+        Trial::Crowd(0x8000_0100, 20),
+    ),
+];
+
+/// Whether what is tried on a processor without processes goes well.
+fn goes_well(p: &mut Processor, trial: &Trial) -> bool
+    requires { HasNobody p.old }
+{
+    match trial {
+        Trial::Interrupt(low, high, script) => put_all(p, low, high) && hold(p, script),
+        Trial::Crowd(first, apart) => {
+            put(p, MANY, &[0x21, 0xf5]) && come_and_go(p, *first, *apart)
+        }
+    }
+}
+
+/// Tries something on a processor.
+fn attempt(alloc: Global, trial: &Trial) -> Result<bool, MemoryFault> {
+    let mut p = Processor::new(alloc, 16_384, 1_024, Kind::One)?;
+    Ok(goes_well(&mut p, trial))
+}
 
 #[test]
-fn as_many_as_may_live_are_let_in(rt: HostRuntime) -> Result<(), Fail> {
-    for (first, apart) in WORKSPACES {
-        let mut p = processor(rt.alloc(), 16_384)?;
-        assert!(rt; put(&mut p, MANY, &[0x21, 0xf5]));
-        assert!(rt; fill(&mut p, *first, *apart), "{apart}");
-        assert!(rt; is_full(&mut p, *first, *apart), "{apart}");
-        assert!(rt; has_room(&mut p, *first, *apart), "{apart}");
-        assert!(rt; come_to_rest(&mut p, *first, *apart), "{apart}");
+fn processes_are_interrupted_and_come_and_go(rt: HostRuntime) -> Result<(), Fault> {
+    for (wrong, trial) in TRIALS {
+        require(attempt(rt.alloc(), trial)?, wrong)?;
     }
     Ok(())
 }

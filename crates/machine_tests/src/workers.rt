@@ -1,29 +1,60 @@
-//! Free workers that turn one after another, and are gathered.
+//! Free workers that turn one after another, and are gathered. A call that is refused memory gives back what it took,
+//! and is called again; it is noted which call that was.
 
-ghost use Rattle.std.specs.Prelude.{◌≡◌, ◌<◌, ◌≤◌, length, IfOk, IfErr};
+ghost use Rattle.std.specs.Prelude.{◌≡◌, ◌<◌, ◌≤◌, length, IfOk};
 ghost use Rattle.std.specs.List.{insert};
-ghost use Rattle.tfree.specs.Gather.{IsWhy};
-ghost use Rattle.tfree.specs.Opened.{ComeFromOneOpen, Gathers};
+ghost use Rattle.tfree.specs.Opened.{ComeFromOneOpen};
 
-use crate::texts::shown;
+use crate::alike::are_alike;
+use crate::fault::{Fault, require};
+use crate::story::Call;
 use std::alloc::{AllocError, Global};
-use std::test::Fail;
-use tfiles::WriteFault;
 use tfree::laws::{one_opening_stays, some_come_from_one_open};
 use tfree::{GatherFault, Gathered, OpenFault, TurnFault, Turned, Worker, gather, open};
 use tnet::Net;
-use trounds::replay;
 
-/// How many runs a node makes in a turn.
+/// How many Runs a node makes in a turn at most.
 pub const SLICE: u32 = 64;
 
-/// A net is opened for `count` workers.
-pub fn opened(alloc: Global, net: Net, count: usize) -> Result<Vec<Worker>, OpenFault>
+/// More rotations than any of the nets needs.
+const ROTATIONS: u32 = 100_000;
+
+/// The net that came back is opened again, since lack of memory was the fault.
+fn opened_again(
+    alloc: Global,
+    back: Net,
+    count: usize,
+    fault: OpenFault,
+) -> Result<Vec<Worker>, Fault>
     ensures { IfOk result (λ workers. ComeFromOneOpen workers.items) }
 {
+    require(
+        fault == OpenFault::OutOfMemory,
+        "the opening has another fault",
+    )?;
+    match open(alloc, back, count) {
+        Ok(workers) => Ok(workers),
+        Err(_refused) => Err(Fault::Wrong("the net is not opened again")),
+    }
+}
+
+/// A net is opened for workers. Where that is refused, it comes back as it was, and is opened again.
+pub fn opened(
+    alloc: Global,
+    net: Net,
+    count: usize,
+    refused: &mut Option<Call>,
+) -> Result<Vec<Worker>, Fault>
+    ensures { IfOk result (λ workers. ComeFromOneOpen workers.items) }
+{
+    let copy = net.try_copy(alloc)?;
     match open(alloc, net, count) {
         Ok(workers) => Ok(workers),
-        Err((fault, _net)) => Err(fault),
+        Err((fault, back)) => {
+            *refused = Some(Call::Open);
+            require(are_alike(&back, &copy), "the net that came back is another")?;
+            opened_again(alloc, back, count, fault)
+        }
     }
 }
 
@@ -39,31 +70,77 @@ pub fn turn_at(workers: &mut Vec<Worker>, place: usize) -> Result<Turned, TurnFa
     workers[place].turn(SLICE)
 }
 
-/// A turn of each worker, one after another. How many events they did together.
-pub fn rotate(workers: &mut Vec<Worker>) -> Result<u64, TurnFault>
+/// How many events a turn did. One that was refused ended early, and another has to go on: that counts as an event.
+fn counted(turned: Result<Turned, TurnFault>, refused: &mut Option<Call>) -> Result<u64, Fault> {
+    match turned {
+        Ok(Turned { events }) => Ok(events),
+        Err(TurnFault::OutOfMemory) => {
+            *refused = Some(Call::Turn);
+            Ok(1)
+        }
+        Err(_fault) => Err(Fault::Wrong("a turn has another fault")),
+    }
+}
+
+/// A turn of each worker, one after another: how many events they did together.
+pub fn rotate(workers: &mut Vec<Worker>, refused: &mut Option<Call>) -> Result<u64, Fault>
     requires { ComeFromOneOpen workers.old.items }
     ensures { ComeFromOneOpen workers.new.items }
 {
     let mut events: u64 = 0;
     for place in 0..workers.len() {
-        events = events.saturating_add(turn_at(workers, place)?.events);
+        let turned = turn_at(workers, place);
+        events = events.saturating_add(counted(turned, refused)?);
     }
     Ok(events)
 }
 
-/// The workers turn in rotation until a rotation does nothing. Whether it came to that.
-pub fn rotate_until_idle(workers: &mut Vec<Worker>) -> bool
+/// The workers turn in rotation until a rotation does nothing.
+pub fn rotate_until_idle(workers: &mut Vec<Worker>, refused: &mut Option<Call>) -> Result<(), Fault>
     requires { ComeFromOneOpen workers.old.items }
     ensures { ComeFromOneOpen workers.new.items }
 {
-    for _rotation in 0..100_000 {
-        match rotate(workers) {
-            Ok(0) => return true,
-            Ok(_events) => {}
-            Err(_fault) => return false,
+    for _rotation in 0..ROTATIONS {
+        if rotate(workers, refused)? == 0 {
+            return Ok(());
         }
     }
-    false
+    Err(Fault::Wrong("the workers do not rest"))
+}
+
+/// The workers that came back are gathered, since lack of memory was the fault.
+fn gathered_again(
+    alloc: Global,
+    workers: Vec<Worker>,
+    fault: GatherFault,
+) -> Result<Gathered, Fault>
+    requires { ComeFromOneOpen workers.items }
+{
+    require(
+        fault == GatherFault::OutOfMemory,
+        "gathering has another fault",
+    )?;
+    match gather(alloc, workers) {
+        Ok(done) => Ok(done),
+        Err(_refused) => Err(Fault::Wrong("the workers are not gathered again")),
+    }
+}
+
+/// The workers are gathered. Where that is refused, they come back, and are gathered again.
+pub fn gathered(
+    alloc: Global,
+    workers: Vec<Worker>,
+    refused: &mut Option<Call>,
+) -> Result<Gathered, Fault>
+    requires { ComeFromOneOpen workers.items }
+{
+    match gather(alloc, workers) {
+        Ok(done) => Ok(done),
+        Err((fault, back)) => {
+            *refused = Some(Call::Gather);
+            gathered_again(alloc, back, fault)
+        }
+    }
 }
 
 /// The worker at a place is held back from the others.
@@ -85,32 +162,4 @@ pub fn put_back(workers: &mut Vec<Worker>, place: usize, worker: Worker) -> Resu
 {
     workers.insert(place, worker)?;
     Ok(())
-}
-
-/// The workers are brought together again, where none is missing.
-pub fn gathered(alloc: Global, workers: Vec<Worker>) -> Result<Gathered, GatherFault>
-    requires { ComeFromOneOpen workers.items }
-    ensures gathered { IfOk result (λ g. Gathers workers.items g.history g.notes g.net) }
-    ensures why { IfErr result (λ fault. IsWhy workers.items fault) }
-{
-    match gather(alloc, workers) {
-        Ok(done) => Ok(done),
-        Err((fault, _workers)) => Err(fault),
-    }
-}
-
-/// The trace and the dumps of what workers did.
-pub fn shown_of(alloc: Global, done: &Gathered) -> Result<Vec<u8>, WriteFault> {
-    shown(alloc, done.notes.as_slice(), &done.net)
-}
-
-/// Whether trace and dumps of what workers did are these lines.
-pub fn shows(alloc: Global, done: &Gathered, lines: &str) -> Result<bool, WriteFault> {
-    Ok(shown_of(alloc, done)?.as_slice() == lines.as_bytes())
-}
-
-/// The trace and the dumps of a replay of what workers did, on the net that was opened for them.
-pub fn replay_shown_of(alloc: Global, net: Net, done: &Gathered) -> Result<Vec<u8>, Fail> {
-    let replayed = replay(alloc, net, done.history.as_slice())?;
-    Ok(shown(alloc, replayed.notes.as_slice(), &replayed.net)?)
 }

@@ -1,5 +1,0 @@
-use Rattle.tproc.specs.Opening.{HasNobody}
-use Rattle.trials.proofs.bench.scheduling.put_words.Given as goal
-
-abbrev pub invariant-loop-word : goal.invariant-loop-word
-invariant-loop-word l = HasNobody l.p
