@@ -16,7 +16,7 @@ use std::thread::Threads;
 use tfree::{GatherFault, Gathered, OpenFault, Turned, Worker, gather, open};
 use tnet::Net;
 use tplan::{Act, Event};
-use trounds::{Ending, replay};
+use trounds::{Ending, Report, replay};
 
 /// A net is opened for `count` workers.
 fn open_for(alloc: Global, example: &Example, count: usize) -> Result<Vec<Worker>, Fault>
@@ -259,24 +259,34 @@ fn left_of_ring(alloc: Global) -> Result<Net, Fault> {
     let mut workers = open_for(alloc, &RING, 3)?;
     turn_counted(&mut workers, &[(2, 6), (1, 6), (0, 7)])?;
     let done = gathered(alloc, workers, &mut None)?;
-    require(done.notes.as_slice().is_empty(), "a message is over")?;
+    require(
+        done.notes.as_slice().is_empty() && has_packet(&done.net),
+        "no packet was left, or a message is over",
+    )?;
     Ok(done.net)
 }
 
-/// The packet that was left comes next, and rounds of the net go on from it.
-fn attempt_rounds<R: Threads + Sync>(rt: &R, alloc: Global) -> Result<(), Fault> {
-    let net = left_of_ring(alloc)?;
-    let comes = Event {
+/// The packet that was left of the ring comes next.
+fn has_packet(net: &Net) -> bool {
+    net.enabled(Event {
         node: 1,
         act: Act::Data(2),
-    };
-    require(net.enabled(comes), "no packet was left")?;
-    let report = after_rounds(rt, alloc, net, ROUNDS)?;
+    })
+}
+
+/// The rounds have come to rest, and did what is due.
+fn are_due(alloc: Global, report: &Report) -> Result<(), Fault> {
     require(report.end == Ending::Quiet, "the net does not rest")?;
     require(
         shows(alloc, report.notes.as_slice(), &report.net, &RING_LINES)?,
         "the rounds did something else",
     )
+}
+
+/// Rounds of the net go on from what was left.
+fn attempt_rounds<R: Threads + Sync>(rt: &R, alloc: Global) -> Result<(), Fault> {
+    let report = after_rounds(rt, alloc, left_of_ring(alloc)?, ROUNDS)?;
+    are_due(alloc, &report)
 }
 
 #[test]

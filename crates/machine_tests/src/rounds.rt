@@ -145,32 +145,13 @@ fn rounds_until<R: Threads + Sync>(
     Err(Fault::Wrong("the net that came back is not at the end of a round"))
 }
 
-/// A net runs in rounds until it is quiet. Where that is refused, the net that came back is as after whole rounds, and
-/// goes on from there.
-pub fn run<R: Threads + Sync>(
-    rt: &R,
+/// What the rounds did is told: a net that is quiet at their end.
+fn tell_end(
     alloc: Global,
-    net: Net,
-    holds: &[Hold],
-    workers: usize,
+    mut joined: Joined,
+    report: Report,
     story: &mut Story,
 ) -> Result<(), Fault> {
-    let opened = net.try_copy(alloc)?;
-    let (mut joined, report) = match run_rounds(
-        rt, alloc, net, ROUNDS, SLICE, holds, workers, &Open,
-    ) {
-        Ok(report) => (Joined::new(alloc), report),
-        Err((fault, stopped)) => {
-            require(fault == NetFault::OutOfMemory, "rounds have another fault")?;
-            let first = rounds_until(rt, alloc, opened, holds, &stopped)?;
-            let done = first.rounds;
-            story.refused = Some(Call::Rounds(done));
-            (
-                first,
-                more(rt, alloc, stopped, ROUNDS, holds, done, workers)?,
-            )
-        }
-    };
     require(report.end == Ending::Quiet, "rounds do not end quiet")?;
     let net = joined.add(report)?;
     story.count(alloc, "rounds", u64::from(joined.rounds))?;
@@ -180,4 +161,40 @@ pub fn run<R: Threads + Sync>(
         joined.notes.as_slice(),
         &net,
     )
+}
+
+/// A net that came back is as after whole rounds from the opening, and goes on from there until it is quiet.
+fn go_on<R: Threads + Sync>(
+    rt: &R,
+    alloc: Global,
+    first: Joined,
+    stopped: Net,
+    holds: &[Hold],
+    workers: usize,
+    story: &mut Story,
+) -> Result<(), Fault> {
+    let done = first.rounds;
+    story.refused = Some(Call::Rounds(done));
+    let report = more(rt, alloc, stopped, ROUNDS, holds, done, workers)?;
+    tell_end(alloc, first, report, story)
+}
+
+/// A net runs in rounds until it is quiet. Where that is refused, the net that came back goes on.
+pub fn run<R: Threads + Sync>(
+    rt: &R,
+    alloc: Global,
+    net: Net,
+    holds: &[Hold],
+    workers: usize,
+    story: &mut Story,
+) -> Result<(), Fault> {
+    let opened = net.try_copy(alloc)?;
+    match run_rounds(rt, alloc, net, ROUNDS, SLICE, holds, workers, &Open) {
+        Ok(report) => tell_end(alloc, Joined::new(alloc), report, story),
+        Err((fault, stopped)) => {
+            require(fault == NetFault::OutOfMemory, "rounds have another fault")?;
+            let first = rounds_until(rt, alloc, opened, holds, &stopped)?;
+            go_on(rt, alloc, first, stopped, holds, workers, story)
+        }
+    }
 }

@@ -82,10 +82,9 @@ fn on_threads<R: Threads + Wait + Sync>(
 fn three_of(mut workers: Vec<Worker>) -> Option<(Worker, Worker, Worker)>
     ensures { IfSome result (λ r. workers.items ≡ r.0 ∷ r.1 ∷ r.2 ∷ []) }
 {
-    let (Some(third), Some(second), Some(first)) = (workers.pop(), workers.pop(), workers.pop())
-    else {
-        return None;
-    };
+    let third = workers.pop()?;
+    let second = workers.pop()?;
+    let first = workers.pop()?;
     if !workers.is_empty() {
         return None;
     }
