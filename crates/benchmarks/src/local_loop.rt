@@ -94,17 +94,10 @@ fn sum_of(r: &Registers) -> u32 {
     sum
 }
 
-/// Does `thousands` times 1,000 instructions of the loop, and answers with a checksum of registers and memory.
-pub fn looped(alloc: Global, thousands: u32, claims: Claims) -> Result<Answer, Fault>
-    ensures { IfOk result (λ answer. answer.operations ≡ thousands * 1000) }
-{
-    let steps = u64::from(thousands) * 1_000;
-    let mut memory = Memory::new(alloc, SIZE, Kind::One)?;
-    let mut marks = Marks::new(alloc, SIZE)?;
-    load(&mut memory, &marks)?;
-    claim(&mut marks, claims)?;
+/// The registers before the first instruction.
+fn before() -> Registers {
     let zero = Word::new(0);
-    let mut registers = Registers {
+    Registers {
         a: zero,
         b: zero,
         c: zero,
@@ -112,10 +105,35 @@ pub fn looped(alloc: Global, thousands: u32, claims: Claims) -> Result<Answer, F
         wptr: Word::new(WORKSPACE),
         error: false,
         halt_on_error: false,
-    };
-    run(&mut registers, &mut memory, &marks, steps)?;
+    }
+}
+
+/// Does `steps` instructions of the loop among claims: a checksum of registers and memory.
+fn sum_after(
+    memory: &mut Memory,
+    marks: &mut Marks,
+    claims: Claims,
+    steps: u64,
+) -> Result<u32, Break>
+    requires { length marks.old.saved ≡ 0 }
+{
+    load(memory, marks)?;
+    claim(marks, claims)?;
+    let mut registers = before();
+    run(&mut registers, memory, marks, steps)?;
+    Ok(checksum(sum_of(&registers), memory.bytes.as_slice()))
+}
+
+/// Does `thousands` times 1,000 instructions of the loop, and answers with a checksum of registers and memory.
+pub fn looped(alloc: Global, thousands: u32, claims: Claims) -> Result<Answer, Fault>
+    ensures { IfOk result (λ answer. answer.operations ≡ thousands * 1000) }
+{
+    let steps = u64::from(thousands) * 1_000;
+    let mut memory = Memory::new(alloc, SIZE, Kind::One)?;
+    let mut marks = Marks::new(alloc, SIZE)?;
+    let sum = sum_after(&mut memory, &mut marks, claims, steps)?;
     Ok(Answer {
         operations: steps,
-        sum: checksum(sum_of(&registers), memory.bytes.as_slice()),
+        sum,
     })
 }

@@ -98,15 +98,21 @@ fn sum_of(memory: &Memory, marks: &Marks, turns: u32) -> Result<u32, Break> {
     Ok(sum)
 }
 
+/// Puts the code into a memory and decodes it `turns` times: the sum.
+fn sum_of_code(memory: &mut Memory, marks: &Marks, turns: u32) -> Result<u32, Break> {
+    load(memory, marks)?;
+    sum_of(memory, marks, turns)
+}
+
 /// Decodes the code `turns` times, and answers with the sum.
 pub fn decoded(alloc: Global, turns: u32) -> Result<Answer, Fault>
     ensures { IfOk result (λ answer. answer.operations ≡ turns * INSTRUCTIONS) }
 {
     let mut memory = Memory::new(alloc, SIZE, Kind::One)?;
     let marks = Marks::new(alloc, SIZE)?;
-    load(&mut memory, &marks)?;
+    let sum = sum_of_code(&mut memory, &marks, turns)?;
     Ok(Answer {
         operations: u64::from(turns) * u64::from(INSTRUCTIONS),
-        sum: sum_of(&memory, &marks, turns)?,
+        sum,
     })
 }

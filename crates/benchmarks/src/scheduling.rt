@@ -164,6 +164,15 @@ fn run(p: &mut Processor, steps: u64) -> Result<u32, Break> {
     Ok(dispatches)
 }
 
+/// Does `steps` steps of a job: a checksum of the memory.
+fn sum_after(p: &mut Processor, job: Job, steps: u64) -> Result<u32, Break>
+    requires { HasNobody p.old }
+{
+    prepare(p, job)?;
+    let dispatches = run(p, steps)?;
+    Ok(checksum(mixed(BEGIN, dispatches), p.bytes()))
+}
+
 /// Does `thousands` times 1,000 steps of a job, and answers with a checksum of the memory.
 pub fn worked(alloc: Global, thousands: u32, job: Job) -> Result<Answer, Fault>
     ensures { IfOk result (λ answer. answer.operations ≡ thousands * 1000) }
@@ -171,10 +180,9 @@ pub fn worked(alloc: Global, thousands: u32, job: Job) -> Result<Answer, Fault>
     let steps = u64::from(thousands) * 1_000;
     let timeslice = if let Job::Switch(_) = job { 1 } else { 1_024 };
     let mut p = Processor::new(alloc, SIZE, timeslice, Kind::One)?;
-    prepare(&mut p, job)?;
-    let dispatches = run(&mut p, steps)?;
+    let sum = sum_after(&mut p, job, steps)?;
     Ok(Answer {
         operations: steps,
-        sum: checksum(mixed(BEGIN, dispatches), p.bytes()),
+        sum,
     })
 }
