@@ -1,4 +1,5 @@
 mod Counts
+mod FreeLanes
 mod Layouts
 mod UnseenCharts
 mod UnseenMessages

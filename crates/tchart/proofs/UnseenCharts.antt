@@ -1,11 +1,13 @@
 -- Pictures do not depend on what the buffers of pending inputs hold.
 use Rattle.std.proofs.Common.{◌≡◌, ℕ, zero, suc, refl, sym, ap, ap₂, ◌∙◌, subst, Bool, false, List, [], ◌∷◌, Option}
 use Rattle.std.proofs.Common.{Some, None, Result, Ok, Err}
-use Rattle.std.specs.Prelude.{map, option_map, slice_get, if◌then◌else◌}
+use Rattle.std.specs.Prelude.{map, option_map, is_some, slice_get, if◌then◌else◌}
 use Rattle.std.proofs.lemmas.Option.{slice_get-map}
 use Rattle.tword.specs.Limits.{most_nodes}
 use Rattle.tword.specs.Words.{most_neg}
 use Rattle.tproc.specs.declared.offer.Offer.{Offer}
+use Rattle.tproc.specs.declared.waiter.Reason.{Reason}
+use Rattle.tproc.specs.declared.waiter.Waiter.{Waiter}
 use Rattle.tproc.specs.Machine.{Machine}
 use Rattle.tproc.specs.Hidden.{hidden}
 use Rattle.tlink.specs.declared.event.Emitted.{Emitted}
@@ -13,7 +15,8 @@ use Rattle.tlink.specs.declared.event.Mark.{Mark}
 use Rattle.tlink.specs.declared.event.Mark.TheVariants.{Nothing, Halted, Completed}
 use Rattle.tlink.specs.declared.event.StepFault.{StepFault}
 use Rattle.tlink.specs.declared.event.StepFault.TheVariants.{NotEnabled, Frozen}
-use Rattle.tlink.specs.Roles.{offering, script_machine}
+use Rattle.tlink.specs.Roles.{Role, Processor, Source, Sink, offering, script_machine}
+use Rattle.tlink.specs.Scripts.{processor_of}
 use Rattle.tlink.specs.Node.{NodeState}
 use Rattle.tplan.specs.declared.event.Act.{Act}
 use Rattle.tplan.specs.declared.event.Act.TheVariants.{Run, Send, Data, Take, Ack}
@@ -22,7 +25,7 @@ use Rattle.tplan.specs.declared.plan.End.{End}
 use Rattle.tplan.specs.declared.plan.Wire.{Wire}
 use Rattle.tnet.specs.Net.{NetState, node_at}
 use Rattle.tnet.specs.Notes.{event_note}
-use Rattle.tnet.specs.Packets.{NetAnswer, after_answer, answered, is_done, is_enabled, net_happens, net_left_by}
+use Rattle.tnet.specs.Packets.{NetAnswer, after_answer, answered, net_happens, net_left_by}
 use Rattle.tnet.specs.Rendezvous.{Configuration, IsRun, Step}
 use Rattle.tnet.specs.Sound.{IsSound}
 use Rattle.tnet.specs.View.{image, view}
@@ -35,18 +38,18 @@ use Rattle.thistory.specs.declared.deed.Deed.{Deed}
 use Rattle.thistory.specs.declared.deed.Deed.TheVariants as deed
 use Rattle.thistory.specs.declared.deed.Done.{Done}
 use Rattle.thistory.specs.Deeds.{deed_of, done_of, net_behind, processor_in}
-use Rattle.thistory.specs.Steps.{was_done}
 use Rattle.thistory.proofs.UnseenDeeds.{deed_alike, done_alike, processor_same}
 use Rattle.thistory.proofs.UnseenNets.{answer_alike, images_alike, sound_behind, stays_alike, views_alike}
 use Rattle.tchart.specs.declared.layout.Column.{Column}
-use Rattle.tchart.specs.declared.shown.Awaited.{Awaited}
+use Rattle.tchart.specs.declared.marks.Pause.{Pause}
 use Rattle.tchart.specs.declared.shown.Before.{Before}
 use Rattle.tchart.specs.declared.shown.Message.{Message}
 use Rattle.tchart.specs.declared.shown.Shown.{Shown}
 use Rattle.tchart.specs.declared.shown.Shown.TheVariants.{Run as Ran, Sent, Taken}
-use Rattle.tchart.specs.Layout.{chart_of_plot, columns_below, laid_from, with_column}
-use Rattle.tchart.specs.Plots.{PlotState, laid, opening}
+use Rattle.tchart.specs.Layout.{chart_of_plot, columns_below, laid_from, laid_one, with_column}
+use Rattle.tchart.specs.Plots.{PlotState, freed, goes_on, laid, lane_at, lane_over, most_lanes, opening, over, track_at}
 use Rattle.tchart.specs.Shown as spec
+use Rattle.tchart.specs.Waits as waits
 use Rattle.tchart.specs.Unseen.{ChartIsOfTheView}
 use Rattle.tchart.proofs.UnseenMessages.{take_told, told_message}
 
@@ -102,9 +105,27 @@ runner_same : (m : Option Machine) → spec.runner (option_map hidden m) ≡ spe
 runner_same None = refl
 runner_same (Some m) = refl
 
-waits_same : (m : Option Machine) → spec.awaited_at (option_map hidden m) ≡ spec.awaited_at m
-waits_same None = refl
-waits_same (Some m) = refl
+-- what a process waits for does not depend on the memory
+module _ (process : ℕ) where
+  reason_role : (m : Machine) (r : Role)
+      → waits.reason_of process (processor_of r (hidden m)) ≡ waits.reason_of process (processor_of r m)
+  reason_role m Processor = refl
+  reason_role m (Source over rest) = refl
+  reason_role m (Sink kept) = refl
+
+  reason_node : (s : Option NodeState)
+      → waits.reason_at process (option_map hidden_node s) ≡ waits.reason_at process s
+  reason_node None = refl
+  reason_node (Some n) =
+      ap (λ (r : Option Reason). if is_some n.broken then None else r) (reason_role n.machine n.role)
+
+  reason_alike : (a b : NetState) → hidden_net a ≡ hidden_net b → (n : ℕ)
+      → waits.reason_at process (node_at a n) ≡ waits.reason_at process (node_at b n)
+  reason_alike a b same n =
+      sym
+      (ap (waits.reason_at process) (slice_get-map hidden_node a.nodes n) ∙ reason_node (slice_get a.nodes n))
+      ∙ ap (λ (w : NetState). waits.reason_at process (node_at w n)) same
+      ∙ (ap (waits.reason_at process) (slice_get-map hidden_node b.nodes n) ∙ reason_node (slice_get b.nodes n))
 
 runner_alike : (a b : NetState) → hidden_net a ≡ hidden_net b → (n : ℕ)
     → spec.runner (processor_in a n) ≡ spec.runner (processor_in b n)
@@ -113,25 +134,11 @@ runner_alike a b same n =
     ∙ ap (λ (w : NetState). spec.runner (processor_in w n)) same
     ∙ (ap spec.runner (processor_same b n) ∙ runner_same (processor_in b n))
 
--- a net does an event exactly where its answer says so
-done_answered : (x : NetAnswer) → is_done x ≡ was_done (answered x)
-done_answered (Ok (w, em)) = refl
-done_answered (Err NotEnabled) = refl
-done_answered (Err (Frozen broken)) = refl
-
-module _ (a b : NetState) (sound_a : IsSound a) (sound_b : IsSound b) (same : hidden_net a ≡ hidden_net b) where
-  enabled_alike : (e : Event) → is_enabled a e ≡ is_enabled b e
-  enabled_alike e =
-      done_answered (net_happens e a) ∙ ap was_done (answer_alike blank a b sound_a sound_b same e)
-      ∙ sym (done_answered (net_happens e b))
-
-  awaited_alike : (n : ℕ) → spec.awaited a n ≡ spec.awaited b n
-  awaited_alike n =
-      ap₂ (λ (runs : Bool) (w : Option Awaited). if runs then None else w)
-      (enabled_alike (record { node = n; act = Run }))
-      (sym (ap spec.awaited_at (processor_same a n) ∙ waits_same (processor_in a n))
-      ∙ ap (λ (w : NetState). spec.awaited_at (processor_in w n)) same
-      ∙ (ap spec.awaited_at (processor_same b n) ∙ waits_same (processor_in b n)))
+waiter_alike : (a b : NetState) → hidden_net a ≡ hidden_net b → (n process : ℕ)
+    → spec.waiter_behind a n process ≡ spec.waiter_behind b n process
+waiter_alike a b same n process =
+    ap₂ (λ (r : Option ℕ) (w : Option Reason). if is_some r then None else spec.waiter process w)
+    (runner_alike a b same n) (reason_alike process a b same n)
 
 -- ---- an event
 
@@ -227,11 +234,6 @@ module _ (a b : NetState) (sound_a : IsSound a) (sound_b : IsSound b) (same : hi
   abbrev behind_b : NetState
   behind_b = net_behind b e
 
-  waits : spec.awaited behind_a e.node ≡ spec.awaited behind_b e.node
-  waits =
-      awaited_alike behind_a behind_b (sound_behind a e sound_a) (sound_behind b e sound_b)
-      (stays a b sound_a sound_b same e) e.node
-
   runs : spec.runner (processor_in behind_a e.node) ≡ spec.runner (processor_in behind_b e.node)
   runs = runner_alike behind_a behind_b (stays a b sound_a sound_b same e) e.node
 
@@ -239,9 +241,9 @@ module _ (a b : NetState) (sound_a : IsSound a) (sound_b : IsSound b) (same : hi
       → spec.deed_shown behind_a (spec.before_of a e) e.node em.mark d
       ≡ spec.deed_shown behind_b (spec.before_of a e) e.node em.mark d
   deed_same em h (deed.Instruction process iptr fetched) =
-      ap (λ (w : Option Awaited). Ran (Some process) (spec.is_halt em.mark) w) waits
-  deed_same em h deed.Dispatch =
-      ap₂ (λ (r : Option ℕ) (w : Option Awaited). Ran r (spec.is_halt em.mark) w) runs waits
+      ap (λ (w : Option Waiter). Ran (Some process) (spec.is_halt em.mark) w)
+      (waiter_alike behind_a behind_b (stays a b sound_a sound_b same e) e.node process)
+  deed_same em h deed.Dispatch = ap (λ (r : Option ℕ). Ran r (spec.is_halt em.mark) None) runs
   deed_same em h (deed.Send l) =
       ap (λ (f : Option End). Sent l f (spec.before_of a e).is_first (spec.before_of a e).process)
       (far_alike a b sound_a sound_b same e l)
@@ -266,14 +268,40 @@ module _ (a b : NetState) (sound_a : IsSound a) (sound_b : IsSound b) (same : hi
 
 -- ---- the picture
 
+-- the pauses that are over behind an event
+module _ (a b : NetState) (same : hidden_net a ≡ hidden_net b) (n k : ℕ) where
+  goes_alike : (q : Option Pause) → goes_on q (node_at a n) ≡ goes_on q (node_at b n)
+  goes_alike None = refl
+  goes_alike (Some q) =
+      ap (λ (r : Option Reason). is_some r) (reason_alike q.process a b same n)
+
+  lane_alike : (lane : ℕ) (p : PlotState) → lane_over n k (node_at a n) lane p ≡ lane_over n k (node_at b n) lane p
+  lane_alike lane p =
+      ap
+      (λ (g : Bool). if g then p else freed n (track_at p n).row (Some k) lane (lane_at p n lane) p)
+      (goes_alike (lane_at p n lane))
+
+  over_alike : (lane : ℕ) (p : PlotState) → over lane n k (node_at a n) p ≡ over lane n k (node_at b n) p
+  over_alike zero p = refl
+  over_alike (suc lane) p =
+      ap (lane_over n k (node_at a n) lane) (over_alike lane p) ∙ lane_alike lane (over lane n k (node_at b n) p)
+
+one_alike : (k : ℕ) (e : Event) (a b : NetState) (p : PlotState) → IsSound a → IsSound b
+    → hidden_net a ≡ hidden_net b → laid_one k e a p ≡ laid_one k e b p
+one_alike k e a b p sound_a sound_b same =
+    ap
+    (λ (s : Shown). over most_lanes e.node k (node_at (net_behind a e) e.node) (laid e.node k s p))
+    (shown_alike a b sound_a sound_b same e)
+    ∙ over_alike (net_behind a e) (net_behind b e) (stays a b sound_a sound_b same e) e.node k most_lanes
+    (laid e.node k (spec.shown_of b e) p)
+
 laid_alike : (k : ℕ) (es : List Event) (a b : NetState) (p : PlotState) → IsSound a → IsSound b
     → hidden_net a ≡ hidden_net b → laid_from k es a p ≡ laid_from k es b p
 laid_alike k [] a b p sound_a sound_b same = refl
 laid_alike k (e ∷ es) a b p sound_a sound_b same =
-    ap (λ (s : Shown). laid_from (suc k) es (net_behind a e) (laid e.node k s p))
-    (shown_alike a b sound_a sound_b same e)
-    ∙ laid_alike (suc k) es (net_behind a e) (net_behind b e) (laid e.node k (spec.shown_of b e) p)
-    (sound_behind a e sound_a) (sound_behind b e sound_b) (stays a b sound_a sound_b same e)
+    ap (λ (p : PlotState). laid_from (suc k) es (net_behind a e) p) (one_alike k e a b p sound_a sound_b same)
+    ∙ laid_alike (suc k) es (net_behind a e) (net_behind b e) (laid_one k e b p) (sound_behind a e sound_a)
+    (sound_behind b e sound_b) (stays a b sound_a sound_b same e)
 
 -- a column does not depend on the memory
 column_hidden : (k : ℕ) (s : Option NodeState) (columns : List Column)

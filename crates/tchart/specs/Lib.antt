@@ -7,4 +7,6 @@ pub mod Parts
 pub mod Plots
 pub mod Shown
 pub mod Style
+pub mod Titles
 pub mod Unseen
+pub mod Waits

@@ -4,7 +4,7 @@ use Rattle.std.specs.Prelude.{ℕ, ◌+◌, ◌*◌, List, ◌++◌, codes, deci
 
 -- where the middle of a column is, and that of a row
 abbrev pub x_of : ℕ → ℕ
-x_of column = 240 * column + 100
+x_of column = 240 * column + 84
 
 abbrev pub y_of : ℕ → ℕ
 y_of row = 24 * row + 144

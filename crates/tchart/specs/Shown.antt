@@ -1,11 +1,12 @@
 -- What an event did, as the picture shows it.
 -- Source: own choice.
-use Rattle.std.specs.Prelude.{ℕ, ◌+◌, min, Bool, true, false, ◌||◌, ◌==◌, Option, Some, None, is_some, Result, Ok, Err}
-use Rattle.std.specs.Prelude.{if◌then◌else◌}
+use Rattle.std.specs.Prelude.{ℕ, ◌+◌, min, Bool, true, false, ◌==◌, Option, Some, None, is_some, option_map, Result}
+use Rattle.std.specs.Prelude.{Ok, Err, if◌then◌else◌}
 use Rattle.tword.specs.Stores.{bytes_at}
 use Rattle.tproc.specs.declared.offer.Offer.{Offer}
-use Rattle.tproc.specs.Machine.{Control, Machine}
-use Rattle.tproc.specs.LinkChannels.{link_end}
+use Rattle.tproc.specs.declared.waiter.Reason.{Reason}
+use Rattle.tproc.specs.declared.waiter.Waiter.{Waiter}
+use Rattle.tproc.specs.Machine.{Machine}
 use Rattle.tproc.specs.Messages.{input_of, output_of}
 use Rattle.tlink.specs.declared.event.Emitted.{Emitted}
 use Rattle.tlink.specs.declared.event.Mark.{Mark}
@@ -19,18 +20,15 @@ use Rattle.tplan.specs.declared.event.Event.{Event}
 use Rattle.tplan.specs.declared.plan.End.{End}
 use Rattle.tnet.specs.Net.{NetState, node_at}
 use Rattle.tplan.specs.Wires.{far_ends}
-use Rattle.tnet.specs.Packets.{is_enabled}
 use Rattle.thistory.specs.declared.deed.Deed.{Deed}
 use Rattle.thistory.specs.declared.deed.Deed.TheVariants as deed
 use Rattle.thistory.specs.declared.deed.Done.{Done}
 use Rattle.thistory.specs.Deeds.{done_of, net_behind, processor_in}
-use Rattle.tchart.specs.declared.shown.Awaited.{Awaited}
-use Rattle.tchart.specs.declared.shown.Awaited.TheVariants as awaits
 use Rattle.tchart.specs.declared.shown.Before.{Before}
 use Rattle.tchart.specs.declared.shown.Message.{Message}
 use Rattle.tchart.specs.declared.shown.Shown.{Shown}
 use Rattle.tchart.specs.declared.shown.Shown.TheVariants.{Nothing, Run, Sent, Came, Taken, Acknowledged, Frozen}
-use Rattle.tchart.specs.declared.shown.Wants.{Wants}
+use Rattle.tchart.specs.Waits.{reason_at}
 
 -- ---- what is known before an event
 
@@ -88,57 +86,19 @@ abbrev pub runner : Option Machine → Option ℕ
 runner (Some m) = current m.control.current m.control.registers.wptr
 runner None = None
 
--- what there is to wait for at a link: an output, an input, or a byte for an alternative that has enabled the link
-abbrev pub wants_at : Control → ℕ → Wants
-wants_at c l =
-    record {
-      output = is_some (link_end c l).output;
-      input = is_some (link_end c l).input;
-      alternative = is_some (link_end c l).remembered;
-    }
+-- a process with what it waits for
+abbrev pub waiter : (process : ℕ) → Option Reason → Option Waiter
+waiter process reason = option_map (λ r. record { process = process; reason = r }) reason
 
--- what there is to wait for at one of two places
-abbrev pub either : Wants → Wants → Wants
-either a b =
-    record {
-      output = a.output || b.output;
-      input = a.input || b.input;
-      alternative = a.alternative || b.alternative;
-    }
-
--- what there is to wait for at the four links
-abbrev pub wants : Control → Wants
-wants c = either (either (wants_at c 0) (wants_at c 1)) (either (wants_at c 2) (wants_at c 3))
-
--- one of outputs, inputs and alternatives, or several of them
-abbrev pub awaited_of : (output input alternative : Bool) → Option Awaited
-awaited_of false false false = None
-awaited_of true false false = Some awaits.Output
-awaited_of false true false = Some awaits.Input
-awaited_of false false true = Some awaits.Alternative
-awaited_of _ _ _ = Some awaits.Several
-
-abbrev pub awaited_by : Wants → Option Awaited
-awaited_by w = awaited_of w.output w.input w.alternative
-
--- what is waited for at the links of a processor; a script waits for nothing
-abbrev pub awaited_at : Option Machine → Option Awaited
-awaited_at (Some m) = awaited_by (wants m.control)
-awaited_at None = None
-
--- what is waited for at the links of a node where none of its processes can run
-abbrev pub awaited : NetState → ℕ → Option Awaited
-awaited net n =
-    if is_enabled net (record { node = n; act = act.Run }) then None else awaited_at (processor_in net n)
+-- the process that did an instruction, if it waits behind it; no process runs then
+abbrev pub waiter_behind : NetState → (n process : ℕ) → Option Waiter
+waiter_behind net n process =
+    if is_some (runner (processor_in net n)) then None else waiter process (reason_at process (node_at net n))
 
 -- the processor halted
 abbrev pub is_halt : Mark → Bool
 is_halt mark.Halted = true
 is_halt _ = false
-
--- an instruction or a dispatch, by the net behind it
-abbrev pub run_shown : NetState → ℕ → Option ℕ → Mark → Shown
-run_shown net n process m = Run process (is_halt m) (awaited net n)
 
 -- ---- a message that is complete
 
@@ -162,8 +122,9 @@ message_of far b n _ = None
 
 -- what an event did that broke no rule, by the net behind it
 abbrev pub deed_shown : NetState → Before → ℕ → Mark → Deed → Shown
-deed_shown net b n m (deed.Instruction process iptr fetched) = run_shown net n (Some process) m
-deed_shown net b n m deed.Dispatch = run_shown net n (runner (processor_in net n)) m
+deed_shown net b n m (deed.Instruction process iptr fetched) =
+    Run (Some process) (is_halt m) (waiter_behind net n process)
+deed_shown net b n m deed.Dispatch = Run (runner (processor_in net n)) (is_halt m) None
 deed_shown net b n m (deed.Send l) = Sent l (far_ends net.wires n l) b.is_first b.process
 deed_shown net b n m (deed.Data l a) = Came l
 deed_shown net b n m (deed.Take l a) =

@@ -1,26 +1,27 @@
 //! The text of a picture.
 
-ghost use Rattle.std.specs.Prelude.{◌≡◌, ◌<◌, ◌≤◌, ◌^◌, ◌++◌, codes, flat_map};
+ghost use Rattle.std.specs.Prelude.{◌≡◌, ◌<◌, ◌≤◌, ◌^◌, flat_map, fold};
 ghost use Rattle.tfiles.specs.Texts.{break_name as name_of_break};
 ghost use Rattle.tfiles.specs.Outputs.{Tells};
 ghost use Rattle.tchart.specs.Drawing as spec;
+ghost use Rattle.tchart.specs.Titles.{bytes_text};
 
 use crate::layout::{Chart, Column, Kind};
-use crate::marks::{Bar, Begun, Mark, Pause};
+use crate::marks::{Bar, Mark, Pause};
 use crate::parts::{put_circle, put_line, put_number, put_rectangle, put_text, x_of, y_of};
 use crate::plot::MOST_ROWS;
-use crate::shown::{Awaited, Message};
+use crate::shown::Message;
 use crate::style::put_style;
+use crate::titles::{put_bytes, put_title};
+use crate::waits::{Awaited, awaited_of};
 use tfiles::CountedWrite;
 use tfiles::break_names::break_name;
 use tfiles::writing::output::Output;
-use tfiles::writing::text::{put_decimal, put_end, put_hex};
-use tplan::plan::End;
-use twhere::put_word;
+use tfiles::writing::text::put_decimal;
+use tword::Break;
 use tword::limits::MOST_NODES;
-use tword::{Break, Word};
 
-/// How many rows are drawn at full size. A picture of more is a third smaller, so it is at most 32,129 pixels high:
+/// How many rows are drawn at full size. A picture of more is a third smaller, so it is at most 32,138 pixels high:
 /// some viewers draw none above 32,767.
 const MOST_FULL_ROWS: u32 = 1_300;
 
@@ -32,26 +33,85 @@ pub fn put_chart<W: CountedWrite>(out: &mut Output<'_, W>, chart: &Chart)
     put_head(out, rows, width_of(chart), height_of(rows));
     put_style(out);
     put_key(out, 20);
-    put_rest(out, chart.rows, 92);
+    put_lack(out, chart, 90);
     put_columns(out, rows, chart.columns.as_slice());
-    put_lower_marks(out, chart.marks.as_slice());
-    put_upper_marks(out, chart.marks.as_slice());
-    put_rest(out, chart.rows, y_of(rows) + 36);
+    put_marks(out, chart.marks.as_slice());
+    put_lack(out, chart, y_of(rows) + 36);
     out.put(b"</svg>\n");
 }
 
 /// How wide a picture is.
 fn width_of(chart: &Chart) -> u64
-    ensures { result ≡ spec.width_of chart.now }
+    ensures is { result ≡ spec.width_of chart.now }
+    ensures small { result < 2 ^ 60 }
 {
-    240 * chart.columns.as_slice().len().min(MOST_NODES) as u64 + 100
+    farthest(columns_reach(chart), chart.marks.as_slice()) + 12
+}
+
+/// How far the key and the columns of a picture reach.
+fn columns_reach(chart: &Chart) -> u64
+    ensures is { result ≡ spec.columns_reach chart.now }
+    ensures small { result < 2 ^ 50 }
+{
+    let columns = chart.columns.as_slice().len().min(MOST_NODES) as u64;
+    (240 * columns).saturating_sub(84).max(268)
+}
+
+/// How far the marks of a picture reach, if it reaches this far without them.
+fn farthest(far: u64, marks: &[Mark]) -> u64
+    requires { far < 2 ^ 50 }
+    ensures is { result ≡ fold spec.farther far marks.now }
+    ensures small { result < 2 ^ 50 }
+{
+    let mut far = far;
+    for mark in marks {
+        far = far.max(reach(mark));
+    }
+    far
+}
+
+/// How far the text of a mark reaches. One of a freeze has 23 letters at most.
+fn reach(mark: &Mark) -> u64
+    ensures is { result ≡ spec.reach mark.now }
+    ensures small { result < 2 ^ 50 }
+{
+    match mark {
+        Mark::Message { message, .. } => label_reach(message),
+        Mark::Freeze { node, .. } => x_of(u32::from(*node)) + 196,
+        _ => 0,
+    }
+}
+
+/// How far the text of an arrow reaches, with eight pixels for a letter.
+fn label_reach(message: &Message) -> u64
+    ensures is { result ≡ spec.label_reach message.now }
+    ensures small { result < 2 ^ 50 }
+{
+    let bytes = message.bytes.as_slice().len().min(8) as u64;
+    x_of(message.from.node) + 8 * (digits_of(message.length) + 2 * bytes + 4) + 10
+}
+
+/// How many digits a number has at most.
+fn digits_of(number: u32) -> u64
+    ensures is { result ≡ spec.digits_of number }
+    ensures few { result ≤ 10 }
+{
+    if number < 10 {
+        1
+    } else if number < 100 {
+        2
+    } else if number < 10_000 {
+        4
+    } else {
+        10
+    }
 }
 
 /// How high a picture with this number of rows is.
 fn height_of(rows: u32) -> u64
     ensures { result ≡ spec.height_of rows }
 {
-    y_of(rows) + 50
+    y_of(rows) + 64
 }
 
 /// How many pixels a length has in a picture of this number of rows.
@@ -124,18 +184,27 @@ fn put_key<W: CountedWrite>(out: &mut Output<'_, W>, y: u64)
     put_key_line(out, Awaited::Output, y);
     put_key_line(out, Awaited::Input, y + 18);
     put_key_line(out, Awaited::Alternative, y + 36);
-    put_key_line(out, Awaited::Several, y + 54);
+    put_key_line(out, Awaited::Channel, y + 54);
 }
 
-/// The colour of a pause, and what is waited for.
+/// The colour and the filling of a pause, and what is waited for.
 fn put_key_line<W: CountedWrite>(out: &mut Output<'_, W>, awaited: Awaited, y: u64)
     requires { 10 ≤ y }
     ensures { Tells W.contents W.failures out.old out.new (spec.key_line awaited y) }
 {
     put_rectangle(out, class_of(awaited), 12, y - 10, 8, 12);
-    put_text(out, b"right", 28, y);
+    put_text(out, b"beside", 28, y);
     out.put(awaited_text(awaited));
     out.put(b"</text>\n");
+}
+
+/// What is not drawn of a picture, from a height on.
+fn put_lack<W: CountedWrite>(out: &mut Output<'_, W>, chart: &Chart, y: u64)
+    requires { y < 2 ^ 60 }
+    ensures { Tells W.contents W.failures out.old out.new (spec.lack_text chart.now y) }
+{
+    put_rest(out, chart.rows, y);
+    put_crowd(out, chart.is_crowded, y + 14);
 }
 
 /// That there are more rows than are drawn, at a height.
@@ -143,46 +212,78 @@ fn put_rest<W: CountedWrite>(out: &mut Output<'_, W>, rows: u32, y: u64)
     ensures { Tells W.contents W.failures out.old out.new (spec.rest_text rows y) }
 {
     if MOST_ROWS < rows {
-        put_text(out, b"right", 12, y);
+        put_text(out, b"beside", 12, y);
         out.put(b"only the first 2000 rows are drawn");
         out.put(b"</text>\n");
     }
 }
 
-/// The marks that lie below the others.
-fn put_lower_marks<W: CountedWrite>(out: &mut Output<'_, W>, marks: &[Mark])
-    ensures { Tells W.contents W.failures out.old out.new (flat_map spec.lower_text marks.now) }
+/// That there were more pauses at one time than lanes, at a height.
+fn put_crowd<W: CountedWrite>(out: &mut Output<'_, W>, is_crowded: bool, y: u64)
+    ensures { Tells W.contents W.failures out.old out.new (spec.crowd_text is_crowded y) }
 {
-    for mark in marks {
-        put_lower(out, mark);
+    if is_crowded {
+        put_text(out, b"beside", 12, y);
+        out.put(b"at most 6 waits of a node are drawn");
+        out.put(b"</text>\n");
     }
 }
 
-/// The marks that lie above them.
-fn put_upper_marks<W: CountedWrite>(out: &mut Output<'_, W>, marks: &[Mark])
-    ensures { Tells W.contents W.failures out.old out.new (flat_map spec.upper_text marks.now) }
+/// The marks, layer by layer, and the texts of arrows.
+fn put_marks<W: CountedWrite>(out: &mut Output<'_, W>, marks: &[Mark])
+    ensures { Tells W.contents W.failures out.old out.new (spec.marks_text marks.now) }
+{
+    put_layer(out, 0, marks);
+    put_layer(out, 1, marks);
+    put_layer(out, 2, marks);
+    put_labels(out, marks);
+}
+
+/// The marks of a layer.
+fn put_layer<W: CountedWrite>(out: &mut Output<'_, W>, layer: u8, marks: &[Mark])
+    ensures { Tells W.contents W.failures out.old out.new (flat_map (spec.layer_text layer) marks.now) }
 {
     for mark in marks {
-        put_upper(out, mark);
+        put_in_layer(out, layer, mark);
     }
 }
 
-/// A mark, if it lies below the others.
-fn put_lower<W: CountedWrite>(out: &mut Output<'_, W>, mark: &Mark)
-    ensures { Tells W.contents W.failures out.old out.new (spec.lower_text mark.now) }
+/// A mark, if it lies in this layer.
+fn put_in_layer<W: CountedWrite>(out: &mut Output<'_, W>, layer: u8, mark: &Mark)
+    ensures { Tells W.contents W.failures out.old out.new (spec.layer_text layer mark.now) }
 {
-    if mark.is_below() {
+    if mark.layer() == layer {
         put_mark(out, mark);
     }
 }
 
-/// A mark, if it lies above others.
-fn put_upper<W: CountedWrite>(out: &mut Output<'_, W>, mark: &Mark)
-    ensures { Tells W.contents W.failures out.old out.new (spec.upper_text mark.now) }
+/// The texts of arrows.
+fn put_labels<W: CountedWrite>(out: &mut Output<'_, W>, marks: &[Mark])
+    ensures { Tells W.contents W.failures out.old out.new (flat_map spec.label_text marks.now) }
 {
-    if !mark.is_below() {
-        put_mark(out, mark);
+    for mark in marks {
+        put_label(out, mark);
     }
+}
+
+/// The text of a mark, if it is an arrow.
+fn put_label<W: CountedWrite>(out: &mut Output<'_, W>, mark: &Mark)
+    ensures { Tells W.contents W.failures out.old out.new (spec.label_text mark.now) }
+{
+    match mark {
+        Mark::Message { begun, message, .. } => put_message_label(out, begun.row, message),
+        _ => {}
+    }
+}
+
+/// The length and the first bytes of a message, at the right of where its arrow begins.
+fn put_message_label<W: CountedWrite>(out: &mut Output<'_, W>, begun: u32, message: &Message)
+    ensures { Tells W.contents W.failures out.old out.new
+        (spec.message_label message.now.from.node begun (bytes_text message.now)) }
+{
+    put_text(out, b"label", x_of(message.from.node) + 10, y_of(begun) - 4);
+    put_bytes(out, message);
+    out.put(b"</text>\n");
 }
 
 /// A mark: its title, which a viewer shows, and its shape.
@@ -196,179 +297,19 @@ fn put_mark<W: CountedWrite>(out: &mut Output<'_, W>, mark: &Mark)
     out.put(b"</g>\n");
 }
 
-/// The title of a mark.
-fn put_title<W: CountedWrite>(out: &mut Output<'_, W>, mark: &Mark)
-    ensures { Tells W.contents W.failures out.old out.new (spec.title_text mark.now) }
-{
-    match mark {
-        Mark::Bar { node, bar } => put_bar_title(out, *node, bar),
-        Mark::Pause { node, pause, .. } => put_pause_title(out, *node, pause.awaited),
-        Mark::Begin {
-            node,
-            number,
-            link,
-            process,
-            ..
-        } => put_begin_title(out, *node, *number, *link, *process),
-        Mark::Message {
-            to,
-            begun,
-            number,
-            message,
-            ..
-        } => put_message_title(out, to, begun.number, *number, message),
-        Mark::Halt { node, number, .. } => put_halt_title(out, *node, *number),
-        Mark::Freeze {
-            node,
-            number,
-            broken,
-            ..
-        } => put_freeze_title(out, *node, *number, *broken),
-    }
-}
-
-/// What stands before the title of a mark of a node.
-fn put_node<W: CountedWrite>(out: &mut Output<'_, W>, node: u8)
-    ensures { Tells W.contents W.failures out.old out.new (spec.node_text node) }
-{
-    out.put(b"node ");
-    put_decimal(out, u64::from(node));
-    out.put(b": ");
-}
-
-/// The events of a mark.
-fn put_events<W: CountedWrite>(out: &mut Output<'_, W>, first: u64, last: u64)
-    ensures { Tells W.contents W.failures out.old out.new (spec.events_text first last) }
-{
-    out.put(b"events ");
-    put_decimal(out, first);
-    out.put(b" to ");
-    put_decimal(out, last);
-}
-
-/// The event of a mark.
-fn put_event<W: CountedWrite>(out: &mut Output<'_, W>, number: u64)
-    ensures { Tells W.contents W.failures out.old out.new (spec.event_text number) }
-{
-    out.put(b"event ");
-    put_decimal(out, number);
-    out.put(b", ");
-}
-
-/// A process, if one is known.
-fn put_process<W: CountedWrite>(out: &mut Output<'_, W>, process: Option<Word>)
-    ensures { Tells W.contents W.failures out.old out.new (spec.process_text process) }
-{
-    if let Some(process) = process {
-        out.put(b", process ");
-        put_word(out, process);
-    }
-}
-
-/// The title of instructions and dispatches.
-fn put_bar_title<W: CountedWrite>(out: &mut Output<'_, W>, node: u8, bar: &Bar)
-    ensures { Tells W.contents W.failures out.old out.new (spec.bar_title node bar.now) }
-{
-    put_node(out, node);
-    put_events(out, bar.first, bar.last);
-    out.put(b", ");
-    put_decimal(out, bar.count);
-    out.put(b" runs");
-    put_process(out, bar.process);
-}
-
-/// The title of a wait.
-fn put_pause_title<W: CountedWrite>(out: &mut Output<'_, W>, node: u8, awaited: Awaited)
-    ensures { Tells W.contents W.failures out.old out.new (spec.pause_title node awaited) }
-{
-    put_node(out, node);
-    out.put(awaited_text(awaited));
-}
-
-/// The title of the beginning of a message.
-fn put_begin_title<W: CountedWrite>(
-    out: &mut Output<'_, W>,
-    node: u8,
-    number: u64,
-    link: u8,
-    process: Option<Word>,
-)
-    ensures { Tells W.contents W.failures out.old out.new (spec.begin_title node number link process) }
-{
-    put_node(out, node);
-    put_event(out, number);
-    out.put(b"a message begins on link ");
-    put_decimal(out, u64::from(link));
-    put_process(out, process);
-}
-
-/// The title of a message.
-fn put_message_title<W: CountedWrite>(
-    out: &mut Output<'_, W>,
-    to: &End,
-    first: u64,
-    last: u64,
-    message: &Message,
-)
-    ensures { Tells W.contents W.failures out.old out.new (spec.message_title to.now first last message.now) }
-{
-    out.put(b"message ");
-    put_end(out, &message.from);
-    out.put(b" to ");
-    put_end(out, to);
-    out.put(b": ");
-    put_events(out, first, last);
-    out.put(b", ");
-    put_bytes(out, message);
-    put_process(out, message.process);
-}
-
-/// The length of a message, and its first bytes.
-fn put_bytes<W: CountedWrite>(out: &mut Output<'_, W>, message: &Message)
-    ensures { Tells W.contents W.failures out.old out.new (spec.bytes_text message.now) }
-{
-    put_decimal(out, u64::from(message.length));
-    out.put(b": ");
-    put_hex(out, message.bytes.as_slice());
-    put_more(out, message.length);
-}
-
-/// That a message of this length has more bytes than those that are shown.
-fn put_more<W: CountedWrite>(out: &mut Output<'_, W>, length: u32)
-    ensures { Tells W.contents W.failures out.old out.new (spec.more_text length) }
-{
-    if 8 < length {
-        out.put(b"..");
-    }
-}
-
-/// The title of a halt.
-fn put_halt_title<W: CountedWrite>(out: &mut Output<'_, W>, node: u8, number: u64)
-    ensures { Tells W.contents W.failures out.old out.new (spec.stop_title node number (codes "halt")) }
-{
-    put_node(out, node);
-    put_event(out, number);
-    out.put(b"halt");
-}
-
-/// The title of a freeze.
-fn put_freeze_title<W: CountedWrite>(out: &mut Output<'_, W>, node: u8, number: u64, broken: Break)
-    ensures { Tells W.contents W.failures out.old out.new
-        (spec.stop_title node number (codes "freeze " ++ name_of_break broken)) }
-{
-    put_node(out, node);
-    put_event(out, number);
-    out.put(b"freeze ");
-    out.put(break_name(broken));
-}
-
 /// The shape of a mark.
 fn put_shape<W: CountedWrite>(out: &mut Output<'_, W>, mark: &Mark)
     ensures { Tells W.contents W.failures out.old out.new (spec.shape_text mark.now) }
 {
     match mark {
         Mark::Bar { node, bar } => put_bar(out, u32::from(*node), bar),
-        Mark::Pause { node, pause, to } => put_pause(out, u32::from(*node), pause, *to),
+        Mark::Pause {
+            node,
+            lane,
+            pause,
+            to,
+            ..
+        } => put_pause(out, u32::from(*node), *lane, pause, *to),
         Mark::Begin { node, row, .. } => {
             put_circle(out, b"begin", x_of(u32::from(*node)), y_of(*row));
         }
@@ -378,7 +319,7 @@ fn put_shape<W: CountedWrite>(out: &mut Output<'_, W>, mark: &Mark)
             row,
             message,
             ..
-        } => put_message(out, to.node, begun.row, *row, message),
+        } => put_arrow(out, message.from.node, to.node, begun.row, *row),
         Mark::Halt { node, row, .. } => put_halt(out, u32::from(*node), *row),
         Mark::Freeze {
             node,
@@ -389,56 +330,34 @@ fn put_shape<W: CountedWrite>(out: &mut Output<'_, W>, mark: &Mark)
     }
 }
 
-/// A box with the count of instructions and dispatches.
+/// A box with the count of instructions and dispatches, at the right of the column's line.
 fn put_bar<W: CountedWrite>(out: &mut Output<'_, W>, node: u32, bar: &Bar)
     ensures { Tells W.contents W.failures out.old out.new (spec.bar_shape node bar.now) }
 {
     let x = x_of(node);
     let y = y_of(bar.row);
-    put_rectangle(out, b"run", x - 32, y - 10, 64, 20);
-    put_text(out, b"count", x, y + 4);
+    put_rectangle(out, b"run", x - 4, y - 9, 64, 18);
+    put_text(out, b"count", x + 28, y + 4);
     put_decimal(out, bar.count);
     out.put(b"</text>");
 }
 
-/// A narrow box over all rows of a wait.
-fn put_pause<W: CountedWrite>(out: &mut Output<'_, W>, node: u32, pause: &Pause, to: u32)
-    ensures { Tells W.contents W.failures out.old out.new (spec.pause_shape node pause.now to) }
+/// A narrow box over all rows of a wait, in a lane at the left of the column's line.
+fn put_pause<W: CountedWrite>(out: &mut Output<'_, W>, node: u32, lane: u8, pause: &Pause, to: u32)
+    ensures { Tells W.contents W.failures out.old out.new (spec.pause_shape node lane pause.now to) }
 {
     let rows = (u64::from(to) + 1).saturating_sub(u64::from(pause.from));
-    let x = x_of(node) - 4;
-    let y = y_of(pause.from) - 12;
-    put_rectangle(out, class_of(pause.awaited), x, y, 8, 24 * rows);
+    let x = x_of(node).saturating_sub(16 + 10 * u64::from(lane));
+    let y = y_of(pause.from) - 11;
+    let class = class_of(awaited_of(pause.need));
+    put_rectangle(out, class, x, y, 8, (24 * rows).saturating_sub(2));
 }
 
-/// An arrow, and above its beginning the length and the first bytes.
-fn put_message<W: CountedWrite>(
-    out: &mut Output<'_, W>,
-    to: u32,
-    begun: u32,
-    row: u32,
-    message: &Message,
-)
-    ensures { Tells W.contents W.failures out.old out.new
-        (spec.message_shape message.now.from.node to begun row (spec.bytes_text message.now)) }
+/// An arrow.
+fn put_arrow<W: CountedWrite>(out: &mut Output<'_, W>, from: u32, to: u32, begun: u32, row: u32)
+    ensures { Tells W.contents W.failures out.old out.new (spec.message_shape from to begun row) }
 {
-    let from = message.from.node;
     put_line(out, b"way", x_of(from), y_of(begun), x_of(to), y_of(row));
-    put_label(out, from, to, begun);
-    put_bytes(out, message);
-    out.put(b"</text>");
-}
-
-/// A text begins above the beginning of an arrow, on the side that it goes to: higher if that is the left, since an
-/// arrow to the right may begin in the same row, with its text at the same place.
-fn put_label<W: CountedWrite>(out: &mut Output<'_, W>, from: u32, to: u32, row: u32)
-    ensures { Tells W.contents W.failures out.old out.new (spec.label_head from to row) }
-{
-    if to < from {
-        put_text(out, b"left", x_of(from) - 40, y_of(row) - 16);
-    } else {
-        put_text(out, b"right", x_of(from) + 40, y_of(row) - 4);
-    }
 }
 
 /// A small square, and a text begins beside it.
@@ -448,12 +367,12 @@ fn put_stop<W: CountedWrite>(out: &mut Output<'_, W>, class: &[u8], node: u32, r
     let x = x_of(node);
     let y = y_of(row);
     put_rectangle(out, class, x - 6, y - 6, 12, 12);
-    put_text(out, b"right", x + 12, y + 4);
+    put_text(out, b"beside", x + 12, y + 4);
 }
 
 /// A halt.
 fn put_halt<W: CountedWrite>(out: &mut Output<'_, W>, node: u32, row: u32)
-    ensures { Tells W.contents W.failures out.old out.new (spec.stop_shape (codes "halt") node row (codes "halt")) }
+    ensures { Tells W.contents W.failures out.old out.new (spec.halt_shape node row) }
 {
     put_stop(out, b"halt", node, row);
     out.put(b"halt");
@@ -462,8 +381,7 @@ fn put_halt<W: CountedWrite>(out: &mut Output<'_, W>, node: u32, row: u32)
 
 /// A freeze, with the break.
 fn put_freeze<W: CountedWrite>(out: &mut Output<'_, W>, node: u32, row: u32, broken: Break)
-    ensures { Tells W.contents W.failures out.old out.new
-        (spec.stop_shape (codes "freeze") node row (codes "freeze " ++ name_of_break broken)) }
+    ensures { Tells W.contents W.failures out.old out.new (spec.freeze_shape node row (name_of_break broken)) }
 {
     put_stop(out, b"freeze", node, row);
     out.put(b"freeze ");
@@ -471,7 +389,7 @@ fn put_freeze<W: CountedWrite>(out: &mut Output<'_, W>, node: u32, row: u32, bro
     out.put(b"</text>");
 }
 
-/// The class of a pause, which has its colour.
+/// The class of a pause, which has its colour and its filling.
 fn class_of(awaited: Awaited) -> &'static [u8]
     ensures { result.now ≡ spec.class_of awaited }
 {
@@ -479,7 +397,7 @@ fn class_of(awaited: Awaited) -> &'static [u8]
         Awaited::Output => b"output",
         Awaited::Input => b"input",
         Awaited::Alternative => b"alternative",
-        Awaited::Several => b"several",
+        Awaited::Channel => b"channel",
     }
 }
 
@@ -488,9 +406,9 @@ fn awaited_text(awaited: Awaited) -> &'static [u8]
     ensures { result.now ≡ spec.awaited_text awaited }
 {
     match awaited {
-        Awaited::Output => b"waits for output",
-        Awaited::Input => b"waits for input",
+        Awaited::Output => b"waits for output on a link",
+        Awaited::Input => b"waits for input on a link",
         Awaited::Alternative => b"waits for an alternative",
-        Awaited::Several => b"waits for several of these",
+        Awaited::Channel => b"waits on an internal channel",
     }
 }

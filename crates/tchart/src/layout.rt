@@ -2,15 +2,16 @@
 
 ghost use Rattle.std.specs.Prelude.{◌≡◌, ◌≤◌, IfOk, OnOk, length};
 ghost use Rattle.tword.specs.Limits.{most_nodes};
+ghost use Rattle.tnet.specs.Net.{node_at};
 ghost use Rattle.thistory.specs.Deeds.{net_behind};
 ghost use Rattle.thistory.specs.Steps.{net_after};
 ghost use Rattle.tchart.specs.Layout as spec;
-ghost use Rattle.tchart.specs.Plots.{laid};
-ghost use Rattle.tchart.specs.Shown.{shown_of};
+ghost use Rattle.tchart.specs.Plots as plots;
 
-use crate::marks::Mark;
-use crate::plot::Plot;
+use crate::marks::{Mark, Pause};
+use crate::plot::{LANES, Plot};
 use crate::shown::see;
+use crate::waits::reason_at;
 use std::alloc::{AllocError, Global};
 use tlink::{Node, Role};
 use tnet::Net;
@@ -43,6 +44,8 @@ pub struct Chart {
     pub marks: Items<Mark>,
     /// The lowest row; beyond the last one that is drawn, one more than that.
     pub rows: u32,
+    /// Whether a process waited for which there was no bar.
+    pub is_crowded: bool,
 }
 
 /// Does events on a net, in their order, and lays out what they did (own choice, `specs/Layout`). One that is not
@@ -59,11 +62,13 @@ pub fn lay_out(alloc: Global, net: &mut Net, events: &[Event]) -> Result<Chart, 
     let mut plot = Plot::new(alloc)?;
     lay_all(alloc, net, events, &mut plot)?;
     let rows = plot.rows();
+    let is_crowded = plot.is_crowded();
     plot.end(rows)?;
     Ok(Chart {
         columns,
         marks: plot.into_marks(),
         rows,
+        is_crowded,
     })
 }
 
@@ -91,11 +96,56 @@ fn lay_one(
     event: Event,
     plot: &mut Plot,
 ) -> Result<(), AllocError>
-    ensures plot { OnOk result (plot.new ≡ laid event.node number (shown_of net.old event) plot.old) }
+    ensures plot { OnOk result (plot.new ≡ spec.laid_one number event net.old plot.old) }
     ensures left { OnOk result (net.new ≡ net_behind net.old event) }
 {
     let shown = see(alloc, net, event)?;
-    plot.lay(event.node, number, shown)
+    plot.lay(event.node, number, shown)?;
+    end_pauses(alloc, net, event.node, number, plot)?;
+    Ok(())
+}
+
+/// The pauses of a node that are over behind an event of this number are drawn.
+fn end_pauses(
+    alloc: Global,
+    net: &Net,
+    node: u8,
+    number: u64,
+    plot: &mut Plot,
+) -> Result<(), AllocError>
+    ensures { OnOk result (plot.new ≡ plots.over 6 node number (node_at net.now node) plot.old) }
+{
+    for lane in 0..LANES {
+        end_pause(alloc, net, node, number, lane, plot)?;
+    }
+    Ok(())
+}
+
+/// The pause of a lane is drawn, if it is over.
+fn end_pause(
+    alloc: Global,
+    net: &Net,
+    node: u8,
+    number: u64,
+    lane: u8,
+    plot: &mut Plot,
+) -> Result<(), AllocError>
+    ensures { OnOk result (plot.new ≡ plots.lane_over node number (node_at net.now node) lane plot.old) }
+{
+    if goes_on(alloc, net, node, plot.lane(node, lane))? {
+        return Ok(());
+    }
+    plot.end_pause(node, number, lane)
+}
+
+/// Whether the process of a pause waits yet. Where there is no pause, nothing is over.
+fn goes_on(alloc: Global, net: &Net, node: u8, pause: Option<Pause>) -> Result<bool, AllocError>
+    ensures { IfOk result (λ b. b ≡ plots.goes_on pause (node_at net.now node)) }
+{
+    match pause {
+        Some(pause) => Ok(reason_at(alloc, net, node, pause.process)?.is_some()),
+        None => Ok(true),
+    }
 }
 
 /// The columns of a net.

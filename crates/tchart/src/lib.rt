@@ -3,6 +3,7 @@
 #![tactic(auto)]
 
 mod drawing;
+mod lanes;
 pub mod laws;
 mod layout;
 mod marks;
@@ -10,8 +11,10 @@ mod parts;
 mod plot;
 mod shown;
 mod style;
+mod titles;
+mod waits;
 
 pub use drawing::put_chart;
 pub use layout::{Chart, Column, Kind, lay_out};
 pub use marks::{Bar, Mark, Pause};
-pub use shown::{Awaited, Message};
+pub use shown::Message;

@@ -3,7 +3,8 @@
 ghost use Rattle.std.specs.Prelude.{◌≡◌};
 ghost use Rattle.tchart.specs.Marks as spec;
 
-use crate::shown::{Awaited, Message};
+use crate::shown::Message;
+use crate::waits::Need;
 use tplan::plan::End;
 use tword::{Break, Word};
 
@@ -22,11 +23,22 @@ pub struct Bar {
     pub process: Option<Word>,
 }
 
-/// No process of a node can run, from a row on.
+/// A process waits, from a row on.
 #[derive(Clone, Copy)]
 pub struct Pause {
     pub from: u32,
-    pub awaited: Awaited,
+    /// The number of the event in which it began to wait.
+    pub first: u64,
+    /// The descriptor of the process.
+    pub process: Word,
+    /// What it waits for.
+    pub need: Need,
+}
+
+/// A place beside a column, for the pause of one process at a time.
+#[derive(Clone, Copy)]
+pub struct Lane {
+    pub pause: Option<Pause>,
 }
 
 /// A mark of a picture.
@@ -37,11 +49,15 @@ pub enum Mark {
         node: u8,
         bar: Bar,
     },
-    /// No process of a node can run, down to this row.
+    /// A process of a node waits, down to this row.
     Pause {
         node: u8,
+        /// Its place beside the column, among those of other processes that wait meanwhile.
+        lane: u8,
         pause: Pause,
         to: u32,
+        /// The number of the event after which it waits no more, if there was one.
+        last: Option<u64>,
     },
     /// The first byte of a message is sent on a link.
     Begin {
@@ -75,14 +91,14 @@ pub enum Mark {
 }
 
 impl Mark {
-    /// Whether a mark lies below the others: a bar, or a pause.
-    pub(crate) fn is_below(&self) -> bool
-        ensures { result ≡ spec.is_below self.now }
+    /// The layer that a mark lies in: pauses below arrows, and arrows below all else.
+    pub(crate) fn layer(&self) -> u8
+        ensures { result ≡ spec.layer_of self.now }
     {
         match self {
-            Mark::Bar { .. } => true,
-            Mark::Pause { .. } => true,
-            _ => false,
+            Mark::Pause { .. } => 0,
+            Mark::Message { .. } => 1,
+            _ => 2,
         }
     }
 
@@ -115,8 +131,6 @@ pub struct Track {
     pub row: u32,
     /// Its last instructions and dispatches.
     pub bar: Option<Bar>,
-    /// What it waits for, while none of its processes can run.
-    pub pause: Option<Pause>,
 }
 
 /// What is known of an end.

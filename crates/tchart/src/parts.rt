@@ -12,7 +12,7 @@ use tfiles::writing::text::put_decimal;
 pub(crate) fn x_of(column: u32) -> u64
     ensures { result ≡ spec.x_of column }
 {
-    240 * u64::from(column) + 100
+    240 * u64::from(column) + 84
 }
 
 /// Where the middle of a row is.

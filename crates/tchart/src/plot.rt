@@ -1,12 +1,12 @@
 //! Where the marks of a run stand, while its events are laid out.
 
-ghost use Rattle.std.specs.Prelude.{◌≡◌, OnOk, IfOk};
+ghost use Rattle.std.specs.Prelude.{◌≡◌, true, OnOk, IfOk};
 ghost use Rattle.tword.specs.Limits.{most_nodes};
 ghost use Rattle.tplan.specs.Wires as wires;
 ghost use Rattle.tchart.specs.Plots as spec;
 
-use crate::marks::{Bar, Begun, Mark, Pause, Track, Way};
-use crate::shown::{Awaited, Message, Shown};
+use crate::marks::{Bar, Begun, Lane, Mark, Pause, Track, Way};
+use crate::shown::{Message, Shown};
 use std::alloc::{AllocError, Global};
 use std::marker::Model;
 use tplan::plan::End;
@@ -19,12 +19,14 @@ pub(crate) const MOST_ROWS: u32 = 2_000;
 /// How many links a node has.
 const LINKS: usize = 4;
 
+/// How many lanes for pauses a node has.
+pub(crate) const LANES: u8 = 6;
+
+/// A lane without a pause.
+const NO_PAUSE: Lane = Lane { pause: None };
+
 /// A node that did nothing yet.
-const FRESH_TRACK: Track = Track {
-    row: 0,
-    bar: None,
-    pause: None,
-};
+const FRESH_TRACK: Track = Track { row: 0, bar: None };
 
 /// An end at which nothing came yet.
 const FRESH_WAY: Way = Way {
@@ -37,9 +39,12 @@ const FRESH_WAY: Way = Way {
 #[derive(Drop)]
 pub struct Plot {
     tracks: Vec<Track>,
+    /// The pauses that are not over.
+    lanes: Vec<Lane>,
     ways: Vec<Way>,
     marks: Vec<Mark>,
     rows: u32,
+    is_crowded: bool,
 }
 
 impl Model for Plot {
@@ -47,14 +52,28 @@ impl Model for Plot {
 
     ghost Value = { PlotState };
 
-    ghost view = { λ p. record { tracks = p.tracks.items; ways = p.ways.items; marks = p.marks.items; rows = p.rows } };
+    ghost view = { λ p. record {
+      tracks = p.tracks.items;
+      lanes = p.lanes.items;
+      ways = p.ways.items;
+      marks = p.marks.items;
+      rows = p.rows;
+      is_crowded = p.is_crowded;
+    } };
 }
 
 /// The row below one. All rows below the last one that is drawn are one.
-fn below(row: u32) -> u32
+pub(crate) fn below(row: u32) -> u32
     ensures { result ≡ spec.below row }
 {
     if row <= MOST_ROWS { row + 1 } else { row }
+}
+
+/// The place of a lane among those of all nodes.
+fn lane_place(node: u8, lane: u8) -> usize
+    ensures { result ≡ spec.lane_place node lane }
+{
+    usize::from(LANES) * usize::from(node) + usize::from(lane)
 }
 
 /// The place of an end among those of all nodes.
@@ -111,8 +130,10 @@ impl Plot {
         Ok(Plot {
             tracks: vec![in alloc; FRESH_TRACK; MOST_NODES]?,
             ways: vec![in alloc; FRESH_WAY; LINKS * MOST_NODES]?,
+            lanes: vec![in alloc; NO_PAUSE; usize::from(LANES) * MOST_NODES]?,
             marks: Vec::new(alloc),
             rows: 0,
+            is_crowded: false,
         })
     }
 
@@ -131,8 +152,15 @@ impl Plot {
         self.rows
     }
 
+    /// Whether a process waited while there was no lane for it.
+    pub(crate) fn is_crowded(&self) -> bool
+        ensures { result ≡ self.now.is_crowded }
+    {
+        self.is_crowded
+    }
+
     /// A node.
-    fn track(&self, node: u8) -> Track
+    pub(crate) fn track(&self, node: u8) -> Track
         ensures { result ≡ spec.track_at self.now node }
     {
         match self.tracks.get(usize::from(node)) {
@@ -150,6 +178,47 @@ impl Plot {
         if at < self.tracks.len() {
             self.tracks[at] = track;
         }
+    }
+
+    /// The pause in a lane of a node, if it is not free.
+    pub(crate) fn lane(&self, node: u8, lane: u8) -> Option<Pause>
+        ensures { result ≡ spec.lane_at self.now node lane }
+    {
+        self.lane_in(lane_place(node, lane)).pause
+    }
+
+    /// The lane in a place.
+    fn lane_in(&self, place: usize) -> Lane
+        ensures { result ≡ spec.lane_in self.now place }
+    {
+        match self.lanes.get(place) {
+            Some(lane) => *lane,
+            None => NO_PAUSE,
+        }
+    }
+
+    /// A lane is set.
+    pub(crate) fn set_lane(&mut self, node: u8, lane: u8, pause: Option<Pause>)
+        ensures { self.new ≡ spec.with_lane node lane pause self.old }
+    {
+        let at = lane_place(node, lane);
+        if at < self.lanes.len() {
+            self.lanes[at] = Lane { pause };
+        }
+    }
+
+    /// Something stands in a row.
+    pub(crate) fn reach(&mut self, row: u32)
+        ensures { self.new ≡ spec.reaching row self.old }
+    {
+        self.rows = self.rows.max(row);
+    }
+
+    /// A process waits, and there is no lane for it.
+    pub(crate) fn crowd(&mut self)
+        ensures { self.new ≡ record self.old { is_crowded = true } }
+    {
+        self.is_crowded = true;
     }
 
     /// An end.
@@ -173,7 +242,7 @@ impl Plot {
     }
 
     /// A mark is drawn, unless something of it stands below the last row that is drawn.
-    fn draw(&mut self, mark: Mark) -> Result<(), AllocError>
+    pub(crate) fn draw(&mut self, mark: Mark) -> Result<(), AllocError>
         ensures { OnOk result (self.new ≡ spec.drawn mark self.old) }
     {
         if mark.last_row() <= MOST_ROWS {
@@ -192,37 +261,17 @@ impl Plot {
         }
     }
 
-    /// A pause of a node is drawn down to a row, if there is one that reaches there.
-    fn draw_pause(&mut self, node: u8, pause: Option<Pause>, to: u32) -> Result<(), AllocError>
-        ensures { OnOk result (self.new ≡ spec.with_pause node pause to self.old) }
-    {
-        match pause {
-            Some(pause) if pause.from <= to => self.draw(Mark::Pause { node, pause, to }),
-            _ => Ok(()),
-        }
-    }
-
-    /// The last bar of a node is drawn, and its pause down to a row, or to the last row that is drawn.
-    fn close(&mut self, node: u8, to: u32) -> Result<(), AllocError>
-        ensures { OnOk result (self.new ≡ spec.closed node to self.old) }
-    {
-        let track = self.track(node);
-        self.draw_bar(node, track.bar)?;
-        self.draw_pause(node, track.pause, to.min(MOST_ROWS))
-    }
-
-    /// A node is at the row below, with this bar and no pause. What it did before is drawn.
+    /// A node is at the row below, with this bar. Its last one is drawn.
     fn step(&mut self, node: u8, bar: Option<Bar>) -> Result<(), AllocError>
         ensures { OnOk result (self.new ≡ spec.stepped node bar self.old) }
     {
-        let row = self.track(node).row;
-        self.close(node, row)?;
+        let track = self.track(node);
+        self.draw_bar(node, track.bar)?;
         self.set_track(
             node,
             Track {
-                row: below(row),
+                row: below(track.row),
                 bar,
-                pause: None,
             },
         );
         Ok(())
@@ -240,33 +289,11 @@ impl Plot {
                     Track {
                         row,
                         bar: Some(longer(number, bar)),
-                        pause: None,
                     },
                 );
                 Ok(())
             }
             _ => self.step(node, Some(one_event(below(row), number, process))),
-        }
-    }
-
-    /// A node waits from the row below on, if it waits.
-    fn pause(&mut self, node: u8, awaited: Option<Awaited>)
-        ensures { self.new ≡ spec.paused node awaited self.old }
-    {
-        if let Some(awaited) = awaited {
-            let track = self.track(node);
-            let pause = Pause {
-                from: below(track.row),
-                awaited,
-            };
-            self.set_track(
-                node,
-                Track {
-                    row: track.row,
-                    bar: track.bar,
-                    pause: Some(pause),
-                },
-            );
         }
     }
 
@@ -306,7 +333,6 @@ impl Plot {
             Track {
                 row: below(track.row),
                 bar: track.bar,
-                pause: track.pause,
             },
         );
     }
@@ -321,7 +347,6 @@ impl Plot {
             Track {
                 row: track.row.max(row),
                 bar: track.bar,
-                pause: track.pause,
             },
         );
     }
@@ -475,10 +500,10 @@ impl Plot {
             Shown::Run {
                 process,
                 halted,
-                awaited,
+                waiter,
             } => {
                 self.run(node, number, process)?;
-                self.pause(node, awaited);
+                self.pause(node, number, waiter);
                 self.halt(node, number, halted)
             }
             Shown::Sent {
@@ -506,7 +531,16 @@ impl Plot {
         }
     }
 
-    /// The last bars of all nodes and their pauses down to a row are drawn.
+    /// The last bar of a node is drawn, and its pauses are, down to a row.
+    fn end_node(&mut self, node: u8, to: u32) -> Result<(), AllocError>
+        ensures { OnOk result (self.new ≡ spec.lanes_ended 6 node to (spec.closed node self.old)) }
+    {
+        let bar = self.track(node).bar;
+        self.draw_bar(node, bar)?;
+        self.end_lanes(node, to)
+    }
+
+    /// The last bars of all nodes are drawn, and their pauses are, down to a row.
     ///
     /// # Errors
     /// Where the allocator refuses.
@@ -514,7 +548,7 @@ impl Plot {
         ensures { OnOk result (self.new ≡ spec.ended most_nodes to self.old) }
     {
         for node in 0..MOST_NODES as u8 {
-            self.close(node, to)?;
+            self.end_node(node, to)?;
         }
         Ok(())
     }

@@ -1,44 +1,24 @@
 //! What an event did, as the picture shows it.
 
-ghost use Rattle.std.specs.Prelude.{◌≡◌, ◌<◌, IfOk, OnOk, min, option_copied};
+ghost use Rattle.std.specs.Prelude.{◌≡◌, IfOk, OnOk, min, option_copied};
 ghost use Rattle.tword.specs.Stores.{bytes_at};
 ghost use Rattle.tnet.specs.Net.{node_at};
 ghost use Rattle.tplan.specs.Wires.{far_ends};
 ghost use Rattle.thistory.specs.Deeds.{net_behind, processor_in as processor_of};
 ghost use Rattle.tchart.specs.Shown as spec;
 
+use crate::waits::reason_at;
 use std::alloc::{AllocError, Global};
 use thistory::{Deed, Done, do_event};
 use tlink::{Emitted, Mark, Node, StepFault};
 use tnet::{Net, message};
 use tplan::plan::End;
 use tplan::{Act, Event};
-use tproc::{Offer, Processor};
+use tproc::{Offer, Processor, Reason, Waiter};
 use tword::{Break, Items, Word};
 
 /// How many of the bytes of a message are shown.
 const SHOWN_BYTES: u32 = 8;
-
-/// What processes wait for at the links of a node while none of them can run.
-#[derive(Clone, Copy)]
-pub enum Awaited {
-    /// Outputs alone.
-    Output,
-    /// Inputs alone.
-    Input,
-    /// Guards of alternatives alone.
-    Alternative,
-    /// More than one of these.
-    Several,
-}
-
-/// What processes wait for at a link, or at some links.
-#[derive(Clone, Copy)]
-pub struct Wants {
-    pub output: bool,
-    pub input: bool,
-    pub alternative: bool,
-}
 
 /// A message that is complete.
 #[derive(Drop)]
@@ -58,12 +38,12 @@ pub struct Message {
 pub enum Shown {
     /// The event was not enabled.
     Nothing,
-    /// An instruction or a dispatch was done: by which process, whether it halted the processor, and what is waited
-    /// for behind it, where no process can run.
+    /// An instruction or a dispatch was done: by which process, whether it halted the processor, and whether the
+    /// process waits behind it.
     Run {
         process: Option<Word>,
         halted: bool,
-        awaited: Option<Awaited>,
+        waiter: Option<Waiter>,
     },
     /// A byte was sent on a link to its far end: whether it is the first of a message, and by which process.
     Sent {
@@ -230,8 +210,16 @@ fn deed_shown(
 {
     let node = done.event.node;
     match done.deed {
-        Deed::Instruction { process, .. } => Ok(run_shown(net, node, Some(process), emitted.mark)),
-        Deed::Dispatch => Ok(run_shown(net, node, runner(processor_in(net, node)), emitted.mark)),
+        Deed::Instruction { process, .. } => Ok(Shown::Run {
+            process: Some(process),
+            halted: is_halt(emitted.mark),
+            waiter: waiter_behind(alloc, net, node, process)?,
+        }),
+        Deed::Dispatch => Ok(Shown::Run {
+            process: runner(processor_in(net, node)),
+            halted: is_halt(emitted.mark),
+            waiter: None,
+        }),
         Deed::Send(link) => Ok(Shown::Sent {
             link,
             to: far_end(net, node, link),
@@ -245,17 +233,6 @@ fn deed_shown(
             message: message_of(alloc, net, node, before, emitted.mark)?,
         }),
         Deed::Ack(link) => Ok(Shown::Acknowledged(link)),
-    }
-}
-
-/// An instruction or a dispatch that was done.
-fn run_shown(net: &Net, node: u8, process: Option<Word>, mark: Mark) -> Shown
-    ensures { result ≡ spec.run_shown net.now node process mark }
-{
-    Shown::Run {
-        process,
-        halted: is_halt(mark),
-        awaited: awaited_by_node(net, node),
     }
 }
 
@@ -300,74 +277,29 @@ fn current(processor: &Processor) -> Option<Word>
     }
 }
 
-/// What is waited for at the links of a node, where no process of it can run.
-fn awaited_by_node(net: &Net, node: u8) -> Option<Awaited>
-    ensures { result ≡ spec.awaited net.now node }
+/// The process that did an instruction of a node, if it waits behind it. No process runs then.
+fn waiter_behind(
+    alloc: Global,
+    net: &Net,
+    node: u8,
+    process: Word,
+) -> Result<Option<Waiter>, AllocError>
+    ensures { IfOk result (λ w. w ≡ spec.waiter_behind net.now node process) }
 {
-    if net.enabled(Event {
-        node,
-        act: Act::Run,
-    }) {
-        None
-    } else {
-        awaited_at(processor_in(net, node))
+    if runner(processor_in(net, node)).is_some() {
+        return Ok(None);
     }
+    let reason = reason_at(alloc, net, node, process)?;
+    Ok(waiter(process, reason))
 }
 
-/// What is waited for at the links of a processor, if there is one.
-fn awaited_at(processor: Option<&Processor>) -> Option<Awaited>
-    ensures { result ≡ spec.awaited_at (option_copied processor.entry) }
+/// A process with what it waits for.
+fn waiter(process: Word, reason: Option<Reason>) -> Option<Waiter>
+    ensures { result ≡ spec.waiter process reason }
 {
-    match processor {
-        Some(processor) => awaited_of(all_wants(processor)),
+    match reason {
+        Some(reason) => Some(Waiter { process, reason }),
         None => None,
-    }
-}
-
-/// What is waited for, by what there is to wait for.
-fn awaited_of(wants: Wants) -> Option<Awaited>
-    ensures { result ≡ spec.awaited_of wants.output wants.input wants.alternative }
-{
-    match (wants.output, wants.input, wants.alternative) {
-        (false, false, false) => None,
-        (true, false, false) => Some(Awaited::Output),
-        (false, true, false) => Some(Awaited::Input),
-        (false, false, true) => Some(Awaited::Alternative),
-        _ => Some(Awaited::Several),
-    }
-}
-
-/// What there is to wait for at the links of a processor.
-fn all_wants(processor: &Processor) -> Wants
-    ensures { result ≡ spec.wants processor.now.control }
-{
-    either(
-        either(wants_at(processor, 0), wants_at(processor, 1)),
-        either(wants_at(processor, 2), wants_at(processor, 3)),
-    )
-}
-
-/// What there is to wait for at one of two places.
-fn either(a: Wants, b: Wants) -> Wants
-    ensures { result ≡ spec.either a b }
-{
-    Wants {
-        output: a.output || b.output,
-        input: a.input || b.input,
-        alternative: a.alternative || b.alternative,
-    }
-}
-
-/// What there is to wait for at a link.
-fn wants_at(processor: &Processor, link: u8) -> Wants
-    requires { link < 4 }
-    ensures { result ≡ spec.wants_at processor.now.control link }
-{
-    let end = processor.link(link);
-    Wants {
-        output: end.output.is_some(),
-        input: end.input.is_some(),
-        alternative: end.remembered.is_some(),
     }
 }
 

@@ -1,4 +1,4 @@
-use Rattle.std.proofs.Common.{◌≡◌, ℕ, List, ap, ap₂, ◌∙◌}
+use Rattle.std.proofs.Common.{◌≡◌, ℕ, Bool, List, ap, ap₂, ◌∙◌}
 use Rattle.tword.specs.Limits.{most_nodes}
 use Rattle.tchart.specs.declared.layout.Column.{Column}
 use Rattle.tchart.specs.declared.marks.Mark.{Mark}
@@ -16,6 +16,19 @@ returns-clause-chart c =
     ∙ ap (λ (p : PlotState). p.marks) c.in_ok-end.ensures
     ∙ ap (λ (r : ℕ). (ended most_nodes r c.lay_all.new.plot).marks) c.rows-rows.ensures in
     ap₂
-    (λ (marks : List Mark) (rows : ℕ). record { columns = c.in_ok-columns.columns; marks = marks; rows = rows }) marks
-    c.rows-rows.ensures
+    (λ (marks : List Mark) (rows : ℕ). record {
+      columns = c.in_ok-columns.columns;
+      marks = marks;
+      rows = rows;
+      is_crowded = c.is_crowded-is_crowded.result;
+    })
+    marks c.rows-rows.ensures
+    ∙ ap
+    (λ (b : Bool). record {
+      columns = c.in_ok-columns.columns;
+      marks = (ended most_nodes c.lay_all.new.plot.rows c.lay_all.new.plot).marks;
+      rows = c.lay_all.new.plot.rows;
+      is_crowded = b;
+    })
+    c.is_crowded-is_crowded.ensures
     ∙ ap₂ (λ (columns : List Column) (p : PlotState). chart_of_plot columns p) c.in_ok-columns.ensures plot

@@ -13,4 +13,7 @@ returns g c =
     (tells_then c.put-8.ensures
     (tells_then c.put-9.ensures
     (tells_then c.put-10.ensures
-    (tells_then c.put-11.ensures c.put-12.ensures))))))))))
+    (tells_then c.put-11.ensures
+    (tells_then c.put-12.ensures
+    (tells_then c.put-13.ensures
+    (c.put-14.ensures)))))))))))))

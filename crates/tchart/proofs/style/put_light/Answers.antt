@@ -16,4 +16,7 @@ returns g c =
     (tells_then c.put-11.ensures
     (tells_then c.put-12.ensures
     (tells_then c.put-13.ensures
-    (tells_then c.put-14.ensures c.put-15.ensures)))))))))))))
+    (tells_then c.put-14.ensures
+    (tells_then c.put-15.ensures
+    (tells_then c.put-16.ensures
+    (c.put-17.ensures))))))))))))))))

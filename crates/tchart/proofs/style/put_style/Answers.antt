@@ -8,4 +8,5 @@ returns g c =
     (tells_then c.put-2.ensures
     (tells_then c.put_dark.ensures
     (tells_then c.put-3.ensures
-    (tells_then c.put-4.ensures c.put_ground.ensures)))))
+    (tells_then c.put-4.ensures
+    (tells_then c.put_arrow_head.ensures (tells_then c.put_fillings.ensures c.put-5.ensures)))))))

@@ -1,8 +1,0 @@
-use Rattle.tfiles.proofs.Told.{tells_then}
-use Rattle.tchart.proofs.drawing.put_events.Goals as goal
-
-pub returns : goal.returns
-returns g c =
-    tells_then c.put.ensures
-    (tells_then c.put_decimal.ensures
-    (tells_then c.put-2.ensures c.put_decimal-2.ensures))
