@@ -952,4 +952,7 @@ out.
 Exit status: 0 done; 1 done, and a node is frozen, since it broke a usage rule, or an exploration
 found a freeze, or another number of outcomes than one, or a run has a race; 2 bad input, which
 standard error names; 3 the output failed, or no log of an outcome was found; 4 no memory; 5 an
-exploration was cut, or a certificate refused.";
+exploration was cut, or a certificate refused.
+
+docs/MACHINE.md tells what each break of a usage rule means (section 5), and each fault
+(section 16).";
