@@ -10,7 +10,7 @@ use Rattle.std.proofs.Math.ListN.{drop_of_length-le}
 use Rattle.tplan.specs.declared.event.Event.{Event}
 use Rattle.tnet.specs.Net.{NetState}
 use Rattle.twhere.specs.Standing.{where_text}
-use Rattle.toutcomes.specs.declared.telling.Telling.{Telling}
+use Rattle.tendings.specs.declared.telling.Telling.{Telling}
 use Rattle.toutcomes.specs.Logged.{LogsOutcome}
 use Rattle.toutcomes.specs.Standings.{AreStandings, IsStanding, IsStandingAt, StandsAfter, StandsWhere}
 use Rattle.toutcomes.specs.Standings.{standing_in, standings_from}

@@ -13,9 +13,10 @@ use Rattle.std.proofs.lemmas.Slice.Eq.{bytes_eq-Decides}
 use Rattle.tword.specs.declared.breaks.Break.{Break}
 use Rattle.tnet.specs.Rendezvous.{Node, Configuration}
 use Rattle.treduction.specs.Ends.{NoneFrozen, HasFrozen}
-use Rattle.toutcomes.specs.declared.telling.Telling.{Telling}
-use Rattle.toutcomes.specs.Tellings.{agree, freeze_from, freeze_or, freeze_text, is_one, telling, tellings}
-use Rattle.toutcomes.specs.Tellings.{with_telling}
+use Rattle.tendings.specs.declared.telling.Telling.{Telling}
+use Rattle.tendings.specs.Tellings.{agree, freeze_from, freeze_or, freeze_text, is_one, telling}
+use Rattle.toutcomes.specs.Told.{tellings}
+use Rattle.toutcomes.specs.Told.{with_telling}
 
 -- ---- lists
 

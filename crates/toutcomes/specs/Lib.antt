@@ -1,6 +1,5 @@
 -- The text of explorations, and logs of the outcomes that they tell.
-pub mod Tellings
-pub mod Differences
+pub mod Told
 pub mod Explores
 pub mod Logged
 pub mod Standings

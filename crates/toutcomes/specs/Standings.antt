@@ -13,7 +13,7 @@ use Rattle.twhere.specs.Standing.{where_text}
 use Rattle.toutcomes.specs.declared.exploring.Explored.{Explored}
 use Rattle.topening.specs.declared.fault.Fault.{Fault}
 use Rattle.topening.specs.declared.fault.Fault.TheVariants as fault
-use Rattle.toutcomes.specs.declared.telling.Telling.{Telling}
+use Rattle.tendings.specs.declared.telling.Telling.{Telling}
 use Rattle.toutcomes.specs.Explores.{Explores, endless_text, explored_end, heading_text}
 use Rattle.toutcomes.specs.Logged.{IsLogOf}
 use Rattle.topening.specs.Openings.{opened_of}

@@ -1,0 +1,5 @@
+pub mod NodeLists
+mod EntryTests
+mod Headings
+mod Lines
+mod RoleDumps
