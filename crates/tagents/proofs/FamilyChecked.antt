@@ -19,7 +19,7 @@ use Rattle.tagents.proofs.WalkAccessed.{checked_runs_are_certificates}
 abbrev State : Type 0
 State = Spot → Content
 
-abbrev Step : Type 0
+abbrev pub Step : Type 0
 Step = Label Member Spot Content Deed
 
 -- the states of the run
@@ -66,19 +66,19 @@ past_of Second Second = 1
 past_of Successor a = 1
 past_of _ _ = 0
 
-abbrev start : Entry Member Step
+abbrev pub start : Entry Member Step
 start =
     counted
     (step Parent (saw (Standing Parent) Ready ∷ saw (Standing First) Absent ∷ saw (Standing Second) Absent ∷ []) Start)
     (past_of Parent)
 
-abbrev first : Entry Member Step
+abbrev pub first : Entry Member Step
 first = counted (step First (saw (Standing First) Ready ∷ []) (Finish First 3)) (past_of First)
 
-abbrev second : Entry Member Step
+abbrev pub second : Entry Member Step
 second = counted (step Second (saw (Standing Second) Ready ∷ []) (Finish Second 4)) (past_of Second)
 
-abbrev conclusion : Entry Member Step
+abbrev pub conclusion : Entry Member Step
 conclusion =
     counted (step Successor (saw Count (Remaining 0) ∷ saw Count (Remaining 0) ∷ saw Total (Amount 7) ∷ [])
     (Conclude 7)) (past_of Successor)

@@ -4,7 +4,25 @@ mod Lists
 mod Fronted
 -- each run is completed
 pub mod Completed
--- clocks tell races
+-- chains told from their last step on
+pub mod Traced
+-- chains of steps tell races
+pub mod Chained
+-- agents that share a number
+pub mod Grouped
+-- lists in two parts
+mod Parts
+-- no run is crowded
+pub mod Crowded
+-- nor is one in parts
+pub mod CrowdParts
+-- places that are taken by turns
+pub mod Handed
+pub mod Turned
+pub mod Placed
+-- clocks tell chains, and so races
+pub mod Timed
+pub mod Counted
 pub mod Clocked
 -- machines whose steps keep to their places
 pub mod Framed

@@ -3,10 +3,20 @@
 pub mod Agents
 -- races
 pub mod Races
+-- chains of steps
+pub mod Chains
+-- agents that share a number
+pub mod Groups
 -- vector clocks
 pub mod Clocks
 -- what is proved
 pub mod Certificates
+-- how many live at the same time
+pub mod Crowds
+-- places that are taken by turns
+pub mod PlaceTurns
+-- what clocks tell of chains
+pub mod Times
 -- machines whose steps keep to their places
 pub mod Frames
 -- a machine that is certified

@@ -2,6 +2,13 @@
 
 ghost use Rattle.tagents.specs.Certificates.{EachRunIsCompleted, EachEndIsTheEnd};
 ghost use Rattle.tagents.specs.Races.{FewerLeadsAreEnough};
+ghost use Rattle.tagents.specs.Chains.{ChainsTellRaces};
+ghost use Rattle.tagents.specs.Groups.{GroupedRunsHaveNoRace, RunsGoOnInTurn, GroupedChainsAreChains};
+ghost use Rattle.tagents.specs.Groups.{NumbersOfStepsMatter};
+ghost use Rattle.tagents.specs.Crowds.{NoRunIsCrowded, RoomIsShownByEach, PartsTellOfTheWhole, EndsAreHandedOn};
+ghost use Rattle.tagents.specs.PlaceTurns.{TurnsMakeRoom, PlacesAreEnough, PlacesAreShownByEach, PlacesMayBeGiven};
+ghost use Rattle.tagents.specs.Times.{RunsHaveTimes, ClocksTellChains, ClocksTellEnds, ClocksTellPlaceTurns};
+ghost use Rattle.tagents.specs.Times.{FewerLeadsTellChains};
 ghost use Rattle.tagents.specs.Clocks.{ClocksTellRaces};
 ghost use Rattle.tagents.specs.Tables.{CheckedRunsHaveNoRace};
 ghost use Rattle.tagents.specs.Frames.{FramedMachinesAreLawful};
@@ -22,6 +29,33 @@ pub fn each_end_is_the_end<State, Agent, Label>()
     ensures { EachEndIsTheEnd State Agent Label }
 {}
 
+/// A run has no race exactly if a chain leads from each step to each later one that it clashes with.
+pub fn chains_tell_races<State, Agent, Label>()
+    ensures { ChainsTellRaces State Agent Label }
+{}
+
+/// Agents may share a number, and be taken for one agent, if they have it in turn: a chain leads from each step to
+/// each later one of another agent with its number. Then a run that has no race by numbers has none.
+pub fn grouped_runs_have_no_race<State, Agent, Label>()
+    ensures { GroupedRunsHaveNoRace State Agent Label }
+{}
+
+/// Agents go on to have numbers in turn if the next step's agent did the last one with its number, if no step had the
+/// number, or if it is free: the next step comes after one that came after all steps with the number.
+pub fn runs_go_on_in_turn<State, Agent, Label>()
+    ensures { RunsGoOnInTurn State Agent Label }
+{}
+
+/// Where agents have numbers in turn, a chain by numbers is one of the agents.
+pub fn grouped_chains_are_chains<State, Agent, Label>()
+    ensures { GroupedChainsAreChains State Agent Label }
+{}
+
+/// Agents that have done no step may be given other numbers.
+pub fn numbers_of_steps_matter<State, Agent, Label>()
+    ensures { NumbersOfStepsMatter State Agent Label }
+{}
+
 /// Clocks in which each step knows of those that it clashes with tell that a run has no race.
 pub fn clocks_tell_races<State, Agent, Label>()
     ensures { ClocksTellRaces State Agent Label }
@@ -36,6 +70,75 @@ pub fn fewer_leads_are_enough<State, Agent, Label>()
 /// of access and agent the last step.
 pub fn checked_runs_have_no_race<State, Agent, Label, Place, Mode>()
     ensures { CheckedRunsHaveNoRace State Agent Label Place Mode }
+{}
+
+/// If one run that is over has no race, and in it no more than a limit ever have begun and are not known to have
+/// ended, then in each run no more than the limit live at the same time. At a step that begins something those are
+/// known to have ended from whose end a chain leads to it.
+pub fn no_run_is_crowded<State, Agent, Label>()
+    ensures { NoRunIsCrowded State Agent Label }
+{}
+
+/// What begins may be in parts, each with a limit of its own: then no run has more than all these limits together.
+pub fn parts_tell_of_the_whole<State, Agent, Label>()
+    ensures { PartsTellOfTheWhole State Agent Label }
+{}
+
+/// That a run has room for all that begins in it is shown step by step.
+pub fn room_is_shown_by_each<State, Agent, Label>()
+    ensures { RoomIsShownByEach State Agent Label }
+{}
+
+/// Ends that are chained to a step are chained to all that this step is chained to.
+pub fn ends_are_handed_on<State, Agent, Label>()
+    ensures { EndsAreHandedOn State Agent Label }
+{}
+
+/// A place that is taken by turns, where each step that takes or frees it is chained to the next one, has room for
+/// one.
+pub fn turns_make_room<State, Agent, Label>()
+    ensures { TurnsMakeRoom State Agent Label }
+{}
+
+/// If in one run that is over and has no race all that begins takes a free place, and all places are taken by turns,
+/// then no run has more at the same time than there are free places.
+pub fn places_are_enough<State, Agent, Label>()
+    ensures { PlacesAreEnough State Agent Label }
+{}
+
+/// That there are places is shown step by step.
+pub fn places_are_shown_by_each<State, Agent, Label>()
+    ensures { PlacesAreShownByEach State Agent Label }
+{}
+
+/// Places may be given as a run goes on.
+pub fn places_may_be_given<State, Agent, Label>()
+    ensures { PlacesMayBeGiven State Agent Label }
+{}
+
+/// Steps have their times by clocks that tell races, and by those of a check in one pass, whatever collides.
+pub fn runs_have_times<State, Agent, Label, Place, Mode>()
+    ensures { RunsHaveTimes State Agent Label Place Mode }
+{}
+
+/// A step that the clock of a later one has counted is chained to it.
+pub fn clocks_tell_chains<State, Agent, Label>()
+    ensures { ClocksTellChains State Agent Label }
+{}
+
+/// As many ends as the clock of a step has counted are chained to it.
+pub fn clocks_tell_ends<State, Agent, Label>()
+    ensures { ClocksTellEnds State Agent Label }
+{}
+
+/// If the clock of a step has counted the last one that took or freed a place, that one is chained to it.
+pub fn clocks_tell_place_turns<State, Agent, Label>()
+    ensures { ClocksTellPlaceTurns State Agent Label }
+{}
+
+/// What is chained by fewer leads than there are is chained.
+pub fn fewer_leads_tell_chains<State, Agent, Label>()
+    ensures { FewerLeadsTellChains State Agent Label }
 {}
 
 /// Of a machine whose steps keep to the places that they name, it is enough to know steps one at a time, that an agent
