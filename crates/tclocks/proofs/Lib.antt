@@ -26,3 +26,7 @@ pub mod Covering
 pub mod Passing
 -- numbers
 pub mod Renumbering
+-- clocks that know all steps of an agent
+pub mod Knowing
+-- agents that share a number
+pub mod Turning

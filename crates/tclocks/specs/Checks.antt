@@ -1,6 +1,6 @@
 -- What the check of a run keeps, and what each of its calls does to it.
 -- Source: own choice, after Flanagan and Freund, FastTrack (2009).
-use Rattle.std.specs.Prelude.{ℕ, ◌≡◌, ◌+◌, ◌<◌, List, [], ◌∷◌, ◌++◌, None, length, replicate, slice_index}
+use Rattle.std.specs.Prelude.{ℕ, ◌≡◌, ◌+◌, ◌<◌, ◌≤◌, List, [], ◌∷◌, ◌++◌, None, length, replicate, slice_index}
 use Rattle.std.specs.Prelude.{slice_index_or, slice_set}
 use Rattle.tagents.specs.Tables.{Access as PlaceAccess}
 use Rattle.tclocks.specs.declared.mode.Mode.{Mode}
@@ -34,6 +34,18 @@ accesses_at check place = slice_index_or check.places place []
 -- how many steps an agent has done
 abbrev pub steps_of : Check → ℕ → ℕ
 steps_of check agent = slice_index (clock_of check agent) agent
+
+-- the clock of an agent has counted a step
+abbrev pub HasCounted : Check → ℕ → Step → Type 0
+HasCounted check agent step = step.number ≤ slice_index (clock_of check agent) step.agent
+
+-- the last step that an agent has begun, with number 0 if it has begun none
+abbrev pub last_step : Check → ℕ → Step
+last_step check agent = record { agent = agent; number = steps_of check agent }
+
+-- the clock of an agent has counted all steps that the other one has done
+abbrev pub KnowsAll : Check → ℕ → ℕ → Type 0
+KnowsAll check agent other = steps_of check other ≤ slice_index (clock_of check agent) other
 
 -- one more agent, which has done nothing
 abbrev pub with_agent : Check → Check

@@ -1,13 +1,14 @@
 -- What the check of a run proves of it.
 -- Source: own choice, after Flanagan and Freund, FastTrack (2009).
-use Rattle.std.specs.Prelude.{ℕ, ◌==◌, List, [], ◌∷◌, reverse, if◌then◌else◌}
+use Rattle.std.specs.Prelude.{ℕ, ◌≡◌, ◌==◌, List, [], ◌∷◌, reverse, if◌then◌else◌}
 use Rattle.tagents.specs.Agents.{Agents}
 use Rattle.tagents.specs.Clocks.{Entry, labels}
+use Rattle.tagents.specs.Chains.{ChainsLead}
 use Rattle.tagents.specs.Races.{IsRaceFree}
 use Rattle.tagents.specs.Tables.{Access as PlaceAccess, Accesses, Table, AreChecked, ClashesCollide}
 use Rattle.tclocks.specs.declared.mode.Mode.{Mode}
 use Rattle.tclocks.specs.Checks.{Check, nothing_checked, with_agent, with_slot, with_places, with_handed, with_added}
-use Rattle.tclocks.specs.Checks.{with_cleared}
+use Rattle.tclocks.specs.Checks.{with_cleared, KnowsAll}
 use Rattle.tclocks.specs.Numbers.{Numbers, AreNumbers, Extends}
 use Rattle.tclocks.specs.Followed.{IsStep, entry_of, Follows, IsTold, IsToldByCover}
 
@@ -108,3 +109,12 @@ SeenStepsHaveNoRace State Agent Label Place Kind =
     (m : Agents State Agent Label) (accesses : Accesses Place Kind Label) (numbers : Numbers Agent Place Kind)
     (entries : List (Entry Agent Label)) (writers : ℕ → List Label) (check : Check)
     → HasSeen m accesses numbers entries writers check → ArePassed m accesses entries
+
+-- if the agent of the last step knows all steps of another number, a chain leads from each of them to this step
+abbrev pub KnownStepsAreChained : (State Agent Label Place Kind : Type 0) → Type 0
+KnownStepsAreChained State Agent Label Place Kind =
+    (m : Agents State Agent Label) (accesses : Accesses Place Kind Label) (numbers : Numbers Agent Place Kind)
+    (earlier : List (Entry Agent Label)) (writers : ℕ → List Label) (check : Check) (label : Label) (other : ℕ)
+    → HasSeen m accesses numbers (entry_of m numbers label check ∷ earlier) writers check
+    → KnowsAll check (numbers.agent (m.agent_of label)) other
+    → ChainsLead m (λ e. numbers.agent (m.agent_of e) ≡ other) (labels earlier) label

@@ -19,3 +19,5 @@ pub mod Numbers
 pub mod Followed
 -- what is proved of a run
 pub mod Laws
+-- agents that share a number
+pub mod NumberTurns

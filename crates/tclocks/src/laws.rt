@@ -3,7 +3,9 @@
 ghost use Rattle.tclocks.specs.Laws.{ChecksBegin, StepsAreChecked, ClocksAreHandedOn, SlotsMayBeCleared, ChecksMayGrow};
 ghost use Rattle.tclocks.specs.Laws.{StepsAreCheckedByCover};
 ghost use Rattle.tclocks.specs.Modes.{AreModes};
-ghost use Rattle.tclocks.specs.Laws.{NumbersMayBeGiven, SeenStepsHaveNoRace};
+ghost use Rattle.tclocks.specs.Laws.{NumbersMayBeGiven, SeenStepsHaveNoRace, KnownStepsAreChained};
+ghost use Rattle.tclocks.specs.NumberTurns.{GroupsAreNumbered, KnownNumbersAreFree, NumbersMayBeShared};
+ghost use Rattle.tclocks.specs.NumberTurns.{StepsInTurnAreChecked, StepsInTurnHaveNoRace, ClocksTellNumberTurns};
 
 /// To collide goes both ways. A mode covers another one exactly if all that collides with that one collides with it.
 pub fn modes_collide_and_cover()
@@ -50,4 +52,41 @@ pub fn numbers_may_be_given<State, Agent, Label, Place, Kind>()
 /// The steps that a check has seen pass the check in one pass of machines of agents, so they have no race.
 pub fn seen_steps_have_no_race<State, Agent, Label, Place, Kind>()
     ensures { SeenStepsHaveNoRace State Agent Label Place Kind }
+{}
+
+/// If the agent of the last step knows all steps of another one, a chain leads from each of them to this step.
+pub fn known_steps_are_chained<State, Agent, Label, Place, Kind>()
+    ensures { KnownStepsAreChained State Agent Label Place Kind }
+{}
+
+/// Of a machine whose agents are their numbers it is enough that kinds of accesses that collide have modes that do.
+pub fn groups_are_numbered<State, Agent, Label, Place, Kind>()
+    ensures { GroupsAreNumbered State Agent Label Place Kind }
+{}
+
+/// Agents may share a number in the check: a step that is told by its number is one more that it has seen, if no step
+/// had the number, if its agent did the last one with it, or if it comes after a step since which the number is free.
+pub fn steps_in_turn_are_checked<State, Agent, Label, Place, Kind>()
+    ensures { StepsInTurnAreChecked State Agent Label Place Kind }
+{}
+
+/// If the agent of the last step knows all steps with a number, whoever comes after this step may have the number.
+pub fn known_numbers_are_free<State, Agent, Label, Place, Kind>()
+    ensures { KnownNumbersAreFree State Agent Label Place Kind }
+{}
+
+/// An agent whose number was not added yet may be given one that others have.
+pub fn numbers_may_be_shared<State, Agent, Label, Place, Kind>()
+    ensures { NumbersMayBeShared State Agent Label Place Kind }
+{}
+
+/// The steps that a check has seen have no race, if it knew their agents by numbers that these had in turn.
+pub fn steps_in_turn_have_no_race<State, Agent, Label, Place, Kind>()
+    ensures { StepsInTurnHaveNoRace State Agent Label Place Kind }
+{}
+
+/// Clocks tell that agents had numbers in turn: an agent that begins with a used number comes after a step whose clock
+/// has counted all steps with it.
+pub fn clocks_tell_number_turns<State, Agent, Label, Place, Kind>()
+    ensures { ClocksTellNumberTurns State Agent Label Place Kind }
 {}

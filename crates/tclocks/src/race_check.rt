@@ -1,10 +1,10 @@
 //! The check of a run, in one pass.
 
 ghost use Rattle.std.specs.Prelude.{◌≡◌, ◌<◌, ◌++◌, [], length, replicate, All, IfErr, IfNone, IfSome, OnErr, OnOk};
-ghost use Rattle.std.specs.Prelude.{OnSome};
+ghost use Rattle.std.specs.Prelude.{◌↔◌, IsTrue, OnSome};
 ghost use Rattle.tclocks.specs.Checks.{accesses_at, begun, clock_of, next_step, nothing_checked, steps_of, IsAccessed};
 ghost use Rattle.tclocks.specs.Checks.{with_added, with_agent, with_cleared, with_handed, with_joined, with_places};
-ghost use Rattle.tclocks.specs.Checks.{with_slot};
+ghost use Rattle.tclocks.specs.Checks.{last_step, with_slot, HasCounted};
 ghost use Rattle.tclocks.specs.Refusals.{IsDue};
 
 use crate::clock::Clock;
@@ -70,6 +70,23 @@ impl RaceCheck {
         ensures { result ≡ length self.now.places }
     {
         self.places.len()
+    }
+
+    /// Whether an agent's clock has counted a step.
+    pub fn has_counted(&self, agent: u32, step: Step) -> bool
+        requires { agent < length self.now.clocks }
+        ensures { IsTrue result ↔ HasCounted self.now agent step }
+    {
+        step.number <= self.clocks[agent as usize].count(step.agent)
+    }
+
+    /// The last step that an agent has begun.
+    pub fn last_step(&self, agent: u32) -> Step
+        requires { agent < length self.now.clocks }
+        ensures { result ≡ last_step self.now agent }
+    {
+        let number = self.clocks[agent as usize].count(agent);
+        Step { agent, number }
     }
 
     /// One more agent.
