@@ -14,5 +14,17 @@ mod Gates
 mod SafeParts
 mod SafeMessages
 mod SafeSteps
+-- what steps begin and end
+mod Quiet
+mod Plain
+pub mod Leaving
+pub mod Tally
+pub mod StepsTallied
+mod Stood
+mod StepsStood
+-- how many live
+pub mod Living
+-- what a step shows of those that begin and end
+pub mod Lived
 -- all of it
 pub mod Tidy

@@ -1,7 +1,7 @@
 -- The process machine is tidy.
 use Rattle.std.proofs.Common.{List, [], None}
 use Rattle.tplan.specs.declared.plan.Plan.{Plan}
-use Rattle.tagents.specs.Certificates.{IsCertified}
+use Rattle.tagents.specs.Certificates.{IsCertified, IsTheOnlyRun}
 use Rattle.tagents.specs.Tidy.{AreTold, AreCareful}
 use Rattle.tagents.proofs.Careful.{careful_walkers_keep_gates}
 use Rattle.tagents.proofs.Completed.{each_run_is_completed, each_end_is_the_end}
@@ -61,13 +61,19 @@ as_agents p steps end c =
       takes_nothing = c.takes_nothing;
     }
 
-pub certificates_tell_of_all_runs : CertificatesTellOfAllRuns
-certificates_tell_of_all_runs p steps end c =
+-- it is the only run
+pub only_run : (p : Plan) (steps : List ProcessStep) (end : Place → Value)
+    → IsCertified (machine_of p) (opening_state p) steps end
+    → IsTheOnlyRun (machine_of p) (opening_state p) steps end
+only_run p steps end c =
     record {
       completed = λ s others run.
           each_run_is_completed (Place → Value) Agent ProcessStep (machine_of p) (opening_state p) end s steps others
-          (as_agents p steps end c) run;
+          c run;
       alike = λ s others run over.
           each_end_is_the_end (Place → Value) Agent ProcessStep (machine_of p) (opening_state p) end s steps others
-          (as_agents p steps end c) run over;
+          c run over;
     }
+
+pub certificates_tell_of_all_runs : CertificatesTellOfAllRuns
+certificates_tell_of_all_runs p steps end c = only_run p steps end (as_agents p steps end c)

@@ -30,5 +30,7 @@ pub mod Machine
 pub mod Opening
 -- what a run certifies
 pub mod Certified
+-- what a step shows of the processes that it begins and ends
+pub mod Lives
 -- runs of small programs
 pub mod Examples

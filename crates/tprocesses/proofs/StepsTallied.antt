@@ -1,0 +1,268 @@
+-- What the steps of all agents begin, end and move: each begins and ends one process at most, and where one begins or
+-- ends a workspace has one more or less.
+use Rattle.std.proofs.Common.{◌≡◌, ℕ, suc, ◌≤◌, refl, ap, Bool, true, false, [], arith, Option, Some, None}
+use Rattle.std.specs.Prelude.{◌==◌, ◌||◌, not, unwrap_or, slice_get}
+use Rattle.std.specs.Int.{w32, to_le_bytes}
+use Rattle.tword.specs.declared.breaks.Break.TheVariants.{Unaligned, AlreadyLive}
+use Rattle.tword.specs.Stores.{as_cells}
+use Rattle.tword.specs.Words.{plus, word_below}
+use Rattle.tword.specs.Touches.{Reads, is_aligned, word_place_break}
+use Rattle.tcode.specs.declared.instruction.Instruction.{Instruction}
+use Rattle.tcode.specs.declared.instruction.Operation.{Operation}
+use Rattle.tcode.specs.declared.instruction.Operation.TheVariants.{Startp, Endp, Runp, Stopp, Stoperr, Ldpri, In, Out}
+use Rattle.tcode.specs.declared.instruction.Operation.TheVariants.{Outbyte, Outword}
+use Rattle.tcode.specs.Decoding.{decode}
+use Rattle.tcpu.specs.declared.registers.Next.{Next}
+use Rattle.tcpu.specs.declared.registers.Next.TheVariants.{Go, Jumped, Schedule, Halt}
+use Rattle.tcpu.specs.Outcomes.{Outcome}
+use Rattle.tcpu.specs.Effects.{effect}
+use Rattle.tproc.specs.Machine.{workspace_of, priority_of}
+use Rattle.tproc.specs.declared.channels.Side.TheVariants.{Input, Output}
+use Rattle.tplan.specs.declared.plan.NodePlan.{NodePlan}
+use Rattle.tplan.specs.declared.plan.Plan.{Plan}
+use Rattle.tprocesses.specs.Places.{Name, WordAt, Standing, Error, Life, HasRun, Successions, After, child_of}
+use Rattle.tprocesses.specs.Values.{Use, Last, Context, Stand, Absent, Rests, Runs, Waits, Ended, IsWord, IsStand}
+use Rattle.tprocesses.specs.Values.{IsCount, word_in, stand_in, flag_in, amount_in, count_in}
+use Rattle.tprocesses.specs.Changes.{Put, Decrement, Raise, free_word, known_word}
+use Rattle.tprocesses.specs.Parts.{Part, stopping, change, require, unless, Breaks, SawTheScheduler, HasNoStep}
+use Rattle.tprocesses.specs.Touching.{Site, word_number, word_place, is_zero, touch_word_at, write_word_at, unsent}
+use Rattle.tprocesses.specs.Touching.{save, kept}
+use Rattle.tprocesses.specs.Performing.{Performed, perform}
+use Rattle.tprocesses.specs.Standing.{goes_on, known, is_absent, comes, starts, ends, moves, resumes, fresh, push, pop}
+use Rattle.tprocesses.specs.Scheduling.{starts_child, runs_child, stops_itself, stops_by_error, ends_among_others}
+use Rattle.tprocesses.specs.Scheduling.{with_child, sends_or_receives, sends_from_workspace, schedules, goes_on_after}
+use Rattle.tprocesses.specs.Scheduling.{successor_workspace, successor_step}
+use Rattle.tprocesses.specs.Instructions.{Flags, has_flags, flags_before, registers, flags_after, context_after, jumped}
+use Rattle.tprocesses.specs.Instructions.{sets_error, followed, completed, executed, runs}
+use Rattle.tprocesses.specs.ChannelMessages.{channel_step}
+use Rattle.tprocesses.specs.Uses.{Uses, uses_of, has_needed, known_writes}
+use Rattle.tprocesses.specs.Machine.{Agent, Process, Channel, Wire, Successor, site_of, at_site, sender_to}
+use Rattle.tprocesses.specs.Machine.{process_step, passes, step_of}
+use Rattle.tprocesses.proofs.Quiet.{requires, unlesses, unsents, touches_at, writes_at, saves, performs, knows}
+use Rattle.tprocesses.proofs.Quiet.{flags_looked_at, set_flags}
+use Rattle.tprocesses.proofs.Plain.{Plain, resume, channels, send_or_receive, send_from, jump, set_error, pass}
+use Rattle.tprocesses.proofs.Plain.{there as plain_there}
+use Rattle.tprocesses.proofs.Leaving.{Leaves, andthen, sees, chooses}
+use Rattle.tprocesses.proofs.Tally.{one_if, AreEven, AreUp, AreDown, AreSettled, Goes, Holds, keeps, stopped, less}
+use Rattle.tprocesses.proofs.Tally.{plainly, quietly, goes_up, goes_down, goes_begun, goes_ended, no_changes}
+
+module _ (n : ℕ) where
+  -- nothing has begun or ended
+  settles : (u d b e : ℕ) → AreEven n u d b e → AreSettled n u d b e
+  settles u d b e h = (omega (arith, h.0, h.1, h.2), omega (arith, h.1), omega (arith, h.2))
+
+  one_at_most : (t : Bool) → one_if t ≤ 1
+  one_at_most true = omega arith
+  one_at_most false = omega arith
+
+  -- a plain part
+  still : {A : Type 0} (part : Part A) → Plain part → Goes n (AreEven n) (AreSettled n) part
+  still part p = less n settles (plainly n part p)
+
+  -- one process comes
+  come : (s : Site) (x : Name) (c : Context) (stand : Context → Stand)
+      → Plain (change (Standing x) (Put (IsStand (stand c)))) → Goes n (AreEven n) (AreSettled n) (comes s x c stand)
+  come s x c stand stood =
+      andthen (sees (Life s.number c.wptr))
+      (λ life. andthen (quietly n (require (is_zero (amount_in life)) (Breaks AlreadyLive))
+      (requires (is_zero (amount_in life)) (Breaks AlreadyLive)))
+      (λ y. andthen (goes_up n {T = AreUp n (one_if (s.number == n))} s.number c.wptr (λ u d b e h. (
+        omega (arith, h.0),
+        h.1,
+        h.2,
+      )))
+      (λ z. andthen (sees (Standing x))
+      (λ v. andthen (quietly n (require (is_absent (stand_in v)) HasNoStep)
+      (requires (is_absent (stand_in v)) HasNoStep))
+      (λ w. andthen (plainly n (change (Standing x) (Put (IsStand (stand c)))) stood)
+      (λ r. andthen (goes_begun n {T = AreSettled n} s.number (λ u d b e h.
+      let one = one_at_most (s.number == n) in (
+        omega (arith, h.0, h.1, h.2),
+        omega (arith, h.1, one),
+        omega (arith, h.2),
+      )))
+      (λ k. plainly n (change (HasRun s.number c.priority) Raise) (refl, tt))))))))
+
+  start : (s : Site) (x : Name) (c : Context) → Goes n (AreEven n) (AreSettled n) (starts s x c)
+  start s x c =
+      andthen (quietly n (require (is_aligned c.wptr) (Breaks Unaligned))
+      (requires (is_aligned c.wptr) (Breaks Unaligned)))
+      (λ y. andthen (come s x c Rests (tt, tt)) (λ z. quietly n (save s c.wptr kept) (saves s c.wptr kept)))
+
+  -- one has another workspace
+  move : (s : Site) (old new : ℕ) → Goes n (AreEven n) (AreEven n) (moves s old new)
+  move s old new =
+      chooses (old == new) (keeps n tt (λ u d b e h. h))
+      (andthen (goes_down n {T = AreDown n (one_if (s.number == n))} s.number old (λ u d b e h. (
+        omega (arith, h.0),
+        h.1,
+        h.2,
+      )))
+      (λ y. goes_up n s.number new (λ u d b e h. (omega (arith, h.0), h.1, h.2))))
+
+  -- one ends
+  end : (s : Site) (x : Name) (c : Context) → x.node ≡ s.number → Goes n (AreEven n) (AreSettled n) (ends s x c)
+  end s x c home =
+      andthen (goes_down n {T = AreDown n (one_if (s.number == n))} s.number c.wptr (λ u d b e h. (
+        omega (arith, h.0),
+        h.1,
+        h.2,
+      )))
+      (λ y. goes_ended n x (λ u d b e h.
+      let one = one_at_most (x.node == n) in
+      let same : one_if (x.node == n) ≡ one_if (s.number == n) = ap (λ z. one_if (z == n)) home in (
+        omega (arith, h.0, h.1, h.2, same),
+        omega (arith, h.1),
+        omega (arith, h.2, one),
+      )))
+
+  -- operations of the scheduler
+  start_child : (s : Site) (x : Name) (c : Context) → Goes n (AreEven n) (AreSettled n) (starts_child s x c)
+  start_child s x c =
+      andthen (quietly n (known c.a) (knows c.a))
+      (λ workspace. andthen (quietly n (known c.b) (knows c.b))
+      (λ offset. andthen (start s (child_of x c.children) (fresh c.priority workspace (plus c.iptr offset)))
+      (λ y. plainly n (goes_on x (pop (pop (with_child c)))) (tt, tt))))
+
+  run_child : (s : Site) (x : Name) (c : Context) → Goes n (AreEven n) (AreSettled n) (runs_child s x c)
+  run_child s x c =
+      andthen (quietly n (known c.a) (knows c.a))
+      (λ process. andthen (quietly n (touch_word_at s Reads (word_below (workspace_of process) 1))
+      (touches_at s Reads (word_below (workspace_of process) 1)))
+      (λ cells. andthen (quietly n (known (known_word cells)) (knows (known_word cells)))
+      (λ iptr. andthen
+      (start s (child_of x c.children) (fresh (priority_of process) (workspace_of process) iptr))
+      (λ y. plainly n (goes_on x (pop (with_child c))) (tt, tt)))))
+
+  stop : (s : Site) (x : Name) (c : Context) → x.node ≡ s.number
+      → Goes n (AreEven n) (AreSettled n) (stops_itself s x c)
+  stop s x c home =
+      andthen (quietly n (write_word_at s (word_below c.wptr 1) (as_cells (to_le_bytes w32 c.iptr)))
+      (writes_at s (word_below c.wptr 1) (as_cells (to_le_bytes w32 c.iptr))))
+      (λ y. end s x c home)
+
+  stop_by_error : (s : Site) (x : Name) (c : Context) → x.node ≡ s.number
+      → Goes n (AreEven n) (AreSettled n) (stops_by_error s x c)
+  stop_by_error s x c home =
+      andthen (sees (Error s.number))
+      (λ error. chooses (flag_in error) (stop s x c home) (still (goes_on x c) (tt, tt)))
+
+  end_among_others : (s : Site) (x : Name) (c : Context) → x.node ≡ s.number
+      → Goes n (AreEven n) (AreSettled n) (ends_among_others s x c)
+  end_among_others s x c home =
+      andthen (quietly n (known c.a) (knows c.a))
+      (λ workspace. andthen (quietly n (touch_word_at s Reads workspace) (touches_at s Reads workspace))
+      (λ cells. andthen (quietly n (unless (word_place_break s.size (plus workspace 4)))
+      (unlesses (word_place_break s.size (plus workspace 4))))
+      (λ y. andthen (quietly n (unsent s (word_number (plus workspace 4)))
+      (unsents s (word_number (plus workspace 4))))
+      (λ z. andthen (plainly n (change (word_place s (plus workspace 4)) (Decrement c.priority))
+      (tt, tt)) (λ w. end s x c home)))))
+
+  schedule : (o : Operation) (s : Site) (x : Name) (c : Context) → x.node ≡ s.number
+      → Goes n (AreEven n) (AreSettled n) (schedules o s x c)
+  schedule Startp s x c home = start_child s x c
+  schedule Endp s x c home = end_among_others s x c home
+  schedule Runp s x c home = run_child s x c
+  schedule Stopp s x c home = stop s x c home
+  schedule Stoperr s x c home = stop_by_error s x c home
+  schedule Ldpri s x c home = still (goes_on x (push (Some c.priority) c)) (tt, tt)
+  schedule In s x c home = still (sends_or_receives Input s x c) (send_or_receive Input s x c)
+  schedule Out s x c home = still (sends_or_receives Output s x c) (send_or_receive Output s x c)
+  schedule Outbyte s x c home = still (sends_from_workspace 1 s x c) (send_from 1 s x c)
+  schedule Outword s x c home = still (sends_from_workspace 4 s x c) (send_from 4 s x c)
+  schedule _ s x c home = stopped n _
+
+  succeed : (s : Site) (k : ℕ) (u : Use) → Goes n (AreEven n) (AreSettled n) (goes_on_after s k u)
+  succeed s k (Last priority) =
+      andthen (quietly n (touch_word_at s Reads (successor_workspace k))
+      (touches_at s Reads (successor_workspace k)))
+      (λ cells. andthen (quietly n (known (known_word cells)) (knows (known_word cells)))
+      (λ iptr. andthen (quietly n (unsent s k) (unsents s k))
+      (λ y. andthen (plainly n (change (WordAt s.number k) (Put (IsWord (free_word 0)))) (tt, tt))
+      (λ z. andthen (sees (Successions s.number (successor_workspace k)))
+      (λ earlier. andthen
+      (plainly n (change (Successions s.number (successor_workspace k)) (Put (IsCount (suc (count_in earlier)))))
+      (tt, tt))
+      (λ w. come s (record {
+        node = s.number;
+        root = After (successor_workspace k) (count_in earlier);
+        path = [];
+      }) (fresh priority (successor_workspace k) iptr) Runs (tt, tt)))))))
+  succeed s k _ = stopped n _
+
+  -- instructions
+  follow : (next : Next) (s : Site) (x : Name) (scheduled after : Context) → x.node ≡ s.number
+      → Goes n (AreEven n) (AreSettled n) (followed next s x scheduled after)
+  follow Go s x scheduled after home = still (goes_on x after) (tt, tt)
+  follow Jumped s x scheduled after home = still (jumped after.priority s x after) (jump after.priority s x after)
+  follow (Schedule o) s x scheduled after home = schedule o s x scheduled home
+  follow Halt s x scheduled after home = still (sets_error s x after) (set_error s x after)
+
+  complete : (s : Site) (x : Name) (c : Context) (i : Instruction) (f : Flags) (u : Uses) (d : Performed Outcome)
+      → x.node ≡ s.number → Goes n (AreEven n) (AreSettled n) (completed s x c i f u d)
+  complete s x c i f u d home =
+      andthen (quietly n (require (d.known || not u.reads_known) SawTheScheduler)
+      (requires (d.known || not u.reads_known) SawTheScheduler))
+      (λ y. andthen (quietly n (flags_after s (has_flags s.kind i) f d.value.0)
+      (set_flags s (has_flags s.kind i) f d.value.0))
+      (λ z. andthen (move s c.wptr d.value.0.wptr)
+      (λ w. follow d.value.1 s x (record c { iptr = plus c.iptr i.length }) (context_after c u d.known d.value.0)
+      home)))
+
+  execute : (s : Site) (x : Name) (c : Context) (i : Instruction) → x.node ≡ s.number
+      → Goes n (AreEven n) (AreSettled n) (executed s x c i)
+  execute s x c i home = let u = uses_of s.kind i (unwrap_or c.a 0) in
+      andthen (quietly n (require (has_needed u.needs c) SawTheScheduler)
+      (requires (has_needed u.needs c) SawTheScheduler))
+      (λ y. andthen (quietly n (flags_before s (has_flags s.kind i)) (flags_looked_at s (has_flags s.kind i)))
+      (λ f. andthen (quietly n (perform s (known_writes c u) (effect s.kind i (registers c f)))
+      (performs s (known_writes c u) (effect s.kind i (registers c f))))
+      (λ d. complete s x c i f u d home)))
+
+  run : (s : Site) (x : Name) (c : Context) → x.node ≡ s.number → Goes n (AreEven n) (AreSettled n) (runs s x c)
+  run s x c home =
+      andthen (quietly n (perform s [] (decode s.kind c.iptr)) (performs s [] (decode s.kind c.iptr)))
+      (λ d. andthen (quietly n (require d.known SawTheScheduler)
+      (requires d.known SawTheScheduler)) (λ y. execute s x c d.value home))
+
+  -- the steps of all agents
+  process : (x : Name) (stand : Stand) (s : Site) → x.node ≡ s.number
+      → Goes n (AreEven n) (AreSettled n) (process_step x stand s)
+  process x (Rests c) s home = still (resumes s x c) (resume s x c)
+  process x (Runs c) s home = run s x c home
+  process x Absent s home = stopped n HasNoStep
+  process x (Waits c) s home = stopped n HasNoStep
+  process x Ended s home = stopped n HasNoStep
+
+  there : {A : Type 0} (p : Plan) (m : ℕ) (step : Site → Part A)
+      → ((plan : NodePlan) → Goes n (AreEven n) (AreSettled n) (step (site_of m plan)))
+      → Goes n (AreEven n) (AreSettled n) (at_site p m step)
+  there p m step h = by (slice_get p.nodes m)
+    where
+      by : (t : Option NodePlan) → Goes n (AreEven n) (AreSettled n)
+          (elim t [ Some plan ↦ step (site_of m plan) | None ↦ stopping HasNoStep ])
+      by (Some plan) = h plan
+      by None = stopped n HasNoStep
+
+  step_goes : (p : Plan) (a : Agent) → Goes n (AreEven n) (AreSettled n) (step_of p a)
+  step_goes p (Process x) =
+      andthen (sees (Standing x))
+      (λ stood. there p x.node (process_step x (stand_in stood))
+      (λ plan. process x (stand_in stood) (site_of x.node plan) refl))
+  step_goes p (Channel m c) = still (at_site p m (channel_step c)) (plain_there p m (channel_step c) (channels c))
+  step_goes p (Wire e) = still (passes p (sender_to p e) e) (pass p (sender_to p e) e)
+  step_goes p (Successor m k) =
+      there p m (successor_step k)
+      (λ plan. andthen (sees (WordAt m k)) (λ v. succeed (site_of m plan) k (word_in v).used))
+
+  pub steps_are_tallied : (p : Plan) (a : Agent) → Leaves (step_of p a) [] (Holds n (AreSettled n))
+  steps_are_tallied p a =
+      (step_goes p a).leads [] (record {
+        us = [];
+        ds = [];
+        b = 0;
+        e = 0;
+        known = (refl, refl, refl);
+        tally = no_changes n;
+      })
