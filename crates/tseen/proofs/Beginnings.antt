@@ -1,9 +1,11 @@
 -- Operations that begin a process are seen.
 use Rattle.std.proofs.Common.{◌≡◌, ℕ, zero, suc, ◌+◌, ◌*◌, ◌<◌, ◌≤◌, refl, sym, ap, subst, ◌∙◌, Bool, true, false}
+use Rattle.std.proofs.Common.{cond, List, ◌∷◌}
 use Rattle.std.proofs.Common.{true≢false, length, Result, Ok, Option, Some, None, arith, pos}
-use Rattle.std.specs.Prelude.{int_le, if◌then◌else◌}
+use Rattle.std.specs.Prelude.{◌==◌, if◌then◌else◌}
 use Rattle.std.specs.Int.{w32, from_le_bytes}
-use Rattle.std.proofs.lemmas.Bool.{eqb-true, lt-ltb, leb-true}
+use Rattle.std.proofs.lemmas.Bool.{eqb-true, lt-ltb}
+use Rattle.std.proofs.lemmas.List.Sums.{sum_by-cons}
 use Rattle.tword.specs.Words.{most_neg, plus, word_below}
 use Rattle.tword.specs.declared.breaks.Break.{Break}
 use Rattle.tword.specs.Limits.{most_processes}
@@ -29,8 +31,8 @@ use Rattle.tproc.proofs.WordsApart.{LiesWord, length-with_word, word_set}
 use Rattle.tplan.specs.declared.plan.Plan.{Plan}
 use Rattle.tnet.specs.Rendezvous.{Configuration}
 use Rattle.treduction.specs.Plain.{rank}
-use Rattle.tprocesses.specs.Places.{Name, Population, child_of}
-use Rattle.tprocesses.specs.Values.{Value, Context, IsAmount, Rests, Runs, amount_in}
+use Rattle.tprocesses.specs.Places.{Name, Life, child_of}
+use Rattle.tprocesses.specs.Values.{Context, IsAmount, Rests, Runs}
 use Rattle.tprocesses.specs.Changes.{are_known, known_word}
 use Rattle.tprocesses.specs.Parts.{Part, ◌>>=◌}
 use Rattle.tprocesses.specs.Performing.{Performed}
@@ -38,11 +40,11 @@ use Rattle.tprocesses.specs.Touching.{Site, word_number, touch_word_at, kept}
 use Rattle.tprocesses.specs.Standing.{known, fresh, starts, pop as pop_context}
 use Rattle.tprocesses.specs.Scheduling.{schedules, starts_child, runs_child, with_child}
 use Rattle.tprocesses.specs.Machine.{site_of}
-use Rattle.tprocesses.specs.Certified.{HadFew}
 use Rattle.tseen.specs.Known.{HasRegisters}
 use Rattle.tseen.specs.Steps.{IsCurrent, LeadsTo}
-use Rattle.tseen.specs.Begun.{begins_process, TellsRuns, BeginningsAreSeen}
+use Rattle.tseen.specs.Begun.{begins_process, TellsRuns, HasFew, BeginningsAreSeen}
 use Rattle.tseen.proofs.After.{State, After, after_bind, after_step}
+use Rattle.tseen.proofs.Counted.{count_at}
 use Rattle.tseen.proofs.Spans.{word_placed}
 use Rattle.tseen.proofs.Cells.{word_of}
 use Rattle.tseen.proofs.Writing.{IsWordTouched, touch_word_at_then}
@@ -60,7 +62,7 @@ use Rattle.tseen.proofs.Coming.{HasCome, starts_then}
 use Rattle.tseen.proofs.Joined.{begun, joined}
 use Rattle.tseen.proofs.Leaving.{nothing_moved}
 use Rattle.tseen.proofs.BegunWords.{HasBegun, made, passes}
-use Rattle.tseen.proofs.BegunShown.{begun_leads, no_life, population_now}
+use Rattle.tseen.proofs.BegunShown.{begun_leads, no_life, lives_now}
 
 -- a value that decides is known
 known_then : {A : Type 0} (o : Option ℕ) (f : ℕ → Part A) (s : State) (Q : A → State → Type 0)
@@ -68,12 +70,19 @@ known_then : {A : Type 0} (o : Option ℕ) (f : ℕ → Part A) (s : State) (Q :
 known_then None f s Q h = tt
 known_then (Some v) f s Q h = h v refl
 
--- there is room for one more
-room_for : (m : Control) (z : Value) (count : ℕ) → z ≡ IsAmount (pos (count + 1)) → length (live m) ≤ count
-    → int_le (amount_in z) (pos most_processes) ≡ true → has_room m ≡ true
-room_for m z count e many few =
-    let h : int_le (pos (count + 1)) (pos most_processes) ≡ true = rw e at few in
-    lt-ltb (length (live m)) most_processes (omega (arith, many, leb-true _ _ h))
+-- there is room for one more, if with one there are no more than may live
+room_for : (s : State) (n : ℕ) (m : Control) (w : ℕ)
+    → ((a : ℕ) → s (Life n a) ≡ IsAmount (pos (count_at a (live m) + cond (w == a) 1 0))) → HasFew s n
+    → has_room m ≡ true
+room_for s n m w lives few =
+    let most : length (w ∷ live m) ≤ most_processes =
+    few (w ∷ live m) (λ a. lives a ∙ ap (λ z. IsAmount (pos z)) (one_front a w (live m))) in
+    lt-ltb (length (live m)) most_processes (omega (arith, most))
+  where
+    one_front : (a v : ℕ) (ws : List ℕ) → count_at a ws + cond (v == a) 1 0 ≡ count_at a (v ∷ ws)
+    one_front a v ws =
+        let front : count_at a (v ∷ ws) ≡ cond (v == a) 1 0 + count_at a ws =
+        sum_by-cons (λ u. cond (u == a) 1 0) v ws in omega (arith, front)
 
 -- a word that is known
 known_cells : (cells : Store) (v : ℕ) → known_word cells ≡ Some v
@@ -116,7 +125,7 @@ module _ (p : Plan) (c : Configuration) (s : State) (n : ℕ) (x : Name) (k : Is
   registers = at_operation p c s n x k i decodes pp t d o is
 
   abbrev Leads : Unit {0} → State → Type 0
-  Leads _ z = HadFew z → LeadsTo p c n z
+  Leads _ z = HasFew z n → LeadsTo p c n z
 
   knows : HasRegisters running.level registers context
   knows = registers_there p c s n x k i decodes pp t d o is
@@ -153,15 +162,14 @@ module _ (p : Plan) (c : Configuration) (s : State) (n : ℕ) (x : Name) (k : Is
   rank_small = subst (λ z. z < 2) (sym knows.priority ∙ same_rank) running.small
 
   -- what is the same of each that begins: its workspace may be written, nobody has it, and there is room
-  module _ (s' : State) (few : HadFew s') (b : HasBegun p c s n x k s') where
+  module _ (s' : State) (few : HasFew s' n) (b : HasBegun p c s n x k s') where
     abbrev now : Machine
     now = made p c s n x k s' b
 
     room_there : has_room operated ≡ true
     room_there =
         same_room
-        ∙ room_for m (s' (Population n)) (shown_node p c s n x k).processes.population.0
-        (population_now p c s n x k s' b) (shown_node p c s n x k).processes.population.2 (few n)
+        ∙ room_for s' n m b.workspace (lives_now p c s n x k s' b) few
 
     new_there : is_live operated b.workspace ≡ false
     new_there = same_live b.workspace ∙ no_life p c s n x k s' b
@@ -268,7 +276,7 @@ module _ (p : Plan) (c : Configuration) (s : State) (n : ℕ) (x : Name) (k : Is
 
     start_leads : (u v s' : State) → is_aligned workspace ≡ true
         → HasCome site (child_of x context.children) child (Rests child) moved u
-        → IsSaved site running.whole u v workspace kept → StandsNow site x (Runs goes) v s' → HadFew s'
+        → IsSaved site running.whole u v workspace kept → StandsNow site x (Runs goes) v s' → HasFew s' n
         → LeadsTo p c n s'
     unfolding start_begun
     start_leads u v s' aligned come saved stands few =
@@ -380,7 +388,7 @@ module _ (p : Plan) (c : Configuration) (s : State) (n : ℕ) (x : Name) (k : Is
     run_leads : (u v s' : State) → is_aligned (workspace_of process) ≡ true
         → HasCome site (child_of x context.children) began (Rests began) moved u
         → IsSaved site running.whole u v (workspace_of process) kept → StandsNow site x (Runs goes_on_with) v s'
-        → HadFew s' → LeadsTo p c n s'
+        → HasFew s' n → LeadsTo p c n s'
     unfolding run_begun
     run_leads u v s' aligned come saved stands few =
         operation_leads s' few b d.store' (priority_of process) refl refl refl
@@ -428,8 +436,8 @@ module _ (p : Plan) (c : Configuration) (s : State) (n : ℕ) (x : Name) (k : Is
 
 pub beginnings_are_seen : BeginningsAreSeen
 beginnings_are_seen p c s s' n x o k next begins told few makes =
-    after_step p x s s' (λ _ z. HadFew z → LeadsTo p c n z) makes
-    (step_then p c s n x k (λ _ z. HadFew z → LeadsTo p c n z) (λ i decodes pp t. record {
+    after_step p x s s' (λ _ z. HasFew z n → LeadsTo p c n z) makes
+    (step_then p c s n x k (λ _ z. HasFew z n → LeadsTo p c n z) (λ i decodes pp t. record {
       goes = λ d e u w.
           absurd (go_not_scheduled o (sym e ∙ one_next (sym (next_is p c s n x k i pp t decodes d) ∙ next)));
       jumps = λ d e u m f.

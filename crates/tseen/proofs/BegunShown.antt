@@ -1,5 +1,6 @@
 -- A process has begun another one: the node is shown.
-use Rattle.std.proofs.Common.{◌≡◌, ◌≢◌, ℕ, ◌+◌, ◌<◌, refl, sym, ap, subst, ◌∙◌, Bool, true, false, true≢false, Contains}
+use Rattle.std.proofs.Common.{◌≡◌, ◌≢◌, ℕ, ◌+◌, ◌<◌, refl, sym, ap, subst, ◌∙◌, Bool, true, false, true≢false}
+use Rattle.std.proofs.Common.{Contains, cond}
 use Rattle.std.proofs.Common.{Ok, Option, Some, None, arith, ◌⊎◌, inl, inr, pos, IfSome}
 use Rattle.std.specs.Prelude.{◌==◌, is_some, if◌then◌else◌}
 use Rattle.std.proofs.lemmas.Bool.{eq-eqb, eqb-true, ne_eqb, cases_eq}
@@ -158,6 +159,14 @@ module _ (p : Plan) (c : Configuration) (s : State) (n : ℕ) (x : Name) (k : Is
   iptr_stays stepped a h =
       All-contains (λ a. WordStands iptr_word a k.node.machine now) (descheduled m) a
       ((saved_words_stand k.node.machine k.steady.placed).steps now ran.Instruction stepped).iptrs h
+
+  -- there are as many with each workspace, and one more with its own
+  pub lives_now : (a : ℕ) → s' (Life n a) ≡ IsAmount (pos (count_at a (live m) + cond (w == a) 1 0))
+  lives_now a =
+      b.goes.others (Life n a) refl ∙ b.saved.set.rest (Life n a) (no_word n w (Life n a) refl) ∙ b.come.lives a
+      ∙ ap (λ z. if w == a then apply (Add (pos 1)) z else z)
+      (b.on.keeps.others (Life n a) refl ∙ shown.processes.lives a)
+      ∙ one_more (count_at a (live m)) (w == a)
 
   -- there were as many processes, and one more
   pub population_now : s' (Population n) ≡ IsAmount (pos (shown.processes.population.0 + 1))
@@ -339,10 +348,7 @@ module _ (p : Plan) (c : Configuration) (s : State) (n : ℕ) (x : Name) (k : Is
     -- how many live
     lives : (a : ℕ) → s' (Life n a) ≡ IsAmount (pos (count_at a (live now.control)))
     lives a =
-        b.goes.others (Life n a) refl ∙ b.saved.set.rest (Life n a) (no_word n w (Life n a) refl) ∙ b.come.lives a
-        ∙ ap (λ z. if w == a then apply (Add (pos 1)) z else z)
-        (b.on.keeps.others (Life n a) refl ∙ shown.processes.lives a)
-        ∙ one_more (count_at a (live m)) (w == a)
+        lives_now a
         ∙ ap (λ z. IsAmount (pos z)) (sym (counted_now m b.priority w b.registers b.count running.level running.current
         running.small b.same_wptr (eqb-true _ _ k.steady.placed.words.aligned) a))
 

@@ -24,9 +24,8 @@ use Rattle.tprocesses.specs.Places.{Name}
 use Rattle.tprocesses.specs.Machine.{site_of}
 use Rattle.tprocesses.specs.Instructions.{jumped}
 use Rattle.tprocesses.specs.Scheduling.{schedules}
-use Rattle.tprocesses.specs.Certified.{HadFew}
 use Rattle.tseen.specs.Steps.{IsCurrent, Makes, LeadsTo, is_dispatching, next_of, yields}
-use Rattle.tseen.specs.Begun.{TellsRuns}
+use Rattle.tseen.specs.Begun.{TellsRuns, HasFew}
 use Rattle.tseen.specs.Freezes.{BreaksNothing, StepsThatLeadBreakNothing, DispatchesBreakNothing}
 use Rattle.tseen.specs.Freezes.{meets_others, InstructionsBreakNothing}
 use Rattle.tseen.proofs.After.{State, After, after_all, after_step}
@@ -92,7 +91,7 @@ dispatches_break_nothing c n node here h =
     done_breaks_nothing c n node here (done_if node.machine (step node.machine) refl (dispatch_done node.machine h))
 
 module _ (p : Plan) (c : Configuration) (s s' : State) (n : ℕ) (x : Name) (k : IsCurrent p c s n x)
-    (told : TellsRuns s n) (few : HadFew s') (makes : Makes p x s s') where
+    (told : TellsRuns s n) (few : HasFew s' n) (makes : Makes p x s s') where
   abbrev m : Control
   m = k.node.machine.control
 

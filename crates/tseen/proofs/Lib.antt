@@ -86,7 +86,6 @@ mod Freezing
 mod Resumptions
 mod Interruptions
 -- what only grows
-mod Tame
 mod Grown
 mod SteadySteps
 mod SteadyOpening
@@ -98,6 +97,8 @@ mod SourceWakes
 mod Resting
 mod RestLinks
 mod Certified
+-- how many live
+mod Fewest
 -- messages on internal channels
 mod AtOperation
 mod HalfTaken

@@ -184,10 +184,10 @@ module _ (p : Plan) (steps : List ProcessStep) (end : State) (k : IsCertificate 
   operation : (o : Operation) → next_of now.node.machine ≡ Some (Schedule o) → Leads p c n s r
   operation Startp next =
       leading (beginnings_are_seen p c s s' n x Startp now next refl (told p s r n)
-      (few p steps end k s' first.reached) makes)
+      (few p steps end k s' first.reached n) makes)
   operation Runp next =
       leading (beginnings_are_seen p c s s' n x Runp now next refl (told p s r n)
-      (few p steps end k s' first.reached) makes)
+      (few p steps end k s' first.reached n) makes)
   operation Ldpri next = leading (loaded_priorities_are_seen p c s s' n x now next makes)
   operation Stopp next = leading (stops_are_seen p c s s' n x Stopp now next refl makes)
   operation Stoperr next = by m.registers.error refl

@@ -8,13 +8,14 @@ use Rattle.tplan.specs.declared.plan.Plan.{Plan}
 use Rattle.tagents.specs.Certificates.{IsReached, IsCompleted}
 use Rattle.tprocesses.specs.Opening.{opening_state}
 use Rattle.tprocesses.specs.Machine.{Agent, Wire, same_agent}
-use Rattle.tprocesses.specs.Certified.{ProcessStep, machine_of, IsCertificate, HadFew, KeptFlags}
+use Rattle.tprocesses.specs.Certified.{ProcessStep, machine_of, IsCertificate, KeptFlags}
 use Rattle.tprocesses.proofs.Tidy.{certificates_tell_of_all_runs}
-use Rattle.tseen.specs.Begun.{TellsRuns}
+use Rattle.tseen.specs.Begun.{TellsRuns, HasFew}
 use Rattle.tseen.specs.AgentSteps.{AgentMakes, HasStep, NothingStops}
 use Rattle.tseen.proofs.After.{State}
 use Rattle.tseen.proofs.Certified.{run_more, certified_runs_never_stop}
-use Rattle.tseen.proofs.Grown.{few_throughout, kept_flags_throughout, runs_are_told}
+use Rattle.tseen.proofs.Grown.{kept_flags_throughout, runs_are_told}
+use Rattle.tseen.proofs.Fewest.{few_throughout}
 use Rattle.tplan.specs.declared.plan.End.{End}
 use Rattle.tseen.specs.Carried.{handed}
 use Rattle.tseen.proofs.Carrying.{silent}
@@ -60,8 +61,8 @@ module _ (p : Plan) (steps : List ProcessStep) (end : State) (k : IsCertificate 
     rest : IsCompleted (machine_of p) r.steps s steps end
     rest = (certificates_tell_of_all_runs p steps end k).completed s r.steps r.run
 
-    pub few : HadFew s
-    few = few_throughout p s end rest.rest rest.run k.few
+    pub few : (n : ℕ) → HasFew s n
+    few = few_throughout p steps r.steps end s k r.run
 
     pub kept : KeptFlags s
     kept = kept_flags_throughout p s end rest.rest rest.run k.flags

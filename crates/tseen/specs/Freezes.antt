@@ -9,8 +9,7 @@ use Rattle.tplan.specs.declared.plan.Plan.{Plan}
 use Rattle.tnet.specs.Rendezvous.{Node, Configuration, node_of, IsFreeze, IsMismatch}
 use Rattle.tprocesses.specs.Places.{Place, Name}
 use Rattle.tprocesses.specs.Values.{Value}
-use Rattle.tprocesses.specs.Certified.{HadFew}
-use Rattle.tseen.specs.Begun.{TellsRuns}
+use Rattle.tseen.specs.Begun.{TellsRuns, HasFew}
 use Rattle.tseen.specs.Steps.{IsCurrent, Makes, LeadsTo, is_dispatching, next_of}
 
 -- if the node freezes, it is for a mismatch at a link
@@ -41,5 +40,5 @@ meets_others _ = false
 abbrev pub InstructionsBreakNothing : Type 0
 InstructionsBreakNothing =
     (p : Plan) (c : Configuration) (s s' : Place → Value) (n : ℕ) (x : Name) (next : Next) → (k : IsCurrent p c s n x)
-    → next_of k.node.machine ≡ Some next → meets_others next ≡ false → TellsRuns s n → HadFew s' → Makes p x s s'
-    → BreaksNothing c n
+    → next_of k.node.machine ≡ Some next → meets_others next ≡ false → TellsRuns s n → HasFew s' n
+    → Makes p x s s' → BreaksNothing c n

@@ -148,8 +148,8 @@ pub fn source_wakes_are_seen()
     ensures { SourceWakesAreSeen }
 {}
 
-/// What `startp` and `runp` lead to is shown by the state after the step of their process, where no node has had more
-/// processes than it may.
+/// What `startp` and `runp` lead to is shown by the state after the step of their process, if no more processes live
+/// at the node then than may.
 pub fn beginnings_are_seen()
     ensures { BeginningsAreSeen }
 {}
@@ -170,8 +170,8 @@ pub fn instructions_break_nothing()
     ensures { InstructionsBreakNothing }
 {}
 
-/// If no node has had more processes than it may at the end of a run of the process machine, none had before.
-pub fn nodes_had_few_throughout()
+/// Wherever a run of a plan with a certificate leads, no more processes live at a node than may.
+pub fn nodes_have_few_throughout()
     ensures { FewThroughout }
 {}
 
