@@ -5,10 +5,14 @@ use Rattle.tplan.specs.declared.plan.Plan.{Plan}
 use Rattle.tagents.specs.Races.{IsRaceFree}
 use Rattle.tagents.specs.Walks.{are_open}
 use Rattle.tagents.proofs.Walking.{over_where_shut}
+use Rattle.tclocks.specs.Checks.{Check}
 use Rattle.tclocks.proofs.Passing.{are_passed}
 use Rattle.tprocesses.specs.Machine.{Agent, process_machine}
 use Rattle.tprocesses.specs.Certified.{ProcessStep, machine_of, IsCertificate}
-use Rattle.tprocesses.proofs.Tidy.{process_machine_is_tidy, certificates_tell_of_all_runs}
+use Rattle.tagents.specs.Certificates.{IsCertified}
+use Rattle.tprocesses.specs.Opening.{opening_state}
+use Rattle.tprocesses.proofs.Tidy.{process_machine_is_lawful, process_machine_is_tidy}
+use Rattle.tprocesses.proofs.Tidy.{certificates_tell_of_all_runs}
 use Rattle.tcertify.specs.Running.{State}
 use Rattle.tagents.proofs.WalkAccessed.{walkers_clash_by_accesses}
 use Rattle.tprocesses.specs.Places.{Place}
@@ -16,7 +20,8 @@ use Rattle.tprocesses.specs.Values.{Value}
 use Rattle.tprocesses.specs.Changes.{Change, ChangeKind}
 use Rattle.tprocesses.specs.Parts.{Deed}
 use Rattle.tfollow.specs.Modes.{accesses_in}
-use Rattle.tfollow.specs.Numbering.{number_in, numbers_by}
+use Rattle.tfollow.specs.Numbering.{Places, number_in, numbers_by}
+use Rattle.tfollow.specs.Following.{IsFollowed}
 use Rattle.tfollow.specs.Laws.{AreShut, FollowedRunsAreCertificates}
 use Rattle.tfollow.proofs.Numbered.{number-there, there-or-not}
 use Rattle.tfollow.proofs.Running.{labels-turned}
@@ -30,26 +35,42 @@ module _ (plan : Plan) where
         | inr away ↦ shut.others a away
       ]
 
+-- where no agent has a step, the run tells of all runs, however many processes live
+module _ (plan : Plan) (places : Places) (agents : List Agent) (steps : List ProcessStep) (check : Check)
+    (state : State) (f : IsFollowed plan places agents steps check state) (shut : AreShut plan agents state) where
+  race_free : IsRaceFree (machine_of plan) (reverse steps)
+  race_free =
+      subst (λ (list : List ProcessStep). IsRaceFree (machine_of plan) list)
+      (labels-turned f.entries ∙ ap reverse f.labels)
+      ((are_passed (machine_of plan) (accesses_in plan) (numbers_by places agents) f.entries f.seen.table
+      f.seen.follows.passed).race_free
+      (walkers_clash_by_accesses Agent Place Value Change ChangeKind Deed (process_machine plan)
+      (process_machine_is_tidy plan).told))
+
+  pub certified : IsCertified (machine_of plan) (opening_state plan) (reverse steps) state
+  certified =
+      record {
+        lawful = process_machine_is_lawful plan;
+        run = f.run;
+        over = over_where_shut (process_machine plan) state (all-shut plan agents state shut);
+        race_free = race_free;
+        takes_nothing = f.takes_nothing;
+      }
+
 pub followed_runs_are_certificates : FollowedRunsAreCertificates
 followed_runs_are_certificates plan places agents steps check state f shut few flags =
     record { certificate = certificate; only = certificates_tell_of_all_runs plan (reverse steps) state certificate }
   where
-    race_free : IsRaceFree (machine_of plan) (reverse steps)
-    race_free =
-        subst (λ (list : List ProcessStep). IsRaceFree (machine_of plan) list)
-        (labels-turned f.entries ∙ ap reverse f.labels)
-        ((are_passed (machine_of plan) (accesses_in plan) (numbers_by places agents) f.entries f.seen.table
-        f.seen.follows.passed).race_free
-        (walkers_clash_by_accesses Agent Place Value Change ChangeKind Deed (process_machine plan)
-        (process_machine_is_tidy plan).told))
+    whole : IsCertified (machine_of plan) (opening_state plan) (reverse steps) state
+    whole = certified plan places agents steps check state f shut
 
     certificate : IsCertificate plan (reverse steps) state
     certificate =
         record {
-          run = f.run;
-          over = over_where_shut (process_machine plan) state (all-shut plan agents state shut);
-          takes_nothing = f.takes_nothing;
-          race_free = race_free;
+          run = whole.run;
+          over = whole.over;
+          takes_nothing = whole.takes_nothing;
+          race_free = whole.race_free;
           few = few;
           flags = flags;
         }

@@ -42,6 +42,7 @@ places_may_come plan places more agents steps check state count f same =
             f.entries f.seen.table f.writers check extends f.seen.follows)
             count;
       };
+      placed = f.placed;
       last = last f.entries f.last;
       clocks = f.clocks;
       slots = f.slots;
@@ -63,7 +64,7 @@ places_may_come plan places more agents steps check state count f same =
     last [] h = tt
     last (z ∷ zs) h = h
 
-at-end : {A : Type 0} (xs : List A) (x d : A) → get_or (xs ++ x ∷ []) (length xs) d ≡ x
+pub at-end : {A : Type 0} (xs : List A) (x d : A) → get_or (xs ++ x ∷ []) (length xs) d ≡ x
 at-end [] x d = refl
 at-end (y ∷ ys) x d = at-end ys x d
 
@@ -72,7 +73,8 @@ set-past [] i x h = refl
 set-past (y ∷ ys) zero x h = absurd (omega (arith, h))
 set-past {A} (y ∷ ys) (suc i) x h = ap (λ (list : List A). y ∷ list) (set-past ys i x (omega (arith, h)))
 
-before-end : {A : Type 0} (xs : List A) (x d : A) (i : ℕ) → i < length xs → get_or (xs ++ x ∷ []) i d ≡ get_or xs i d
+pub before-end : {A : Type 0} (xs : List A) (x d : A) (i : ℕ) → i < length xs
+    → get_or (xs ++ x ∷ []) i d ≡ get_or xs i d
 before-end [] x d i h = absurd (omega (arith, h))
 before-end (y ∷ ys) x d zero h = refl
 before-end (y ∷ ys) x d (suc i) h = before-end ys x d i (omega (arith, h))
@@ -245,6 +247,7 @@ module _ (plan : Plan) (places : Places) (agents : List Agent) (steps : List Pro
         labels = f.labels;
         writers = writers;
         seen = seen;
+        placed = f.placed;
         last = last f.entries f.seen.follows.agents f.last;
         clocks = omega (
           arith,

@@ -19,7 +19,7 @@ use Rattle.tcertify.specs.Running.{State}
 use Rattle.tfollow.specs.Modes.{accesses_in}
 use Rattle.tfollow.specs.Numbering.{Places, HasNumber, number_in, numbers_by}
 use Rattle.tfollow.specs.Leading.{leads_on}
-use Rattle.tfollow.specs.Following.{IsLast, IsFollowed}
+use Rattle.tfollow.specs.Following.{ArePlaced, IsLast, IsFollowed}
 use Rattle.tfollow.specs.Laws.{FollowingBegins, IsHandedOn, ClocksAreHandedOn, SlotsMayBeCleared}
 use Rattle.tfollow.proofs.Numbered.{numbered}
 use Rattle.tfollow.proofs.Counting.{none-counted}
@@ -37,6 +37,7 @@ following_begins plan places =
         follows = begins (machine_of plan) (accesses_in plan) (numbers_by places [])
             (numbered plan places [] _ refl);
       };
+      placed = tt;
       last = tt;
       clocks = refl;
       slots = refl;
@@ -83,6 +84,7 @@ slots_may_be_cleared plan places agents steps check state number f =
         follows = cleared (machine_of plan) (accesses_in plan) (numbers_by places agents) f.entries f.seen.table
             f.writers check f.seen.follows number;
       };
+      placed = f.placed;
       last = last f.entries f.last;
       clocks = f.clocks;
       slots = length-set check.slots number [] ∙ f.slots;
@@ -97,34 +99,43 @@ slots_may_be_cleared plan places agents steps check state number f =
     last (z ∷ zs) h = h
 
 module _ (plan : Plan) (places : Places) (agents : List Agent) (step : ProcessStep) (earlier : List ProcessStep)
-    (check : Check) (state : State) (number : ℕ) (a : Agent)
-    (f : IsFollowed plan places agents (step ∷ earlier) check state) (listed : HasNumber agents a number)
-    (leads : leads_on plan step a ≡ true) where
-  -- the last step is the first entry
-  record StartsWith : Type 0 where
-    rest : List (Entry Agent ProcessStep)
-    labels : labels (entry_of (machine_of plan) (numbers_by places agents) step check ∷ rest) ≡ step ∷ earlier
-    seen : HasSeen (machine_of plan) (accesses_in plan) (numbers_by places agents)
-        (entry_of (machine_of plan) (numbers_by places agents) step check ∷ rest) f.writers check
+    (check : Check) where
+  abbrev pub first : Entry Agent ProcessStep
+  first = entry_of (machine_of plan) (numbers_by places agents) step check
 
-  starts : StartsWith
-  starts = by f.entries f.labels f.seen f.last
+  -- the last step is the first entry
+  pub record StartsWith (writers : ℕ → List ProcessStep) : Type 0 where
+    pub rest : List (Entry Agent ProcessStep)
+    pub labels : labels rest ≡ earlier
+    pub seen : HasSeen (machine_of plan) (accesses_in plan) (numbers_by places agents) (first ∷ rest) writers check
+    pub placed : ArePlaced plan (first ∷ rest)
+
+  pub starts_with : (state : State) (f : IsFollowed plan places agents (step ∷ earlier) check state)
+      → StartsWith f.writers
+  starts_with state f = by f.entries f.labels f.seen f.placed f.last
     where
       by : (entries : List (Entry Agent ProcessStep)) → labels entries ≡ step ∷ earlier
           → HasSeen (machine_of plan) (accesses_in plan) (numbers_by places agents) entries f.writers check
-          → IsLast plan places agents entries check → StartsWith
-      by [] h seen last = absurd cc
-      by (z ∷ zs) h seen last =
+          → ArePlaced plan entries → IsLast plan places agents entries check → StartsWith f.writers
+      by [] h seen placed last = absurd cc
+      by (z ∷ zs) h seen placed last =
           let label : z.label ≡ step = cc in
-          let rest : labels zs ≡ earlier = cc in
-          let first : z ≡ entry_of (machine_of plan) (numbers_by places agents) step check =
+          let same : z ≡ first =
           last ∙ ap (λ (e : ProcessStep). entry_of (machine_of plan) (numbers_by places agents) e check) label in
           record {
             rest = zs;
-            labels = ap (λ (list : List ProcessStep). step ∷ list) rest;
+            labels = cc;
             seen = subst (λ (y : Entry Agent ProcessStep). HasSeen (machine_of plan) (accesses_in plan)
-                (numbers_by places agents) (y ∷ zs) f.writers check) first seen;
+                (numbers_by places agents) (y ∷ zs) f.writers check) same seen;
+            placed = subst (λ (y : Entry Agent ProcessStep). ArePlaced plan (y ∷ zs)) same placed;
           }
+
+module _ (plan : Plan) (places : Places) (agents : List Agent) (step : ProcessStep) (earlier : List ProcessStep)
+    (check : Check) (state : State) (number : ℕ) (a : Agent)
+    (f : IsFollowed plan places agents (step ∷ earlier) check state) (listed : HasNumber agents a number)
+    (leads : leads_on plan step a ≡ true) where
+  starts : StartsWith plan places agents step earlier check f.writers
+  starts = starts_with plan places agents step earlier check state f
 
   new-lead : (b : Agent) → HasNumber agents b number → leads_on plan step b ≡ true
   new-lead b h = subst (λ (c : Agent). leads_on plan step c ≡ true) (one-agent plan agents number a b listed h) leads
@@ -142,9 +153,10 @@ module _ (plan : Plan) (places : Places) (agents : List Agent) (step : ProcessSt
         run = f.run;
         takes_nothing = f.takes_nothing;
         entries = entry_of (machine_of plan) (numbers_by places agents) step check ∷ starts.rest;
-        labels = starts.labels;
+        labels = ap (λ (list : List ProcessStep). step ∷ list) starts.labels;
         writers = with_writers number steps f.writers;
         seen = seen;
+        placed = starts.placed;
         last = refl;
         clocks = f.clocks;
         slots = length-set check.slots number clock ∙ f.slots;

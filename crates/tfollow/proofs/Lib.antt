@@ -40,3 +40,9 @@ pub mod Opened
 pub mod True
 -- Steps at nodes.
 pub mod Sited
+-- Steps that a clock has counted.
+pub mod Chained
+-- Names of lodgers.
+pub mod Named
+-- Berths that are taken and left.
+pub mod Lodged

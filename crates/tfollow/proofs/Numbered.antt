@@ -144,7 +144,7 @@ module _ (plan : Plan) where
       cases i n h = grind arith
 
 -- a plan, for what holds of all
-some_plan : Plan
+pub some_plan : Plan
 some_plan = record { timeslice = 1; nodes = []; wires = []; sources = []; sinks = [] }
 
 pub new_agents_are_others : NewAgentsAreOthers

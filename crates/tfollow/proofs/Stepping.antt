@@ -1,11 +1,12 @@
 -- A step that was done and told is one more.
-use Rattle.std.proofs.Common.{◌≡◌, ℕ, ◌<◌, ◌⊎◌, inl, inr, refl, ap, ◌∙◌, subst, arith, true, false, List, []}
-use Rattle.std.proofs.Common.{◌∷◌, ◌++◌, map, suc, length, Ok, Err, Result}
+use Rattle.std.proofs.Common.{◌≡◌, ℕ, ◌<◌, ◌⊎◌, inl, inr, refl, sym, ap, ◌∙◌, subst, arith, true, false}
+use Rattle.std.proofs.Common.{List, [], ◌∷◌, ◌++◌, map, suc, length, Ok, Err, Result}
 use Rattle.std.specs.Prelude.{All, is_some}
 use Rattle.std.proofs.lemmas.List.{length-set}
 use Rattle.std.proofs.lemmas.Option.{slice_get_within}
 use Rattle.tplan.specs.declared.plan.Plan.{Plan}
-use Rattle.tagents.specs.Agents.{Does}
+use Rattle.tagents.specs.Agents.{Does, own}
+use Rattle.tagents.specs.Clocks.{labels}
 use Rattle.tagents.specs.Tables.{Access, HasAccess}
 use Rattle.tagents.specs.Walks.{Sight, sight, sights_of, label_of, are_open}
 use Rattle.tagents.specs.WalkAccesses.{Looks, Changes, accesses_of_step}
@@ -14,7 +15,7 @@ use Rattle.tagents.proofs.Walking.{has_step}
 use Rattle.tclocks.specs.declared.mode.Mode.{Mode}
 use Rattle.tclocks.specs.declared.step.Step.{Step}
 use Rattle.tclocks.specs.Modes.{covers}
-use Rattle.tclocks.specs.Checks.{Check, clock_of, next_step, begun, with_joined}
+use Rattle.tclocks.specs.Checks.{Check, clock_of, steps_of, next_step, begun, with_joined}
 use Rattle.tclocks.specs.Followed.{AreAccessed, IsClockOf, entry_of, HasCover, IsToldByCover}
 use Rattle.tclocks.proofs.Lists.{each-more}
 use Rattle.tclocks.proofs.Stepping.{follows_on}
@@ -29,9 +30,9 @@ use Rattle.tcertify.specs.Running.{State, changed, run_part}
 use Rattle.tcertify.specs.Walked.{stop_of, looks, changes, Accessed, accesses, IsWalkedAsRun}
 use Rattle.tcertify.proofs.Walking.{walked}
 use Rattle.tfollow.specs.Modes.{accesses_in, Manner, mode_at}
-use Rattle.tfollow.specs.Numbering.{Places, numbers_by}
+use Rattle.tfollow.specs.Numbering.{Places, number_in, numbers_by}
 use Rattle.tfollow.specs.Leading.{leads_on}
-use Rattle.tfollow.specs.Following.{Told, IsTold, IsFollowed, IsFollowedStep}
+use Rattle.tfollow.specs.Following.{Told, IsTold, AreCounted, IsFollowed, IsFollowedStep}
 use Rattle.tfollow.specs.Laws.{StepsAreFollowed, StopsAreTold}
 use Rattle.tfollow.proofs.Counting.{counted-step}
 use Rattle.tfollow.proofs.Listed.{one-of}
@@ -223,17 +224,26 @@ module _ (plan : Plan) (places : Places) (agents : List Agent) (steps : List Pro
           follows = follows_on (machine_of plan) (accesses_in plan) (numbers_by places agents) f.entries
               f.seen.table f.writers before after number (number ∷ []) told step f.seen.follows is-told d.checked;
         };
+        placed = (placed, f.placed);
         last = refl;
         clocks = long.0 ∙ clocks-long ∙ f.clocks;
         slots = long.1 ∙ f.slots;
         apart = f.apart;
-        counted = counted-step plan agents f.apart steps step number told before after d.listed is-told.added
-            own.long ((f.seen.follows.slots number).within number) d.checked f.counted;
+        counted = counts;
         lead = f.lead;
       }
     where
-      own : IsClockOf (machine_of plan) (numbers_by places agents) f.entries before number (clock_of before number)
-      own = f.seen.follows.clocks number is-told.added
+      clock : IsClockOf (machine_of plan) (numbers_by places agents) f.entries before number (clock_of before number)
+      clock = f.seen.follows.clocks number is-told.added
+
+      counts : AreCounted plan agents (step ∷ steps) after
+      counts = counted-step plan agents f.apart steps step number told before after d.listed is-told.added
+          clock.long ((f.seen.follows.slots number).within number) d.checked f.counted
+
+      placed : steps_of after (number_in agents a) ≡ length (own (machine_of plan) a (step ∷ labels f.entries))
+      placed =
+          ap (steps_of after) (f.apart number a d.listed) ∙ counts.counts number a d.listed
+          ∙ ap (λ (list : List ProcessStep). length (own (machine_of plan) a (step ∷ list))) (sym f.labels)
 
       long : (length after.clocks ≡ length joined_up.clocks) × (length after.slots ≡ length joined_up.slots)
       long = lengths-accessed (next_step before number) told joined_up after d.checked

@@ -55,6 +55,12 @@ pub record AreCounted (plan : Plan) (agents : List Agent) (steps : List ProcessS
   pub kept : (place : ℕ) (access : KeptAccess) → Contains (accesses_at check place) access
       → IsDone plan agents steps access.step
 
+-- the place of each of these entries, the last one first, is the number of steps of its agent so far
+abbrev pub ArePlaced : Plan → List (Entry Agent ProcessStep) → Type 0
+ArePlaced plan [] = Unit {0}
+ArePlaced plan (z ∷ earlier) =
+    (z.place ≡ length (own (machine_of plan) z.label.agent (labels (z ∷ earlier)))) × ArePlaced plan earlier
+
 module _ (plan : Plan) (places : Places) (agents : List Agent) where
   -- the clock of the last step is still that of its agent
   abbrev pub IsLast : List (Entry Agent ProcessStep) → Check → Type 0
@@ -71,6 +77,7 @@ module _ (plan : Plan) (places : Places) (agents : List Agent) where
     pub labels : labels entries ≡ steps
     pub writers : ℕ → List ProcessStep
     pub seen : HasSeen (machine_of plan) (accesses_in plan) (numbers_by places agents) entries writers check
+    pub placed : ArePlaced plan entries
     pub last : IsLast entries check
     -- each agent has its clock, and the slot of its number
     pub clocks : length check.clocks ≡ length agents

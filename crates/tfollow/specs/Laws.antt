@@ -13,7 +13,7 @@ use Rattle.tclocks.specs.Checks.{with_cleared, clock_of}
 use Rattle.tprocesses.specs.Places.{Place}
 use Rattle.tprocesses.specs.Parts.{Reason}
 use Rattle.tprocesses.specs.Machine.{Agent, step_of, process_machine}
-use Rattle.tprocesses.specs.Certified.{ProcessStep, machine_of, HadFew, KeptFlags, IsCertificate}
+use Rattle.tprocesses.specs.Certified.{ProcessStep, machine_of, LiveFew, KeptFlags, IsCertificate}
 use Rattle.tprocesses.specs.Opening.{opening_state}
 use Rattle.tcertify.specs.Running.{State, run_part}
 use Rattle.tfollow.specs.Numbering.{Places, HasNumber, IsNew, number_in}
@@ -98,7 +98,7 @@ pub record IsCertified (plan : Plan) (steps : List ProcessStep) (state : State) 
 abbrev pub FollowedRunsAreCertificates : Type 0
 FollowedRunsAreCertificates =
     (plan : Plan) (places : Places) (agents : List Agent) (steps : List ProcessStep) (check : Check) (state : State)
-    → IsFollowed plan places agents steps check state → AreShut plan agents state → HadFew state → KeptFlags state
+    → IsFollowed plan places agents steps check state → AreShut plan agents state → LiveFew plan → KeptFlags state
     → IsCertified plan steps state
 
 -- what is known where a step stops: the steps and this one are a run, and this is why it stops

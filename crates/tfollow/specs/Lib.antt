@@ -19,3 +19,5 @@ pub mod Examples
 pub mod Truth
 -- steps at nodes
 pub mod Sites
+-- berths that processes take by turns
+pub mod Lodging

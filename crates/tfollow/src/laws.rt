@@ -6,6 +6,8 @@ ghost use Rattle.tfollow.specs.Laws.{StepsAreFollowed, ClocksAreHandedOn, SlotsM
 ghost use Rattle.tfollow.specs.Laws.{PlacesMayCome, FollowedRunsAreCertificates, StopsAreTold};
 ghost use Rattle.tfollow.specs.Laws.{RefusalsTellRaces};
 ghost use Rattle.tfollow.specs.Numbering.{NewAgentsAreOthers};
+ghost use Rattle.tfollow.specs.Lodging.{CountedStepsAreChained, LodgingBegins, LodgedAgentsMayCome, OthersKeepBerths};
+ghost use Rattle.tfollow.specs.Lodging.{BeginningsTakeBerths, EndsLeaveBerths, BerthsLetFewLive};
 ghost use Rattle.tfollow.specs.Opening.{AgentsAreOpenBy, StepsLeadBy};
 ghost use Rattle.tfollow.specs.Sites.{StepsAreAtSites};
 ghost use Rattle.tfollow.specs.Telling.{NotesAreTold};
@@ -86,8 +88,9 @@ pub fn agents_are_open_by()
     ensures { AgentsAreOpenBy }
 {}
 
-/// If no agent has a step, no node ever had too many processes, and no flag was changed where processes of both
-/// priorities ran, a run that was followed to here is a certificate, and each other run can be completed to this end.
+/// If no agent has a step, in no run too many processes live at a node at the same time, and no flag was changed where
+/// processes of both priorities ran, a run that was followed to here is a certificate, and each other run can be
+/// completed to this end.
 pub fn followed_runs_are_certificates()
     ensures { FollowedRunsAreCertificates }
 {}
@@ -112,4 +115,40 @@ pub fn truth_is_kept()
 /// Then a refusal tells of two steps that access places of one number in modes that collide.
 pub fn true_refusals_tell_true_races()
     ensures { TrueRefusalsTellTrueRaces }
+{}
+
+/// A step that the clock of the last step has counted is chained to it.
+pub fn counted_steps_are_chained()
+    ensures { CountedStepsAreChained }
+{}
+
+/// Before the first step no berth was taken or left, and some are free: no more than may live beside the processes of
+/// the image.
+pub fn lodging_begins()
+    ensures { LodgingBegins }
+{}
+
+/// Agents may come where processes are lodged.
+pub fn lodged_agents_may_come()
+    ensures { LodgedAgentsMayCome }
+{}
+
+/// A step that begins no process at the node and ends none leaves its berths as they are.
+pub fn others_keep_berths()
+    ensures { OthersKeepBerths }
+{}
+
+/// A step that begins a process may take a free berth for it, if its clock has counted the last step that left it.
+pub fn beginnings_take_berths()
+    ensures { BeginningsTakeBerths }
+{}
+
+/// A step that ends a process leaves its berth, if its clock has counted the last step that took it.
+pub fn ends_leave_berths()
+    ensures { EndsLeaveBerths }
+{}
+
+/// Where all that begins at a node takes a berth, no run has too many processes there at the same time.
+pub fn berths_let_few_live()
+    ensures { BerthsLetFewLive }
 {}
