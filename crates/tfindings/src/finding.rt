@@ -45,7 +45,8 @@ pub enum Finding {
         made: Made,
         why: Stop,
     },
-    /// More processes than may be were at this node.
+    /// This node had more processes in all than may live there at the same time, and not all of them are known to take
+    /// turns.
     TooManyProcesses {
         node: usize,
     },

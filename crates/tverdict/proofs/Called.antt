@@ -1,10 +1,11 @@
 -- A call on a node has done the step of an agent.
-use Rattle.std.proofs.Common.{◌≡◌, ◌<◌, ◌⊎◌, ℕ, inl, inr, refl, sym, ap, ◌∙◌, subst, List, [], Some}
+use Rattle.std.proofs.Common.{◌≡◌, ◌<◌, ◌⊎◌, ℕ, inl, inr, refl, sym, ap, ◌∙◌, subst, List, [], ◌∷◌, Some}
 use Rattle.std.proofs.Common.{Ok, Err, Option, Contains, Result, arith, length}
 use Rattle.std.proofs.Common.{get_or}
 use Rattle.std.specs.Prelude.{option_map, slice_get, slice_set}
 use Rattle.std.proofs.lemmas.Bool.{cases_eq}
 use Rattle.std.proofs.lemmas.Option.{same_Some, slice_get_read, slice_get_within, slice_get-map}
+use Rattle.tclocks.proofs.Lists.{contains-first}
 use Rattle.tplan.specs.declared.plan.NodePlan.{NodePlan}
 use Rattle.tplan.specs.declared.plan.Plan.{Plan}
 use Rattle.tprocesses.specs.ChannelMessages.{channel_step}
@@ -36,17 +37,19 @@ use Rattle.tfollow.proofs.Sited.{steps_are_at_sites}
 use Rattle.tverdict.specs.declared.agent.Agent.{Agent}
 use Rattle.tverdict.specs.declared.agent.Agent.TheVariants as agent
 use Rattle.tverdict.specs.declared.machine.Machine.{Machine}
-use Rattle.tverdict.specs.Agents.{IsThere, agent_of}
+use Rattle.tverdict.specs.Agents.{IsThere, agent_of, name_there}
 use Rattle.tverdict.specs.Apart.{IsApart}
 use Rattle.tverdict.specs.Calls.{DoesAfresh, IsAfresh}
+use Rattle.tverdict.specs.Lodging.{WereHoused}
 use Rattle.tverdict.specs.Machines.{Follows, HasDone, HasStep, agents, machine_at, places, state_of}
 use Rattle.tverdict.specs.Numbers.{numbering}
 use Rattle.tverdict.specs.Passing.{NodesGrow}
 use Rattle.tverdict.specs.Stepping.{AreFoundBefore, Fits, IsAnswered, IsDone, IsOutcome}
-use Rattle.tverdict.proofs.Distinct.{at_low}
+use Rattle.tverdict.proofs.Distinct.{at_low, name_known}
 use Rattle.tverdict.proofs.Ended.{all_at}
 use Rattle.tverdict.proofs.Frames.{nodes_are_apart}
 use Rattle.tverdict.proofs.Numbered.{places_are_numbered}
+use Rattle.tverdict.proofs.Housed.{were_housed}
 use Rattle.tverdict.proofs.Grown.{agents_same, fits_on, fits_sound, followed_on, tellable_fits}
 use Rattle.tverdict.proofs.Staying.{address_or, name_or, set_grows}
 
@@ -93,7 +96,8 @@ grows_afresh old new is =
 -- the machine after a call on one of its nodes
 module _ (plan : Plan) (m m' : Machine) (number n : ℕ) (f : Follows plan m) (h : HasStep plan m number) (old new : Node)
     (there : slice_get m.nodes.items n ≡ Some old) (set : m'.nodes.items ≡ slice_set m.nodes.items n new) (part : Doing)
-    (is_step : step_of plan h.agent ≡ part) (begun : Node) (afresh : IsAfresh old begun) where
+    (is_step : step_of plan h.agent ≡ part) (home : (x : Name) → h.agent ≡ machine.Process x → n ≡ x.node)
+    (begun : Node) (afresh : IsAfresh old begun) where
   abbrev it : Machine
   it = record m { nodes = m'.nodes; idle = m'.idle }
 
@@ -166,6 +170,19 @@ module _ (plan : Plan) (m m' : Machine) (number n : ℕ) (f : Follows plan m) (h
     fits_it : Fits plan it
     fits_it = fits_on plan m it growing fits refl refl done.sound.kept_places
 
+    stays : (j : ℕ) → (Contains (n ∷ []) j → ⊥) → slice_get m'.nodes.items j ≡ slice_get m.nodes.items j
+    stays j away =
+        ap (λ (ns : List Node). slice_get ns j) set
+        ∙ set_elsewhere m.nodes.items n j new
+        (λ e. away (subst (λ (k : ℕ). Contains (n ∷ []) k) e (contains-first n [])))
+
+    housed_it : WereHoused plan (n ∷ []) h.agent steps (machine_at plan m) m'.nodes.items (agents it) m.lodgings.items
+    housed_it =
+        subst (λ (list : List machine.Agent). WereHoused plan (n ∷ []) h.agent steps (machine_at plan m)
+        m'.nodes.items list m.lodgings.items) (sym agents_are)
+        (were_housed plan steps m done m'.nodes.items growing (n ∷ []) stays h.agent
+        (λ x is. subst (λ (k : ℕ). Contains (n ∷ []) k) (home x is) (contains-first n [])))
+
     found_it : AreFoundBefore plan n (length old.processes.items.items) (length old.channels.items.items) n
         (length old.processes.items.items) (length old.channels.items.items) it
     found_it =
@@ -215,6 +232,7 @@ module _ (plan : Plan) (m m' : Machine) (number n : ℕ) (f : Follows plan m) (h
           noted = noted_it (Ok tt) runs;
           led = led_it (Ok tt) runs;
           fits = fits_it (Ok tt) runs;
+          housed = housed_it (Ok tt) runs;
         };
         found = found_it (Ok tt) runs;
       }
@@ -261,6 +279,28 @@ module _ (plan : Plan) (m : Machine) (number n k : ℕ) (f : Follows plan m) (h 
       (ap (λ (j : ℕ). slice_get plan.nodes j) at_n ∙ planned.1)
       ∙ ap (λ (s : Site). step_of_process s x) (ap (λ (j : ℕ). site_of j planned.0) at_n ∙ site)
 
+  -- a process of another name is of this node
+  pub process_home : slice_get m.agents.items number ≡ Some (agent.Process n k) → k < length old.processes.items.items
+      → (x : Name) → h.agent ≡ machine.Process x → n ≡ x.node
+  process_home at low x is =
+      let (p, by) = at_low old.processes.items.items k low in
+      let same : machine.Process (name_there m.nodes.items n k) ≡ machine.Process x =
+      sym (agent_is (agent.Process n k) at) ∙ is in
+      let name : name_there m.nodes.items n k ≡ x = cc in
+      ap (λ (y : Name). y.node)
+      (sym (name_known m.nodes.items (f.1).sound.nodes.numbers n k old p there by) ∙ name)
+
+  -- no other agent is a process
+  pub channel_home : slice_get m.agents.items number ≡ Some (agent.Channel n k)
+      → (x : Name) → h.agent ≡ machine.Process x → n ≡ x.node
+  channel_home at x is =
+      let same : machine.Channel n _ ≡ machine.Process x = sym (agent_is (agent.Channel n k) at) ∙ is in cc
+
+  pub successor_home : slice_get m.agents.items number ≡ Some (agent.Successor n k)
+      → (x : Name) → h.agent ≡ machine.Process x → n ≡ x.node
+  successor_home at x is =
+      let same : machine.Successor n k ≡ machine.Process x = sym (agent_is (agent.Successor n k) at) ∙ is in cc
+
   pub channel_is : slice_get m.agents.items number ≡ Some (agent.Channel n k)
       → step_of plan h.agent ≡ channel_step (address_at old k) (node_site old)
   channel_is at =
@@ -290,11 +330,12 @@ module _ (plan : Plan) (m m' : Machine) (number n k : ℕ) (f : Follows plan m) 
       slice_get_read m.nodes.items (length m.nodes.items) n old refl (slice_get_within m.nodes.items n x at) read
 
   by_part : (part : Doing) → slice_get m.nodes.items n ≡ Some old → step_of plan h.agent ≡ part
-      → DoesAfresh part old result new → IsOutcome plan number n processes channels result m'
-  by_part part there is does =
+      → ((x : Name) → h.agent ≡ machine.Process x → n ≡ x.node) → DoesAfresh part old result new
+      → IsOutcome plan number n processes channels result m'
+  by_part part there is home does =
       subst (λ (i : ℕ). IsOutcome plan number n i channels result m') (sym p)
       (subst (λ (i : ℕ). IsOutcome plan number n (length old.processes.items.items) i result m') (sym q)
-      (outcome plan m m' number n f h old new there set part is does.begun does.afresh result does.does same))
+      (outcome plan m m' number n f h old new there set part is home does.begun does.afresh result does.does same))
 
   pub process_done : slice_get m.agents.items number ≡ Some (agent.Process n k)
       → DoesAfresh (step_of_process (node_site old) (name_at old k)) old result new
@@ -302,9 +343,10 @@ module _ (plan : Plan) (m m' : Machine) (number n k : ℕ) (f : Follows plan m) 
   process_done at does =
       let (x, by, low) = named (agent.Process n k) at in
       let there = there_at x by in
+      let within = subst (λ (a : Node). k < length a.processes.items.items) (same_Some x old (sym by ∙ there)) low in
       by_part (step_of_process (node_site old) (name_at old k)) there
-      (process_is plan m number n k f h old there at
-      (subst (λ (a : Node). k < length a.processes.items.items) (same_Some x old (sym by ∙ there)) low)) does
+      (process_is plan m number n k f h old there at within)
+      (process_home plan m number n k f h old there at within) does
 
   pub channel_done : slice_get m.agents.items number ≡ Some (agent.Channel n k)
       → DoesAfresh (channel_step (address_at old k) (node_site old)) old result new
@@ -313,7 +355,7 @@ module _ (plan : Plan) (m m' : Machine) (number n k : ℕ) (f : Follows plan m) 
       let (x, by, low) = named (agent.Channel n k) at in
       let there = there_at x by in
       by_part (channel_step (address_at old k) (node_site old)) there
-      (channel_is plan m number n k f h old there at) does
+      (channel_is plan m number n k f h old there at) (channel_home plan m number n k f h old there at) does
 
   pub successor_done : slice_get m.agents.items number ≡ Some (agent.Successor n k)
       → DoesAfresh (successor_step k (node_site old)) old result new
@@ -321,4 +363,5 @@ module _ (plan : Plan) (m m' : Machine) (number n k : ℕ) (f : Follows plan m) 
   successor_done at does =
       let (x, by, low) = named (agent.Successor n k) at in
       let there = there_at x by in
-      by_part (successor_step k (node_site old)) there (successor_is plan m number n k f h old there at) does
+      by_part (successor_step k (node_site old)) there (successor_is plan m number n k f h old there at)
+      (successor_home plan m number n k f h old there at) does

@@ -29,7 +29,7 @@ at_low xs k low = elim (slice_get_cases xs k).1 [
 module _ (nodes : List Node)
     (numbers : (k : ℕ) (n : Node) → slice_get nodes k ≡ Some n → n.words.number ≡ k) where
   -- the name of a process of a node
-  name_known : (n k : ℕ) (node : Node) (p : Process) → slice_get nodes n ≡ Some node
+  pub name_known : (n k : ℕ) (node : Node) (p : Process) → slice_get nodes n ≡ Some node
       → slice_get node.processes.items.items k ≡ Some p → name_there nodes n k ≡ name_of n p
   name_known n k node p there at =
       ap (name_or n k) there ∙ name_is node k p at ∙ ap (λ (j : ℕ). name_of j p) (numbers n node there)

@@ -21,9 +21,11 @@ use Rattle.tverdict.specs.declared.agent.Agent.{Agent}
 use Rattle.tverdict.specs.declared.machine.Machine.{Machine}
 use Rattle.tverdict.specs.Agents.{IsThere, agent_of}
 use Rattle.tverdict.specs.Coming.{AddsAgent, HasCome}
+use Rattle.tverdict.specs.Lodging.{WereHoused}
 use Rattle.tverdict.specs.Machines.{agents, machine_at, places}
 use Rattle.tverdict.specs.Stepping.{Fits, HandsOn, HasLead, HasMore, HasTold, IsLedTo, KeepsTold}
 use Rattle.tverdict.proofs.Distinct.{agent_new}
+use Rattle.tverdict.proofs.Housed.{were_more}
 
 -- an element stays where more come behind it
 pub get_more : {X : Type 0} (xs ys : List X) (k : ℕ) (x : X) → slice_get xs k ≡ Some x → slice_get (xs ++ ys) k ≡ Some x
@@ -122,6 +124,12 @@ module _ (m m' : Machine) (a : Agent) (k : ℕ) (adds : AddsAgent m a k m') wher
         followed = followed_it plan number at there none t;
         leads = t.leads;
         fits = fits_it plan there t.fits;
+        before = t.before;
+        tells = t.tells;
+        housed = subst (λ (list : List machine.Agent). WereHoused plan at t.step.agent t.earlier t.before m.nodes.items
+            list m.lodgings.items) (sym agents_now)
+            (were_more plan at t.step.agent t.earlier t.before m.nodes.items (agents m)
+            (agent_of m.nodes.items a ∷ []) m.lodgings.items t.housed);
       }
 
   pub told_more : (number n : ℕ) → IsThere m.nodes.items a → IsFound (λ (x : Agent). x) a m.agents.items None
@@ -215,6 +223,9 @@ module _ (m m' : Machine) (number n to : ℕ) (hands : HandsOn m number to m') (
               few = t.fits.few;
               kept_places = t.fits.kept_places;
             };
+            before = t.before;
+            tells = t.tells;
+            housed = t.housed;
           }
 
     pub told_handed : ((plan : Plan) → Fits plan m → IsLedTo plan n l a) → KeepsTold number n m m'

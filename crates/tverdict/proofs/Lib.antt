@@ -15,6 +15,10 @@ pub mod Distinct
 -- Steps that are told.
 pub mod Told
 pub mod Keeping
+-- Berths of nodes.
+pub mod Berths
+pub mod Housed
+pub mod FirstLodgings
 -- Steps that end.
 pub mod Over
 -- A call on a node has done a step.

@@ -20,8 +20,10 @@ use Rattle.tverdict.specs.declared.agent.Agent.TheVariants as agent
 use Rattle.tverdict.specs.declared.machine.Machine.{Machine}
 use Rattle.tverdict.specs.Agents.{IsThere, agent_of}
 use Rattle.tverdict.specs.Coming.{AddsAgent}
+use Rattle.tverdict.specs.Lodging.{AreHoused}
 use Rattle.tverdict.specs.Machines.{AreFound, Follows, HasStep, IsSound, agents, machine_at, places}
 use Rattle.tverdict.specs.Next.{AreThoseWithSteps, IsLookedAt, IsLookedOver, IsNext, IsReadySuccessor}
+use Rattle.tverdict.proofs.Housed.{housed_more}
 use Rattle.tverdict.proofs.Keeping.{get_last}
 use Rattle.tverdict.proofs.Opens.{has_number, successor_open}
 
@@ -72,7 +74,7 @@ module _ (plan : Plan) (old new : Machine) (same : IsLookedAt old new) where
   follows_still f s =
       let sound : IsSound plan other = subst (λ (m : Machine). IsSound plan m) same s in
       let still : Follows plan other =
-      (f.0, record { count = (f.1).count; sound = sound; followed = (f.1).followed }) in
+      (f.0, record { count = (f.1).count; sound = sound; followed = (f.1).followed; housed = (f.1).housed }) in
       subst (λ (m : Machine). Follows plan m) (sym same) still
 
   pub looked_over : IsLookedOver old new
@@ -289,10 +291,15 @@ module _ (plan : Plan) (old new : Machine) (f : Follows plan old) (none : (numbe
       IsFollowed plan (places old) xs f.0 (with_slot (with_agent old.check)) (machine_at plan old)) (sym agents_more)
       (agents_may_come plan (places old) (agents old) f.0 old.check (machine_at plan old) comer (f.1).followed is_new))
 
+  more_housed : AreHoused plan f.0 old.nodes.items (agents more) old.lodgings.items
+  more_housed =
+      subst (λ (xs : List machine.Agent). AreHoused plan f.0 old.nodes.items xs old.lodgings.items) (sym agents_more)
+      (housed_more plan f.0 old.nodes.items (agents old) (comer ∷ []) old.lodgings.items (f.1).housed)
+
   pub comer_follows : Follows plan new
   comer_follows =
       let still : Follows plan more =
-      (f.0, record { count = (f.1).count; sound = more_sound; followed = more_followed }) in
+      (f.0, record { count = (f.1).count; sound = more_sound; followed = more_followed; housed = more_housed }) in
       subst (λ (m : Machine). Follows plan m) (sym adds.same) still
 
   pub comer_steps : HasStep plan new number

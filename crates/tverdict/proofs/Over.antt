@@ -1,14 +1,14 @@
 -- A step from the call that has done it to its end.
 use Rattle.std.proofs.Common.{◌≡◌, ◌≤◌, ◌<◌, ◌+◌, ◌⊎◌, ℕ, zero, suc, inl, inr, refl, sym, ap, ◌∙◌, subst, List}
-use Rattle.std.proofs.Common.{[], ◌∷◌, Ok, Err, Some, All, Contains, arith, length, map}
+use Rattle.std.proofs.Common.{[], ◌∷◌, Ok, Err, Some, All, Contains, arith, length, map, reverse}
 use Rattle.std.proofs.Common.{Option, false}
 use Rattle.std.specs.Prelude.{nat_lt, replicate, slice_get, unwrap_or}
 use Rattle.std.proofs.lemmas.Bool.{cases_eq, lt-ltb}
-use Rattle.std.proofs.lemmas.List.{length-append, length-replicate}
+use Rattle.std.proofs.lemmas.List.{length-append, length-map, length-replicate}
 use Rattle.std.proofs.lemmas.Option.{same_Some, slice_get_within}
 use Rattle.tplan.specs.declared.plan.Plan.{Plan}
 use Rattle.tagents.specs.Walks.{label_of}
-use Rattle.tclocks.specs.Checks.{Check}
+use Rattle.tclocks.specs.Checks.{Check, with_cleared}
 use Rattle.tclocks.proofs.Lists.{contains-first, contains-rest}
 use Rattle.tclocks.specs.declared.step.Step.{Step}
 use Rattle.tclocks.specs.Followed.{IsStep}
@@ -17,6 +17,7 @@ use Rattle.tprocesses.specs.Places.{Name, Image}
 use Rattle.tprocesses.specs.Parts.{Reason}
 use Rattle.tprocesses.specs.Machine as machine
 use Rattle.tprocesses.specs.Machine.{Processor, process_machine, role_at, step_of}
+use Rattle.tprocesses.proofs.Lived.{steps_tell_lives}
 use Rattle.tcertify.specs.declared.lead.Lead.{Lead}
 use Rattle.tcertify.specs.declared.lead.Lead.TheVariants as lead
 use Rattle.tcertify.specs.declared.node.Node.{Node}
@@ -37,7 +38,7 @@ use Rattle.tfollow.proofs.Handing.{slots_may_be_cleared}
 use Rattle.tfollow.proofs.Counted.{runs_tell_leads}
 use Rattle.tfollow.proofs.Opened.{steps_lead_by}
 use Rattle.tfollow.proofs.Refused.{refusals_tell_races}
-use Rattle.tfollow.proofs.Stepping.{steps_are_followed, stops_are_told}
+use Rattle.tfollow.proofs.Stepping.{does, goes, steps_are_followed, stops_are_told}
 use Rattle.tfollow.proofs.Telling.{notes_are_told}
 use Rattle.tverdict.specs.declared.agent.Agent.{Agent}
 use Rattle.tverdict.specs.declared.agent.Agent.TheVariants as agent
@@ -46,6 +47,7 @@ use Rattle.tverdict.specs.declared.halt.Halt.TheVariants as halt
 use Rattle.tverdict.specs.declared.machine.Machine.{Machine}
 use Rattle.tverdict.specs.declared.verdict.Race.{Race}
 use Rattle.tverdict.specs.Agents.{HasChannel, HasProcess, address_there, agent_of, name_there}
+use Rattle.tverdict.specs.Lodging.{LodgesAt, WereHoused}
 use Rattle.tverdict.specs.Machines.{AreFound, Follows, agents, machine_at, places}
 use Rattle.tverdict.specs.Stepping.{AddsPlaces, AreFoundBefore, Closes, Fits, HasMore, HasTold, IsAnswered, IsDone}
 use Rattle.tverdict.specs.Stepping.{IsLedTo, IsUntold, KeepsAgents, KeepsTold}
@@ -53,6 +55,7 @@ use Rattle.tverdict.specs.Told.{IsStepHalted, IsStepRefused}
 use Rattle.tverdict.specs.Wired.{IsDoneAt, IsUntoldAt}
 use Rattle.tverdict.specs.Verdicts.{EndsInRace, EndsStopped, IsStepped}
 use Rattle.tverdict.proofs.Frames.{chosen}
+use Rattle.tverdict.proofs.Housed.{all_housed}
 use Rattle.tverdict.proofs.Staying.{address_or, name_or}
 use Rattle.tverdict.proofs.Told.{places_accessed}
 use Rattle.tverdict.proofs.Keeping.{found_more, more_same, more_twice}
@@ -124,6 +127,7 @@ module _ (m m' : Machine) (count : ℕ) (adds : AddsPlaces m count m') where
         noted = u.noted;
         led = u.led;
         fits = fits_it plan u.fits;
+        housed = u.housed;
       }
 
   untold_at_it : (plan : Plan) (number n o : ℕ) (others : Notes) → IsUntoldAt plan number n o others m
@@ -134,6 +138,7 @@ module _ (m m' : Machine) (count : ℕ) (adds : AddsPlaces m count m') where
         noted = λ kept. u.noted (record { one = kept.one; other = kept.other });
         led = u.led;
         fits = fits_it plan u.fits;
+        housed = u.housed;
       }
 
   pub untold_at_more : (plan : Plan) (number n o : ℕ) (others : Notes) → IsUntoldAt plan number n o others m
@@ -208,12 +213,14 @@ module _ (plan : Plan) (number : ℕ) (m : Machine) (done : IsAnswered plan numb
   abbrev s : State
   s = done.state
 
-  pub told_step : (c : Check) (at : List ℕ) (told : List Told) → IsStep number (number ∷ []) told m.check c
+  pub told_step : (c : Check) (at : List ℕ) (told : List Told)
+      → WereHoused plan at a done.steps s m.nodes.items (agents m) m.lodgings.items
+      → IsStep number (number ∷ []) told m.check c
       → All (IsTold (places m) told) (accesses (step_of plan a) s)
       → ((n : ℕ) (l : Lead) (node : Node) → Contains at n → slice_get m.nodes.items n ≡ Some node
       → Contains node.leads.items l → IsLed node (sights (step_of plan a) s) (changes (step_of plan a) s) l)
       → HasTold plan number at (record m { check = c })
-  told_step c at told is covered led =
+  told_step c at told housed is covered led =
       let step : IsFollowedStep plan (places m) (agents m) number a told m.check c s (machine_at plan m) =
       record { listed = done.numbered; opened = done.opened; runs = done.runs; checked = is; covered = covered } in
       record {
@@ -237,6 +244,12 @@ module _ (plan : Plan) (number : ℕ) (m : Machine) (done : IsAnswered plan numb
           few = fits.few;
           kept_places = fits.kept_places;
         };
+        before = s;
+        tells = λ n.
+            steps_tell_lives plan n s (machine_at plan m) (label_of (process_machine plan) a s)
+            (record { steps = reverse done.steps; run = done.followed.run })
+            (does plan a s (machine_at plan m) done.runs done.opened) (goes plan a s (machine_at plan m) done.runs);
+        housed = housed;
       }
 
   -- or has a race
@@ -276,7 +289,7 @@ pub told_at : (plan : Plan) (number n : ℕ) (m : Machine) (u : IsUntold plan nu
     → IsStep number (number ∷ []) (map told_of u.node.words.notes.items.items) m.check c
     → HasTold plan number (n ∷ []) (record m { check = c })
 told_at plan number n m u c kept is =
-    told_step plan number m u.answered u.fits c (n ∷ []) (map told_of u.node.words.notes.items.items) is
+    told_step plan number m u.answered u.fits c (n ∷ []) (map told_of u.node.words.notes.items.items) u.housed is
     (notes_are_told (places m) u.node.words.notes.items.items
     (accesses (step_of plan u.answered.agent) u.answered.state) (u.noted kept))
     (λ k l node among there has.
@@ -291,7 +304,20 @@ told_at plan number n m u c kept is =
     only (zero, low, e) = e
     only (suc i, low, e) = absurd (omega (arith, low))
 
--- the slot of the agent that stepped
+-- the agent that stepped, with its clock and slot
+pub agent_there : (plan : Plan) (number : ℕ) (at : List ℕ) (m : Machine) → HasTold plan number at m
+    → number < length m.agents.items
+agent_there plan number at m t =
+    subst (λ (k : ℕ). number < k) (length-map m.agents.items (agent_of m.nodes.items))
+    (slice_get_within (agents m) number t.step.agent t.numbered)
+
+pub clock_there : (plan : Plan) (number : ℕ) (at : List ℕ) (m : Machine) → HasTold plan number at m
+    → number < length m.check.clocks
+clock_there plan number at m t =
+    let within : number < length (agents m) = slice_get_within (agents m) number t.step.agent t.numbered in
+    let clocks : length m.check.clocks ≡ length (agents m) = t.followed.clocks in
+    omega (arith, within, clocks)
+
 pub slot_there : (plan : Plan) (number : ℕ) (at : List ℕ) (m : Machine) → HasTold plan number at m
     → number < length m.check.slots
 slot_there plan number at m t =
@@ -399,18 +425,35 @@ module _ (plan : Plan) (one processes channels other processes' channels' : ℕ)
         wires = λ e f joined. found_more before after all_more (agent.Wire e) (found.wires e f joined);
       }
 
+-- berths change nothing else
+pub lodged_more : (number : ℕ) (at : List ℕ) (m new : Machine) → LodgesAt number at m new → HasMore m new
+lodged_more number at m new lodges =
+    record {
+      nodes = ap (λ (x : Machine). x.nodes.items) lodges.same;
+      done = ap (λ (x : Machine). x.done) lodges.same;
+      kept = λ j x h. subst (λ (y : Machine). slice_get y.agents.items j ≡ Some x) (sym lodges.same) h;
+    }
+
+pub slot_still : (plan : Plan) (number : ℕ) (at : List ℕ) (m new : Machine) → HasTold plan number at m
+    → LodgesAt number at m new → number < length new.check.slots
+slot_still plan number at m new t lodges =
+    subst (λ (y : Machine). number < length y.check.slots) (sym lodges.same) (slot_there plan number at m t)
+
 -- a step that is over is one more of the run
-module _ (plan : Plan) (number : ℕ) (at : List ℕ) (m m' : Machine) (closes : Closes m number m')
-    (t : HasTold plan number at m)
+module _ (plan : Plan) (number : ℕ) (at : List ℕ) (m l m' : Machine) (lodges : LodgesAt number at m l)
+    (closes : Closes l number m') (t : HasTold plan number at m)
     (found : AreFound plan m.nodes.items m.agents.items) where
   abbrev closed : Machine
-  closed = record m { check = m'.check; done = m'.done }
+  closed = record m { lodgings = l.lodgings; check = m'.check; done = m'.done }
+
+  cleared : m'.check ≡ with_cleared number m.check
+  cleared = closes.check ∙ ap (λ (x : Machine). with_cleared number x.check) lodges.same
 
   follows_closed : Follows plan closed
   follows_closed = (
     t.step ∷ t.earlier,
     record {
-      count = counted t.count;
+      count = counted t.count (closes.done ∙ ap (λ (x : Machine). x.done + 1) lodges.same);
       sound = record {
         nodes = t.fits.nodes;
         sent = t.fits.sent;
@@ -419,46 +462,52 @@ module _ (plan : Plan) (number : ℕ) (at : List ℕ) (m m' : Machine) (closes :
         found = found;
         there = t.fits.there;
         candidates = t.fits.candidates;
-        places = ap (λ (c : Check). length c.places) closes.check ∙ t.fits.places;
+        places = ap (λ (c : Check). length c.places) cleared ∙ t.fits.places;
         few = t.fits.few;
         kept_places = t.fits.kept_places;
       };
       followed = subst (λ (c : Check). IsFollowed plan (places m) (agents m) (t.step ∷ t.earlier) c (machine_at plan m))
-          (sym closes.check)
+          (sym cleared)
           (slots_may_be_cleared plan (places m) (agents m) (t.step ∷ t.earlier) m.check (machine_at plan m) number
           t.followed);
+      housed = all_housed plan number at m l t lodges;
     },
   )
     where
-      counted : length t.earlier ≡ m.done → length (t.step ∷ t.earlier) ≡ m'.done
-      counted e = omega (arith, e, closes.done)
+      counted : length t.earlier ≡ m.done → m'.done ≡ m.done + 1 → length (t.step ∷ t.earlier) ≡ m'.done
+      counted e one = omega (arith, e, one)
 
   pub follows_on : Follows plan m'
-  follows_on = subst (Follows plan) (sym closes.same) follows_closed
+  follows_on =
+      subst (Follows plan)
+      (sym (closes.same ∙ ap (λ (x : Machine). record x { check = m'.check; done = m'.done }) lodges.same))
+      follows_closed
 
 -- all of it at one node, after the call
-module _ (plan : Plan) (number n processes channels : ℕ) (before placed told found led after : Machine)
+module _ (plan : Plan) (number n processes channels : ℕ) (before placed told found led lodged after : Machine)
     (done : IsDone plan number n processes channels before) (one : HasMore before placed) (two : HasMore placed told)
     (t : HasTold plan number (n ∷ []) told) (three : KeepsTold number n told found)
     (new_processes : (k : ℕ) → processes ≤ k → HasProcess found.nodes.items n k
     → Contains found.agents.items (agent.Process n k))
     (new_channels : (k : ℕ) → channels ≤ k → HasChannel found.nodes.items n k
     → Contains found.agents.items (agent.Channel n k)) (four : KeepsTold number n found led)
-    (closes : Closes led number after) where
+    (lodges : LodgesAt number (n ∷ []) led lodged) (closes : Closes lodged number after) where
   to_found : HasMore before found
   to_found = more_twice before told found (more_twice before placed told one two) three.more
 
   pub finished : Follows plan after × (after.done ≡ before.done + 1)
   finished = (
-    follows_on plan number (n ∷ []) led after closes
+    follows_on plan number (n ∷ []) led lodged after lodges closes
         (four.told plan (n ∷ []) (contains-first n []) (three.told plan (n ∷ []) (contains-first n []) t))
         (all_found plan n processes channels n processes channels before found found led done.found to_found
         (more_same found) four.more new_processes new_channels new_processes new_channels),
-    closes.done ∙ ap (λ (k : ℕ). k + 1) (more_twice before found led to_found four.more).done,
+    closes.done ∙ ap (λ (x : Machine). x.done + 1) lodges.same
+        ∙ ap (λ (k : ℕ). k + 1) (more_twice before found led to_found four.more).done,
   )
 
 -- the same at two nodes, sources or sinks
-module _ (plan : Plan) (number n p c o q d : ℕ) (others : Notes) (before placed told one two led over after : Machine)
+module _ (plan : Plan) (number n p c o q d : ℕ) (others : Notes)
+    (before placed told one two led over lodged after : Machine)
     (done : IsDoneAt plan number n p c o q d others before) (more : HasMore before placed) (tells : HasMore placed told)
     (t : HasTold plan number (n ∷ o ∷ []) told) (first : KeepsTold number n told one)
     (first_processes : (k : ℕ) → p ≤ k → HasProcess one.nodes.items n k
@@ -469,7 +518,8 @@ module _ (plan : Plan) (number n p c o q d : ℕ) (others : Notes) (before place
     → Contains two.agents.items (agent.Process o k))
     (second_channels : (k : ℕ) → d ≤ k → HasChannel two.nodes.items o k
     → Contains two.agents.items (agent.Channel o k)) (third : KeepsTold number n two led)
-    (fourth : KeepsTold number o led over) (closes : Closes over number after) where
+    (fourth : KeepsTold number o led over) (lodges : LodgesAt number (n ∷ o ∷ []) over lodged)
+    (closes : Closes lodged number after) where
   to_one : HasMore before one
   to_one = more_twice before told one (more_twice before placed told more tells) first.more
 
@@ -484,11 +534,12 @@ module _ (plan : Plan) (number n p c o q d : ℕ) (others : Notes) (before place
       let list : List ℕ = n ∷ o ∷ [] in
       let here : Contains list n = contains-first n (o ∷ []) in
       let there : Contains list o = contains-rest n (o ∷ []) o (contains-first o []) in (
-        follows_on plan number list over after closes (fourth.told plan list there (third.told plan list here
+        follows_on plan number list over lodged after lodges closes
+            (fourth.told plan list there (third.told plan list here
             (second.told plan list there (first.told plan list here t))))
             (all_found plan n p c o q d before one two over done.found to_one second.more to_over first_processes
             first_channels second_processes second_channels),
-        closes.done ∙ ap (λ (k : ℕ). k + 1) all_over.done,
+        closes.done ∙ ap (λ (x : Machine). x.done + 1) lodges.same ∙ ap (λ (k : ℕ). k + 1) all_over.done,
       )
 
 -- each agent keeps its number up to the end

@@ -33,6 +33,7 @@ use Rattle.tfollow.proofs.Handing.{following_begins}
 use Rattle.tverdict.specs.declared.agent.Agent.{Agent}
 use Rattle.tverdict.specs.Agents.{IsThere, agent_of}
 use Rattle.tverdict.specs.declared.machine.Machine.{Machine}
+use Rattle.tverdict.specs.Lodging.{AreFirstLodgings}
 use Rattle.tverdict.specs.Machines.{AreNodesOf, IsAtStart, at_node, at_nodes, kept_by, machine_at, places, state_of}
 use Rattle.tverdict.specs.Machines.{with_scripts}
 use Rattle.tverdict.specs.Machines.{agents as agents_of}
@@ -40,6 +41,7 @@ use Rattle.tverdict.specs.Numbers.{node_in}
 use Rattle.tverdict.specs.Opening.{AllMayHaveSteps, AreAgents, AreEmpty, AreOpen, HasPlacesInOrder, first_check}
 use Rattle.tverdict.specs.Opening.{fresh_after, with_agents}
 use Rattle.tverdict.proofs.Distinct.{agent_new, at_low}
+use Rattle.tverdict.proofs.FirstLodgings.{all_first}
 use Rattle.tverdict.proofs.FoundAgents.{all_found, found_apart, found_there}
 
 -- the nodes
@@ -237,8 +239,8 @@ pub at_start : (plan : Plan) (m : Machine) → HasPlacesInOrder plan m
     → m.sent.items ≡ replicate (length plan.sources) 0 → m.wires ≡ all_wires plan
     → AreAgents (all_wires plan) m.nodes.items m.agents.items
     → m.check ≡ first_check m.fresh_place (length m.agents.items) → AllMayHaveSteps m → m.fresh_place < 2 ^ 32
-    → 0 ≡ m.done → IsAtStart plan m
-at_start plan m laid sent wires agents check candidates few none =
+    → 0 ≡ m.done → AreFirstLodgings m.nodes.items m.lodgings.items → IsAtStart plan m
+at_start plan m laid sent wires agents check candidates few none lodgings =
     record {
       opens = opens;
       nothing = record {
@@ -265,6 +267,7 @@ at_start plan m laid sent wires agents check candidates few none =
             (all_followed plan (places m) m.nodes.items m.fresh_place (nodes_of plan m.nodes.items laid.nodes).numbers
             m.agents.items (found_there plan m.nodes.items m.agents.items agents)
             (found_apart plan m.nodes.items m.agents.items agents)));
+        housed = all_first plan m (nodes_of plan m.nodes.items laid.nodes).numbers opens lodgings;
       };
     }
   where

@@ -9,6 +9,8 @@ use Rattle.std.specs.Prelude.{OnOk}
 use Rattle.tplan.specs.declared.plan.End.{End}
 use Rattle.tplan.specs.declared.plan.Plan.{Plan}
 use Rattle.tagents.specs.Walks.{are_open}
+use Rattle.tclocks.proofs.Lists.{contains-first, contains-rest}
+use Rattle.tprocesses.specs.Places.{Name}
 use Rattle.tprocesses.specs.Parts.{Doing, Reason}
 use Rattle.tprocesses.specs.Machine as machine
 use Rattle.tprocesses.specs.Machine.{passes, process_machine, sender_to, step_of}
@@ -36,13 +38,15 @@ use Rattle.tverdict.specs.declared.machine.Machine.{Machine}
 use Rattle.tverdict.specs.Verdicts.{IsStepped}
 use Rattle.tverdict.specs.Agents.{HasChannel, HasProcess, agent_of}
 use Rattle.tverdict.specs.Apart.{IsApart}
-use Rattle.tverdict.specs.Machines.{Follows, HasStep, machine_at, places, state_of}
+use Rattle.tverdict.specs.Lodging.{WereHoused}
+use Rattle.tverdict.specs.Machines.{Follows, HasStep, agents, machine_at, places, state_of}
 use Rattle.tverdict.specs.Passing.{NodesGrow, NumbersMachine}
 use Rattle.tverdict.specs.Stepping.{AreFoundBefore, Fits, IsAnswered, KeepsAgents}
 use Rattle.tverdict.specs.Wired.{AreCounts, AreKeptAt, BeginsAt, DoesPass, IsDoneAt, IsNotedAt, IsOutcomeAt, RunsPass}
 use Rattle.tverdict.proofs.Called.{grows_afresh}
 use Rattle.tverdict.proofs.Frames.{nodes_are_apart}
 use Rattle.tverdict.proofs.Grown.{agents_same, fits_on, fits_sound, followed_on, tellable_fits}
+use Rattle.tverdict.proofs.Housed.{were_housed}
 use Rattle.tverdict.proofs.Numbered.{places_are_numbered}
 use Rattle.tverdict.proofs.Staying.{grow_twice, set_grows, was_there}
 
@@ -290,6 +294,26 @@ module _ (plan : Plan) (m m1 m2 m3 : Machine) (number : ℕ) (from to : End) (n2
           ]
         ]
 
+    stays_away : (j : ℕ) → (Contains (from.node ∷ to.node ∷ []) j → ⊥)
+        → slice_get m3.nodes.items j ≡ slice_get m.nodes.items j
+    stays_away j away =
+        stays j
+        (λ e. away (subst (λ (k : ℕ). Contains (from.node ∷ to.node ∷ []) k) (sym e)
+        (contains-first from.node (to.node ∷ []))))
+        (λ e. away (subst (λ (k : ℕ). Contains (from.node ∷ to.node ∷ []) k) (sym e)
+        (contains-rest from.node (to.node ∷ []) to.node (contains-first to.node []))))
+
+    no_process : (x : Name) → h.agent ≡ machine.Process x → Contains (from.node ∷ to.node ∷ []) x.node
+    no_process x is = let same : machine.Wire to ≡ machine.Process x = sym agent_is ∙ is in cc
+
+    housed3 : WereHoused plan (from.node ∷ to.node ∷ []) h.agent f.0 (machine_at plan m) m3.nodes.items (agents it)
+        m.lodgings.items
+    housed3 =
+        subst (λ (list : List machine.Agent). WereHoused plan (from.node ∷ to.node ∷ []) h.agent f.0
+        (machine_at plan m) m3.nodes.items list m.lodgings.items)
+        (sym (agents_same plan m m3 grow3 fits sent3 sinks3 kept3))
+        (were_housed plan f.0 m f.1 m3.nodes.items grow3 (from.node ∷ to.node ∷ []) stays_away h.agent no_process)
+
     found3 : AreFoundBefore plan from.node one.processes one.channels to.node two.processes two.channels it
     found3 =
         record {
@@ -307,6 +331,7 @@ module _ (plan : Plan) (m m1 m2 m3 : Machine) (number : ℕ) (from to : End) (n2
           noted = noted3 (Ok tt) p;
           led = led3 (Ok tt) p;
           fits = fits_on plan m m3 (grow3 (Ok tt) p) fits (sent3 (Ok tt) p) (sinks3 (Ok tt) p) (kept3 (Ok tt) p);
+          housed = housed3 (Ok tt) p;
         };
         found = found3 (Ok tt) p;
       }

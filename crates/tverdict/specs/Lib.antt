@@ -3,6 +3,8 @@
 pub mod Agents
 -- the numbers of places
 pub mod Numbers
+-- the berths of nodes
+pub mod Lodging
 -- what stands at the places of the whole machine
 pub mod Machines
 -- a step at a node as one of the whole machine

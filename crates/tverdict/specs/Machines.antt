@@ -27,6 +27,7 @@ use Rattle.tcertify.specs.declared.sink.Sink.{Sink}
 use Rattle.tverdict.specs.declared.agent.Agent.{Agent}
 use Rattle.tverdict.specs.declared.agent.Agent.TheVariants as agent
 use Rattle.tverdict.specs.Agents.{agent_of, HasChannel, HasProcess, IsThere}
+use Rattle.tverdict.specs.Lodging.{AreHoused}
 use Rattle.tverdict.specs.Numbers.{node_in, numbering}
 
 -- what a node has at a place, if there is the node
@@ -93,11 +94,13 @@ pub record IsSound (plan : Plan) (m : Machine) : Type 0 where
   pub kept_places : (k : ℕ) (s : Sink) → slice_get m.sinks.items k ≡ Some s
       → s.place ≡ m.first_script + (length plan.nodes + length plan.sources + k)
 
--- it has done these steps of a run, the last one first, and its state is the one to which they lead
+-- it has done these steps of a run, the last one first, its state is the one to which they lead, and the berths of its
+-- nodes have followed them
 pub record HasDone (plan : Plan) (m : Machine) (steps : List ProcessStep) : Type 0 where
   pub count : length steps ≡ m.done
   pub sound : IsSound plan m
   pub followed : IsFollowed plan (places m) (agents m) steps m.check (machine_at plan m)
+  pub housed : AreHoused plan steps m.nodes.items (agents m) m.lodgings.items
 
 -- it follows a run
 abbrev pub Follows : Plan → Machine → Type 0

@@ -12,6 +12,7 @@ use Rattle.tprocesses.specs.Parts.{Reason}
 use Rattle.tprocesses.specs.Machine as machine
 use Rattle.tprocesses.specs.Machine.{process_machine, sender_to, step_of}
 use Rattle.tprocesses.specs.Certified.{ProcessStep}
+use Rattle.tprocesses.specs.Lives.{TellsLives}
 use Rattle.tcertify.specs.declared.fault.Fault.{Fault}
 use Rattle.tcertify.specs.declared.fault.Fault.TheVariants as fault
 use Rattle.tcertify.specs.declared.lead.Lead.{Lead}
@@ -33,6 +34,7 @@ use Rattle.tverdict.specs.declared.agent.Agent.{Agent}
 use Rattle.tverdict.specs.declared.agent.Agent.TheVariants as agent
 use Rattle.tverdict.specs.declared.machine.Machine.{Machine}
 use Rattle.tverdict.specs.Agents.{agent_of, HasChannel, HasProcess, IsThere}
+use Rattle.tverdict.specs.Lodging.{WereHoused}
 use Rattle.tverdict.specs.Verdicts.{AreTellable}
 use Rattle.tverdict.specs.Machines.{AreNodesOf, agents, machine_at, places}
 
@@ -81,6 +83,8 @@ pub record IsUntold (plan : Plan) (number n : ℕ) (m : Machine) : Type 0 where
       → IsLed node (sights (step_of plan answered.agent) answered.state)
       (changes (step_of plan answered.agent) answered.state) l
   pub fits : Fits plan m
+  pub housed : WereHoused plan (n ∷ []) answered.agent answered.steps answered.state m.nodes.items (agents m)
+      m.lodgings.items
 
 -- the same where the node had this number of processes and channels before, and all agents were found
 pub record IsDone (plan : Plan) (number n processes channels : ℕ) (m : Machine) : Type 0 where
@@ -110,7 +114,7 @@ abbrev pub HasLead : List Node → ℕ → Lead → Type 0
 HasLead nodes n l = (node : Node) × (slice_get nodes n ≡ Some node) × Contains node.leads.items l
 
 -- the last step, which the agent of this number did at these nodes, is told to the check but not counted, and leads to
--- each other agent that a lead of one of the nodes names
+-- each other agent that a lead of one of the nodes names. The berths of nodes have not followed it
 pub record HasTold (plan : Plan) (number : ℕ) (at : List ℕ) (m : Machine) : Type 0 where
   pub step : ProcessStep
   pub earlier : List ProcessStep
@@ -120,6 +124,9 @@ pub record HasTold (plan : Plan) (number : ℕ) (at : List ℕ) (m : Machine) : 
   pub leads : (n : ℕ) (l : Lead) (a : Agent) → Contains at n → HasLead m.nodes.items n l → IsLedTo plan n l a
       → agent_of m.nodes.items a ≢ step.agent → leads_on plan step (agent_of m.nodes.items a) ≡ true
   pub fits : Fits plan m
+  pub before : State
+  pub tells : (n : ℕ) → TellsLives n step before (machine_at plan m)
+  pub housed : WereHoused plan at step.agent earlier before m.nodes.items (agents m) m.lodgings.items
 
 -- each agent that was there has its number still
 abbrev pub KeepsAgents : Machine → Machine → Type 0

@@ -1,6 +1,6 @@
 -- What the program says of a plan.
 -- Source: own choice.
-use Rattle.std.specs.Prelude.{ℕ, ◌≡◌, ◌≢◌, ◌≤◌, ◌&&◌, true, All, List, Some, length, slice_get}
+use Rattle.std.specs.Prelude.{ℕ, ◌≡◌, ◌≢◌, ◌≤◌, ◌<◌, ◌&&◌, true, false, All, List, Some, length, slice_get}
 use Rattle.std.specs.Prelude.{Bool, nat_le, not, int_le, pos, ◌+◌, Result, Ok, Err}
 use Rattle.tword.specs.Limits.{most_processes}
 use Rattle.tplan.specs.declared.plan.Plan.{Plan}
@@ -15,6 +15,7 @@ use Rattle.tcertify.specs.Running.{State}
 use Rattle.tcertify.specs.Words.{reason_of}
 use Rattle.tfollow.specs.Numbering.{HasNumber}
 use Rattle.tfollow.specs.Laws.{IsCertified, HasStopped, HasRace}
+use Rattle.tverdict.specs.declared.lodging.Lodging.{Lodging}
 use Rattle.tverdict.specs.declared.machine.Machine.{Machine}
 use Rattle.tverdict.specs.declared.halt.Halt.{Halt}
 use Rattle.tverdict.specs.declared.halt.Halt.TheVariants as halt
@@ -24,6 +25,7 @@ use Rattle.tverdict.specs.declared.verdict.Refusal.TheVariants as refusal
 use Rattle.tverdict.specs.declared.verdict.Verdict.{Verdict}
 use Rattle.tverdict.specs.declared.verdict.Verdict.TheVariants as verdict
 use Rattle.tverdict.specs.Agents.{IsThere}
+use Rattle.tverdict.specs.Lodging.{is_crowded}
 use Rattle.tverdict.specs.Machines.{machine_at, agents, Follows, HasStep}
 
 -- there is a run of as many steps as were done that is a certificate of the plan, so it is the only run, and the
@@ -69,7 +71,7 @@ IsStepped plan old agent (Err (halt.Stops why)) new = EndsStopped plan new agent
 IsStepped plan old agent (Err (halt.Race race)) new = EndsInRace plan new race
 IsStepped plan old agent (Err halt.OutOfMemory) new = Unit {0}
 
--- more processes than may be were at a node
+-- a node had more processes in all than may live there at the same time
 abbrev pub HadMany : State → ℕ → Type 0
 HadMany s n = int_le (amount_in (s (Population n))) (pos most_processes) ≢ true
 
@@ -84,6 +86,20 @@ had_many n = not (nat_le n.population most_processes)
 
 abbrev pub changed_flags : Node → Bool
 changed_flags n = n.is_flag_changed && n.has_run_high && n.has_run_low
+
+-- nothing is known of the berths of the node of this number
+abbrev pub is_crowded_at : List Lodging → ℕ → Bool
+is_crowded_at lodgings n = is_crowded (slice_get lodgings n)
+
+-- the node of this number did
+abbrev pub IsTooFull : List Node → ℕ → Type 0
+IsTooFull nodes n = (node : Node) × (slice_get nodes n ≡ Some node) × (had_many node ≡ true)
+
+-- of each of the first nodes that did, the berths are known
+abbrev pub HaveRoom : List Node → List Lodging → (count : ℕ) → Type 0
+HaveRoom nodes lodgings count =
+    (n : ℕ) (node : Node) → n < count → slice_get nodes n ≡ Some node → had_many node ≡ true
+    → is_crowded_at lodgings n ≡ false
 
 -- why a plan is refused
 abbrev pub IsRefusedBy : Plan → Machine → Refusal → Type 0

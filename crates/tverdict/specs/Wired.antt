@@ -20,7 +20,8 @@ use Rattle.tcertify.specs.Words.{reason_of}
 use Rattle.tverdict.specs.declared.finishing.Counts.{Counts}
 use Rattle.tverdict.specs.declared.machine.Machine.{Machine}
 use Rattle.tverdict.specs.Calls.{IsAfresh}
-use Rattle.tverdict.specs.Machines.{machine_at, places}
+use Rattle.tverdict.specs.Lodging.{WereHoused}
+use Rattle.tverdict.specs.Machines.{agents, machine_at, places}
 use Rattle.tverdict.specs.Passing.{HasSinkPlace, NodesGrow, NumbersMachine, notes_at}
 use Rattle.tverdict.specs.Stepping.{AreFoundBefore, Fits, IsAnswered}
 
@@ -83,6 +84,8 @@ pub record IsUntoldAt (plan : Plan) (number n o : ℕ) (others : Notes) (m : Mac
       → Contains node.leads.items l → IsLed node (sights (step_of plan answered.agent) answered.state)
       (changes (step_of plan answered.agent) answered.state) l
   pub fits : Fits plan m
+  pub housed : WereHoused plan (n ∷ o ∷ []) answered.agent answered.steps answered.state m.nodes.items (agents m)
+      m.lodgings.items
 
 -- the same where the two nodes had these numbers of processes and channels before, and all agents were found
 pub record IsDoneAt (plan : Plan) (number n processes channels o processes' channels' : ℕ) (others : Notes)

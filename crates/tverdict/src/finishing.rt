@@ -81,6 +81,7 @@ impl Machine {
         self.tell(number, node)?;
         self.find_new(number, node, before)?;
         self.lead_on(number, node)?;
+        self.lodge(number, node)?;
         self.close(number)?;
         Ok(())
     }

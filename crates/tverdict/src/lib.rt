@@ -16,6 +16,7 @@
 //! - `hints`: where to look first for an agent
 //! - `stepping`, `finishing`: the step of an agent, and what follows the call that does it
 //! - `passing`: the steps of wires
+//! - `lodging`: the berths of nodes, which their processes take by turns
 //! - `idle`: memories that lie idle
 #![tactic(auto)]
 
@@ -30,6 +31,7 @@ mod hints;
 mod idle;
 pub mod laws;
 mod leading;
+mod lodging;
 mod looks;
 mod machine;
 mod next;
@@ -46,6 +48,7 @@ pub use agent::Agent;
 pub use halt::Halt;
 pub use hints::AgentHints;
 pub use idle::Idle;
+pub use lodging::Lodging;
 pub use machine::Machine;
 pub use turn::Turn;
 pub use verdict::{Race, Refusal, Verdict};

@@ -3,6 +3,7 @@
 use crate::agent::Agent;
 use crate::hints::AgentHints;
 use crate::idle::Idle;
+use crate::lodging::Lodging;
 use tcertify::{Node, Sink};
 use tclocks::RaceCheck;
 use tnet::Wires;
@@ -21,6 +22,8 @@ pub struct Machine {
     /// Where an agent may be in the list.
     pub hints: AgentHints,
     pub check: RaceCheck,
+    /// The berths of each node.
+    pub lodgings: Vec<Lodging>,
     /// Numbers of agents that may have a step. Each may stand there more than once.
     pub candidates: Vec<u32>,
     /// The number of the place of a source or sink is this one and the number of its node.

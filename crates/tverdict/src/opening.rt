@@ -16,6 +16,7 @@ use crate::agent::Agent;
 use crate::finding::found_agents;
 use crate::hints::AgentHints;
 use crate::idle::Idle;
+use crate::lodging::first_lodgings;
 use crate::machine::Machine;
 use crate::planned::planned_wires;
 use std::alloc::{AllocError, Global};
@@ -202,6 +203,7 @@ impl Machine {
         let idle = Idle::new(alloc)?;
         let sent = vec![in alloc; 0; plan.sources.as_slice().len()]?;
         let sinks = empty_sinks(alloc, plan.sinks.as_slice(), first_sink)?;
+        let lodgings = first_lodgings(alloc, nodes.as_slice())?;
         let found = checked_agents(alloc, &wires, nodes.as_slice(), fresh_place)?;
         Ok(Machine {
             nodes,
@@ -211,6 +213,7 @@ impl Machine {
             agents: found.agents,
             hints: found.hints,
             check: found.check,
+            lodgings,
             candidates: found.candidates,
             first_script,
             fresh_place,

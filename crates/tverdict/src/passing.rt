@@ -212,6 +212,7 @@ impl Machine {
         self.find_new(number, other, before.1)?;
         self.lead_on(number, one)?;
         self.lead_on(number, other)?;
+        self.lodge_both(number, one, other)?;
         self.close(number)?;
         Ok(())
     }

@@ -64,9 +64,9 @@ impl Machine {
         Ok(Verdict::Cut)
     }
 
-    /// Goes on with the run, until no agent has a step, a step stops or has a race, a node has had more processes than
-    /// it may, or as many steps as permitted are done in all and an agent has one more. Where it was cut it goes on
-    /// with the same run, if it is called again.
+    /// Goes on with the run, until no agent has a step, a step stops or has a race, a node is too full, or as many
+    /// steps as permitted are done in all and an agent has one more. Where it was cut it goes on with the same run, if
+    /// it is called again.
     ///
     /// # Errors
     /// Those of `turn`.

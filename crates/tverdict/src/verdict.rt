@@ -22,7 +22,8 @@ pub struct Race {
 pub enum Refusal {
     /// The next step of the agent of this number stops.
     Stops { agent: u32, why: Stop },
-    /// More processes than may be were at this node.
+    /// This node had more processes in all than may live there at the same time, and not all of them are known to take
+    /// turns.
     TooManyProcesses { node: usize },
     /// A flag was changed at this node, where processes of both priorities ran.
     FlagsChanged { node: usize },

@@ -2,7 +2,8 @@ use Rattle.std.proofs.Common.{[], ◌∷◌}
 use Rattle.std.proofs.lemmas.Result.{err_from_is_err_and}
 use Rattle.tclocks.proofs.Lists.{contains-first}
 use Rattle.tverdict.proofs.Keeping.{more_twice}
-use Rattle.tverdict.proofs.Over.{finished, kept_closed, places_more, slot_there, untold_more}
+use Rattle.tverdict.proofs.Over.{agent_there, clock_there, finished, kept_closed, lodged_more, places_more}
+use Rattle.tverdict.proofs.Over.{slot_still, untold_more}
 use Rattle.tverdict.proofs.machine.Machine.finish.Goals as goal
 
 pub tell-requires : goal.tell-requires
@@ -36,6 +37,26 @@ lead_on-requires c =
     let told = c.in_ok-tell.ensures.ok plan u in
     (plan, n ∷ [], here, c.in_ok-find_new.ensures.keeps.told plan (n ∷ []) here told)
 
+pub lodge-requires-clause-agent : goal.lodge-requires-clause-agent
+lodge-requires-clause-agent c =
+    let (plan, done) = c.requires in let (count, adds) = c.in_ok-add_places.ensures in
+    let n = c.args.node in
+    let u = untold_more c.args.self.now c.add_places.new.self count adds plan c.args.number n done.untold in
+    let here = contains-first n [] in
+    let told = c.in_ok-tell.ensures.ok plan u in
+    agent_there plan c.args.number (n ∷ []) c.lead_on.new.self (c.in_ok-lead_on.ensures.told plan (n ∷ []) here
+    (c.in_ok-find_new.ensures.keeps.told plan (n ∷ []) here told))
+
+pub lodge-requires-clause-clock : goal.lodge-requires-clause-clock
+lodge-requires-clause-clock c =
+    let (plan, done) = c.requires in let (count, adds) = c.in_ok-add_places.ensures in
+    let n = c.args.node in
+    let u = untold_more c.args.self.now c.add_places.new.self count adds plan c.args.number n done.untold in
+    let here = contains-first n [] in
+    let told = c.in_ok-tell.ensures.ok plan u in
+    clock_there plan c.args.number (n ∷ []) c.lead_on.new.self (c.in_ok-lead_on.ensures.told plan (n ∷ []) here
+    (c.in_ok-find_new.ensures.keeps.told plan (n ∷ []) here told))
+
 pub close-requires : goal.close-requires
 close-requires c =
     let (plan, done) = c.requires in let (count, adds) = c.in_ok-add_places.ensures in
@@ -43,26 +64,29 @@ close-requires c =
     let u = untold_more c.args.self.now c.add_places.new.self count adds plan c.args.number n done.untold in
     let here = contains-first n [] in
     let told = c.in_ok-tell.ensures.ok plan u in
-    slot_there plan c.args.number (n ∷ []) c.lead_on.new.self (c.in_ok-lead_on.ensures.told plan (n ∷ []) here
-    (c.in_ok-find_new.ensures.keeps.told plan (n ∷ []) here told))
+    slot_still plan c.args.number (n ∷ []) c.lead_on.new.self c.lodge.new.self
+    (c.in_ok-lead_on.ensures.told plan (n ∷ []) here
+    (c.in_ok-find_new.ensures.keeps.told plan (n ∷ []) here told)) c.in_ok-lodge.ensures
 
 pub returns-clause-stepped : goal.returns-clause-stepped
 returns-clause-stepped c = λ plan done.
     let m = c.args.self.now in let number = c.args.number in let n = c.args.node in
     let (count, adds) = c.in_ok-add_places.ensures in let placed = c.add_places.new.self in
     finished plan number n c.args.before.processes c.args.before.channels m placed c.tell.new.self
-    c.find_new.new.self c.lead_on.new.self c.close.new.self done
+    c.find_new.new.self c.lead_on.new.self c.lodge.new.self c.close.new.self done
     (places_more m placed count adds) c.in_ok-tell.ensures.more
     (c.in_ok-tell.ensures.ok plan (untold_more m placed count adds plan number n done.untold))
     c.in_ok-find_new.ensures.keeps c.in_ok-find_new.ensures.processes c.in_ok-find_new.ensures.channels
-    c.in_ok-lead_on.ensures c.in_ok-close.ensures
+    c.in_ok-lead_on.ensures c.in_ok-lodge.ensures c.in_ok-close.ensures
 
 pub returns-clause-kept : goal.returns-clause-kept
 returns-clause-kept c =
     let m = c.args.self.now in let (count, adds) = c.in_ok-add_places.ensures in let placed = c.add_places.new.self in
-    let found = c.find_new.new.self in let led = c.lead_on.new.self in
-    kept_closed c.args.number m led c.close.new.self
+    let found = c.find_new.new.self in let led = c.lead_on.new.self in let lodged = c.lodge.new.self in
+    kept_closed c.args.number m lodged c.close.new.self
+    (more_twice m led lodged
     (more_twice m found led
     (more_twice m c.tell.new.self found
     (more_twice m placed c.tell.new.self (places_more m placed count adds) c.in_ok-tell.ensures.more)
-    c.in_ok-find_new.ensures.keeps.more) c.in_ok-lead_on.ensures.more) c.in_ok-close.ensures
+    c.in_ok-find_new.ensures.keeps.more) c.in_ok-lead_on.ensures.more)
+    (lodged_more c.args.number (c.args.node ∷ []) led lodged c.in_ok-lodge.ensures)) c.in_ok-close.ensures

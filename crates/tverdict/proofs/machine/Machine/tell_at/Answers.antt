@@ -26,6 +26,7 @@ returns-clause-ok c =
     ∙ ap (λ (ns : List Node). notes_or others (slice_get ns o)) c.as_slice-2.ensures.value in
     let one = (notes_at m others n).items.items in let other = (notes_at m others o).items.items in
     told_step plan c.args.number m u.answered u.fits check (n ∷ o ∷ []) (map told_of one ++ map told_of other)
+    u.housed
     (subst (λ (x : List Note). IsStep c.args.number (c.args.number ∷ []) (map told_of x ++ map told_of other) m.check
     check) (c.as_slice-3.ensures.value ∙ ap (λ (x : Notes). x.items.items) first)
     (subst (λ (x : List Note). IsStep c.args.number (c.args.number ∷ [])

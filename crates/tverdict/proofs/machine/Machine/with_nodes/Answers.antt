@@ -3,6 +3,7 @@ use Rattle.tplan.specs.declared.plan.SinkPlan.{SinkPlan}
 use Rattle.tplan.specs.declared.plan.SourcePlan.{SourcePlan}
 use Rattle.tplan.specs.declared.plan.Wire.{Wire}
 use Rattle.tcertify.specs.declared.node.Node.{Node}
+use Rattle.tverdict.specs.Lodging.{AreFirstLodgings}
 use Rattle.tverdict.specs.Opening.{AreAgents, AreEmpty, fresh_after}
 use Rattle.tverdict.proofs.Starting.{at_start}
 use Rattle.tverdict.proofs.machine.Machine.with_nodes.Goals as goal
@@ -25,6 +26,8 @@ returns-clause-start c =
     (c.in_ok-sent.ensures.items_if_clones_equal (λ y e. e)
     ∙ ap (λ (s : List SourcePlan). replicate (length s) 0) c.as_slice-2.ensures) c.requires.wires
     (subst (λ (w : List Wire). AreAgents w c.args.nodes.items found.agents.items) c.requires.wires
-    (subst (λ (n : List Node). AreAgents c.args.wires n found.agents.items) c.as_slice-4.ensures.value
+    (subst (λ (n : List Node). AreAgents c.args.wires n found.agents.items) c.as_slice-5.ensures.value
     c.in_ok-found.ensures.agents))
     c.in_ok-found.ensures.check c.in_ok-found.ensures.candidates c.in-Some.ensures.fits refl
+    (subst (λ (n : List Node). AreFirstLodgings n c.in_ok-lodgings.lodgings.items) c.as_slice-4.ensures.value
+    c.in_ok-lodgings.ensures)
