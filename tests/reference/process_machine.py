@@ -5,7 +5,7 @@ from memory import Break, Memory, Offer, require
 from net import Sink, Source
 from places import (DECREMENTS, FIRST_VALUES, LAST, REFUSALS, UNKNOWN, Act, Agent, AgentKind, Change, Context, Kind,
                     LinkHalf, Loan, Place, Standing, Status, Use, Word, cells_of)
-from processes import LOW, MOST_LIVE
+from processes import LOW
 from processor import Processor
 from words import IPTR, LOWEST, MODULUS, NEXT, NOT_PROCESS, STATE, workspace_of
 
@@ -407,7 +407,7 @@ class ProcessMachine:
     def __init__(self, net):
         self.net, self.values, self.ready = net, {}, {}
         self.sizes, self.kinds = [], []
-        self.flagged, self.priorities, self.names = set(), {}, {}
+        self.flagged, self.priorities = set(), {}
         for number, part in enumerate(net.parts):
             if isinstance(part, Source):
                 self.set(Place(Kind.MESSAGES, number), tuple(part.messages))
@@ -441,7 +441,6 @@ class ProcessMachine:
         self.values[place] = value
         if place.kind is Kind.STANDING and value.context:
             self.priorities.setdefault(place.node, set()).add(value.context.priority)
-            self.names.setdefault(place.node, set()).add(place.key)
         elif place.kind in (Kind.ERROR, Kind.HALTING):
             self.flagged.add(place.node)
         agent = self.agent_at(place)
@@ -499,11 +498,6 @@ class ProcessMachine:
         """Makes the changes of a step."""
         for place, value in step.after.items():
             self.set(place, value)
-
-    def crowding(self):
-        """Returns why a run ends in which too many processes have lived at a node, and the node, or None."""
-        crowded = [number for number, names in self.names.items() if len(names) > MOST_LIVE]
-        return ("TooManyProcesses", min(crowded)) if crowded else None
 
     def refusal(self):
         """Returns why a run that is over is not certified, and the node, or None."""

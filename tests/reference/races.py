@@ -3,6 +3,7 @@ section 17)."""
 import collections
 from typing import NamedTuple, Optional
 
+from berths import Berths
 from places import DECREMENTS, Act, Kind, Place, commute
 from process_machine import is_open
 
@@ -124,9 +125,9 @@ class Verdict(NamedTuple):
 
 
 def certify(machine, most, choose=lambda ready: next(iter(ready)), tell=lambda step: None):
-    """Runs the process machine with the check, up to its end, a race, a step that stops, too many processes at a node,
-    or `most` steps."""
-    check, number, own = RaceCheck(machine), 0, collections.Counter()
+    """Runs the process machine with the check, up to its end, a race, a step that stops, a process without a berth, or
+    `most` steps."""
+    check, berths, number, own = RaceCheck(machine), Berths(machine), 0, collections.Counter()
     while machine.ready:
         if number == most:
             return Verdict(number, refusal="Steps")
@@ -140,9 +141,10 @@ def certify(machine, most, choose=lambda ready: next(iter(ready)), tell=lambda s
         if race:
             return Verdict(number, race=race)
         tell(step)
+        has_berth = berths.follow(step, check.clocks[step.agent])
         machine.do(step)
         number += 1
-        if machine.crowding():
-            break
-    refusal, node = machine.crowding() or machine.refusal() or (None, None)
+        if not has_berth:
+            return Verdict(number, refusal="TooManyProcesses", at=step.agent.node)
+    refusal, node = machine.refusal() or (None, None)
     return Verdict(number, refusal=refusal, at=node)
