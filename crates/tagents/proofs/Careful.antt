@@ -1,11 +1,13 @@
--- Careful walkers keep the gates of others open: a change that may shut one is at a place that was seen shut.
-use Rattle.std.proofs.Common.{◌≡◌, ◌≢◌, refl, sym, ap, ◌∙◌, subst, true, false, List, [], ◌∷◌}
+-- Careful walkers keep the gates of others open: a change that may shut one is made where one gate of its agent was
+-- seen shut.
+use Rattle.std.proofs.Common.{◌≡◌, ◌≢◌, refl, sym, ap, ◌∙◌, subst, true, false, List, [], ◌∷◌, map}
 use Rattle.std.proofs.Common.{inl, inr, true≢false}
-use Rattle.tagents.specs.Walks.{Walk, looking, doing, Sight, Alteration, Label, Walkers, deed_of, value_after}
-use Rattle.tagents.specs.Tidy.{HoldsOfEach, IsGate, KeepGates, AreTold, WasShut, Spares, IsCareful}
+use Rattle.tagents.specs.Walks.{Walk, looking, doing, Sight, Alteration, Label, Walkers, sight, deed_of, value_after}
+use Rattle.tagents.specs.Tidy.{HoldsOfEach, IsGate, KeepGates, AreTold, WasShut, OneWasShut, Spares, IsCareful}
 use Rattle.tagents.specs.Tidy.{AreCareful, CarefulWalkersKeepGates}
 use Rattle.tagents.proofs.Fronted.{test}
-use Rattle.tagents.proofs.Walking.{IsStep, is_step, AreSeen}
+use Rattle.tagents.proofs.Found.{at_one, of_each, each_passes, all_pass}
+use Rattle.tagents.proofs.Walking.{IsStep, is_step, AreSeen, gates_seen}
 use Rattle.tagents.proofs.Apart.{made_at}
 
 module _ {Agent Place Value Change Kind Deed : Type 0} (w : Walkers Agent Place Value Change Kind Deed)
@@ -30,9 +32,14 @@ module _ {Agent Place Value Change Kind Deed : Type 0} (w : Walkers Agent Place 
       true≢false (sym is ∙ ap (w.is_open b p) (sym (all.0 ∙ ap s here.0)) ∙ here.1)
   not_shut s b p (x ∷ xs) all is (inr there) = not_shut s b p xs all.1 is there
 
-  -- none of these changes shuts the gate
+  none_shut : (s : Place → Value) (b : Agent) (seen : List (Sight Place Value)) → AreSeen w s seen
+      → HoldsOfEach (λ p. w.is_open b p (s p) ≡ true) (w.gates b) → OneWasShut w b seen → ⊥
+  none_shut s b seen all each one =
+      not_shut s b one.0 seen all (at_one (λ p. w.is_open b p (s p) ≡ true) one.0 (w.gates b) each one.1) one.2
+
+  -- none of these changes shuts a gate
   still_open : (a b : Agent) (p : Place) (seen : List (Sight Place Value)) (xs : List (Alteration Place Change))
-      → b ≢ a → IsGate w b p → (WasShut w b p seen → ⊥) → HoldsOfEach (Spares w a seen) xs → (v : Value)
+      → b ≢ a → IsGate w b p → (OneWasShut w b seen → ⊥) → HoldsOfEach (Spares w a seen) xs → (v : Value)
       → w.is_open b p v ≡ true → w.is_open b p (value_after w (made_at w told p xs) v) ≡ true
   still_open a b p seen [] other gate none spare v is = is
   still_open a b p seen (x ∷ xs) other gate none spare v is =
@@ -42,23 +49,28 @@ module _ {Agent Place Value Change Kind Deed : Type 0} (w : Walkers Agent Place 
             let after : w.is_open b p (w.apply x.change v) ≡ true =
             elim spare.0 as (λ _. w.is_open b p (w.apply x.change v) ≡ true) [
               | inl never ↦ never b p v gate is
-              | inr shut ↦ absurd (none (subst (λ (q : Place). WasShut w b q seen) there
-                  (shut b other (subst (λ (q : Place). IsGate w b q) (sym there) gate))))
+              | inr shut ↦ absurd (none (shut b other (subst (λ (q : Place). IsGate w b q) (sym there) gate)))
             ] in
             rw k (still_open a b p seen xs other gate none spare.1 (w.apply x.change v) after))
         | inr k ↦ rw k (still_open a b p seen xs other gate none spare.1 v is)
       ]
 
   pub keep_gates : (start : Place → Value) → AreCareful w → KeepGates w start
-  keep_gates start careful s s' e b p r d stops other gate is =
+  keep_gates start careful s s' e b r d stops other h =
       let k : IsStep w s s' e = is_step w s s' e d in
       let deed : deed_of (w.walk e.agent) s ≡ e.deed = ap (λ (x : Label Agent Place Value Deed). x.deed) k.label in
       let end : IsSparing s e.agent e.deed =
       subst (IsSparing s e.agent) deed
-      (at_the_end s e.agent [] (w.walk e.agent) tt (careful e.agent) (ap w.stops deed ∙ stops)) in
-      ap (λ (x : Place → Value). w.is_open b p (x p)) k.after
+      (at_the_end s e.agent (map (sight s) (w.gates e.agent)) (w.walk e.agent) (gates_seen w s (w.gates e.agent))
+      (careful e.agent s k.opened) (ap w.stops deed ∙ stops)) in
+      let each : HoldsOfEach (λ p. w.is_open b p (s p) ≡ true) (w.gates b) =
+      each_passes (λ p. w.is_open b p (s p)) (w.gates b) h in
+      all_pass (λ p. w.is_open b p (s' p)) (w.gates b)
+      (of_each (λ p. w.is_open b p (s' p) ≡ true) (w.gates b)
+      (λ p gate. ap (λ (x : Place → Value). w.is_open b p (x p)) k.after
       ∙ still_open e.agent b p end.seen (w.changes e.deed) (λ q. other (sym q)) gate
-      (not_shut s b p end.seen end.all is) end.spare (s p) is
+      (none_shut s b end.seen end.all each) end.spare (s p)
+      (at_one (λ p. w.is_open b p (s p) ≡ true) p (w.gates b) each gate)))
 
 module _ {Agent Place Value Change Kind Deed : Type 0} (w : Walkers Agent Place Value Change Kind Deed) where
   -- whatever was seen shut by these sights was by those
@@ -85,7 +97,7 @@ module _ {Agent Place Value Change Kind Deed : Type 0} (w : Walkers Agent Place 
       each (x ∷ xs) k = (
         elim k.0 as (λ _. Spares w a more x) [
           | inl never ↦ inl never
-          | inr shut ↦ inr (λ b other gate. by b x.place (shut b other gate))
+          | inr shut ↦ inr (λ b other gate. let one = shut b other gate in (one.0, one.1, by b one.0 one.2))
         ],
         each xs k.1,
       )

@@ -1,14 +1,14 @@
 -- The family is tidy.
 use Rattle.std.proofs.Common.{ℕ, zero, suc, ◌+◌, ◌≡◌, ◌≢◌, refl, sym, ap, ◌∙◌, true, false, List, [], ◌∷◌}
-use Rattle.std.proofs.Common.{inl, inr, true≢false, arith}
-use Rattle.tagents.specs.Walks.{Sight, doing, looking}
-use Rattle.tagents.specs.Tidy.{IsGate, AreTold, AreTidy, WasShut, IsCareful, AreCareful}
+use Rattle.std.proofs.Common.{inl, inr, true≢false, arith, map}
+use Rattle.tagents.specs.Walks.{Sight, doing, looking, sight}
+use Rattle.tagents.specs.Tidy.{IsGate, AreTold, AreTidy, OneWasShut, IsCareful}
 use Rattle.tagents.specs.Family.{Member, Parent, First, Second, Successor, Spot, Standing, Count, Total, Content}
 use Rattle.tagents.specs.Family.{Absent, Ready, Done, Remaining, Amount, Spoilt, Change, Put, CountDown, Add, Start}
 use Rattle.tagents.specs.Family.{same_member, same_spot, opens, changed_content, kind_of_change}
 use Rattle.tagents.specs.Family.{kinds_commute, awakens_with, family, at_start, if_absent, conclude, if_none_remains}
 use Rattle.tagents.specs.Family.{saw}
-use Rattle.tagents.proofs.Careful.{keep_gates}
+use Rattle.tagents.proofs.Careful.{keep_gates, careful_after}
 
 is_same : (a b : Member) → same_member a b ≡ true → a ≡ b
 is_same Parent Parent h = refl
@@ -138,15 +138,18 @@ total_of b (inr h) = h
 
 -- a member's own standing is nobody else's gate
 own : (a b : Member) (seen : List (Sight Spot Content)) → b ≢ a → IsGate family b (Standing a)
-    → WasShut family b (Standing a) seen
+    → OneWasShut family b seen
 own a b seen other gate = absurd (other (standing_of b a gate))
 
 -- the parent starts children that it saw absent; who gives up changes nothing
 second_absent : (v : Content) → IsCareful family Parent (saw (Standing Second) v ∷ saw (Standing First) Absent ∷ [])
     (if_absent (doing Start) v)
 second_absent Absent = λ h. (
-  inr (λ b other gate. inr (inl (refl, refl))),
-  (inr (λ b other gate. inl (refl, refl)), (inr (λ b other gate. own Parent b seen other gate), tt)),
+  inr (λ b other gate. (Standing First, gate, inr (inl (refl, refl)))),
+  (
+    inr (λ b other gate. (Standing Second, gate, inl (refl, refl))),
+    (inr (λ b other gate. own Parent b seen other gate), tt),
+  ),
 )
   where
     seen : List (Sight Spot Content)
@@ -187,7 +190,7 @@ none_remains Done = λ h. tt
 none_remains (Amount n) = λ h. tt
 none_remains Spoilt = λ h. tt
 
-careful : AreCareful family
+careful : (a : Member) → IsCareful family a [] (family.walk a)
 careful Parent = first_absent
 careful First = λ h. (
   inr (λ b other gate. own First b [] other gate),
@@ -199,11 +202,16 @@ careful Second = λ h. (
 )
 careful Successor = none_remains
 
+-- the sights of gates change nothing of that
+seen_more : (a : Member) (s : Spot → Content) → IsCareful family a (map (sight s) (family.gates a)) (family.walk a)
+seen_more a s =
+    careful_after family a [] (map (sight s) (family.gates a)) (family.walk a) (λ b p was. absurd was) (careful a)
+
 pub tidy : AreTidy family at_start
 tidy =
     record {
       told = told;
       commute = commute;
       awaken = λ c b p v gate h. awaken c v h;
-      keep = keep_gates family told at_start careful;
+      keep = keep_gates family told at_start (λ a s h. seen_more a s);
     }

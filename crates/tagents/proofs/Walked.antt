@@ -1,17 +1,17 @@
 -- Tidy walkers are a lawful machine.
-use Rattle.std.proofs.Common.{◌≡◌, ◌≢◌, refl, sym, ap, ◌∙◌, true, false, ◌&&◌, ◌||◌, not}
+use Rattle.std.proofs.Common.{◌≡◌, refl, sym, ap, ◌∙◌, true, false, ◌&&◌, ◌||◌, not}
 use Rattle.std.proofs.Common.{List, [], ◌∷◌, inl, inr, true≢false}
 use Rattle.std.proofs.lemmas.Bool.{and_parts, or_parts, or_cases, or_left, or_right, not-true}
 use Rattle.std.specs.List.{list_any}
 use Rattle.tagents.specs.Agents.{Does}
-use Rattle.tagents.specs.Certificates.{IsReached, IsLawful}
+use Rattle.tagents.specs.Certificates.{IsLawful}
 use Rattle.tagents.specs.Frames.{Frame, IsFramed, AreQuiet, IsFramedMachine}
 use Rattle.tagents.specs.Walks.{Sight, Label, Walkers, changes_at, value_after, state_after, are_at_odds}
 use Rattle.tagents.specs.Walks.{disturbs, steps_clash, are_open, label_of, deed_of, was_shut, has_awoken, was_opened}
 use Rattle.tagents.specs.Walks.{agents_of}
 use Rattle.tagents.specs.Tidy.{HoldsOfEach, IsGate, AreTidy, WalkersAreLawful}
 use Rattle.tagents.proofs.Framed.{lawful}
-use Rattle.tagents.proofs.Found.{IsFound, found, at_one, of_each, each_passes, all_pass}
+use Rattle.tagents.proofs.Found.{IsFound, found, at_one, each_passes}
 use Rattle.tagents.proofs.Walking.{is_step, has_step, all_seen, Agrees, has_it_again}
 use Rattle.tagents.proofs.Apart.{same_self, has_seen, leaves, come_to_same}
 
@@ -54,17 +54,6 @@ module _ {Agent Place Value Change Kind Deed : Type 0} (w : Walkers Agent Place 
         second = λ p v see. leaves w tidy.told f e l.1 p v see;
         commute = λ p v. come_to_same w tidy.told (λ c d same v. tidy.commute c d v same) p e f k.1 v;
       }
-
-  -- the gates of an agent stay open over another agent's step
-  stay_open : (s s1 : State) (e : Step) (b : Agent) → IsReached (agents_of w) start s → Does (agents_of w) s e s1
-      → w.stops e.deed ≡ false → e.agent ≢ b → are_open w b s ≡ true → are_open w b s1 ≡ true
-  stay_open s s1 e b r d stops other h =
-      let each : HoldsOfEach (λ p. w.is_open b p (s p) ≡ true) (w.gates b) =
-      each_passes (λ p. w.is_open b p (s p)) (w.gates b) h in
-      all_pass (λ p. w.is_open b p (s1 p)) (w.gates b)
-      (of_each (λ p. w.is_open b p (s1 p) ≡ true) (w.gates b)
-      (λ p gate. tidy.keep s s1 e b p r d stops other gate
-      (at_one (λ p. w.is_open b p (s p) ≡ true) p (w.gates b) each gate)))
 
   -- a value that was awoken was shut before
   awoken : (cs : List Change) (v : Value) (b : Agent) (p : Place) → IsGate w b p
@@ -130,7 +119,7 @@ module _ {Agent Place Value Change Kind Deed : Type 0} (w : Walkers Agent Place 
           label = label_of w f.agent s1;
           after = state_after w (deed_of (w.walk f.agent) s1) s1;
           same = refl;
-          does = has_step w f.agent s1 (stay_open s s1 e f.agent r d1 stops d (is_step w s s2 f d2).opened);
+          does = has_step w f.agent s1 (tidy.keep s s1 e f.agent r d1 stops d (is_step w s s2 f d2).opened);
         };
         waits = λ s s1 s2 s3 e f g r d d1 d2 stops q d3 leads. had_none s s1 s2 s3 e f g d1 d2 q d3 leads;
       }

@@ -57,7 +57,7 @@ module _ {Agent Place Value Change Kind Deed : Type 0} (w : Walkers Agent Place 
   abbrev pub AreSeen : State → List (Sight Place Value) → Type 0
   AreSeen s seen = HoldsOfEach (λ x. x.value ≡ s x.place) seen
 
-  gates_seen : (s : State) (ps : List Place) → AreSeen s (map (sight s) ps)
+  pub gates_seen : (s : State) (ps : List Place) → AreSeen s (map (sight s) ps)
   gates_seen s [] = tt
   gates_seen s (p ∷ ps) = (refl, gates_seen s ps)
 

@@ -1,9 +1,9 @@
 -- What has to be known of walkers, so that one run without races tells of all runs.
 -- Source: own choice.
-use Rattle.std.specs.Prelude.{◌≡◌, ◌≢◌, ◌⊎◌, true, false, List, [], ◌∷◌}
+use Rattle.std.specs.Prelude.{◌≡◌, ◌≢◌, ◌⊎◌, true, false, List, [], ◌∷◌, map}
 use Rattle.tagents.specs.Agents.{Does}
 use Rattle.tagents.specs.Certificates.{IsReached, IsLawful}
-use Rattle.tagents.specs.Walks.{Walk, looking, doing, Sight, Alteration, Label, Walkers, agents_of}
+use Rattle.tagents.specs.Walks.{Walk, looking, doing, Sight, Alteration, Label, Walkers, sight, are_open, agents_of}
 
 -- it is one of these
 abbrev pub IsOneOf : {X : Type 0} → X → List X → Type 0
@@ -20,12 +20,12 @@ module _ {Agent Place Value Change Kind Deed : Type 0} (w : Walkers Agent Place 
   abbrev pub IsGate : Agent → Place → Type 0
   IsGate b p = IsOneOf p (w.gates b)
 
-  -- wherever a run leads, a step that does not stop leaves each gate of another agent open that was open
+  -- wherever a run leads, a step that does not stop leaves all gates of another agent open if all were open
   abbrev pub KeepGates : (Place → Value) → Type 0
   KeepGates start =
-      (s s' : Place → Value) (e : Label Agent Place Value Deed) (b : Agent) (p : Place)
-      → IsReached (agents_of w) start s → Does (agents_of w) s e s' → w.stops e.deed ≡ false → e.agent ≢ b → IsGate b p
-      → w.is_open b p (s p) ≡ true → w.is_open b p (s' p) ≡ true
+      (s s' : Place → Value) (e : Label Agent Place Value Deed) (b : Agent) → IsReached (agents_of w) start s
+      → Does (agents_of w) s e s' → w.stops e.deed ≡ false → e.agent ≢ b → are_open w b s ≡ true
+      → are_open w b s' ≡ true
 
   -- whether agents or places are the same is told
   pub record AreTold : Type 0 where
@@ -55,19 +55,23 @@ module _ {Agent Place Value Change Kind Deed : Type 0} (w : Walkers Agent Place 
   WasShut b p [] = ⊥
   WasShut b p (x ∷ xs) = ((x.place ≡ p) × (w.is_open b p x.value ≡ false)) ⊎ WasShut b p xs
 
-  -- a change shuts no gate, or is at a place that was seen shut to each other agent whose gate it is
+  -- one of the gates of an agent was seen shut
+  abbrev pub OneWasShut : Agent → List (Sight Place Value) → Type 0
+  OneWasShut b seen = (q : Place) × IsGate b q × WasShut b q seen
+
+  -- a change shuts no gate, or one gate was seen shut of each other agent whose gate the place is
   abbrev pub Spares : Agent → List (Sight Place Value) → Alteration Place Change → Type 0
-  Spares a seen x =
-      NeverShuts x.change ⊎ ((b : Agent) → b ≢ a → IsGate b x.place → WasShut b x.place seen)
+  Spares a seen x = NeverShuts x.change ⊎ ((b : Agent) → b ≢ a → IsGate b x.place → OneWasShut b seen)
 
   -- a walk, after some sights, ends with a deed that stops, or of which each change spares the gates of others
   abbrev pub IsCareful : Agent → List (Sight Place Value) → Walk Place Value Deed → Type 0
   IsCareful a seen (looking p next) = (v : Value) → IsCareful a (record { place = p; value = v } ∷ seen) (next v)
   IsCareful a seen (doing d) = w.stops d ≡ false → HoldsOfEach (Spares a seen) (w.changes d)
 
-  -- the same holds for the step of each agent
+  -- the same holds for the step of each agent, once all its gates were seen open
   abbrev pub AreCareful : Type 0
-  AreCareful = (a : Agent) → IsCareful a [] (w.walk a)
+  AreCareful =
+      (a : Agent) (s : Place → Value) → are_open w a s ≡ true → IsCareful a (map (sight s) (w.gates a)) (w.walk a)
 
 -- tidy walkers are a machine of which a run without races is a certificate
 abbrev pub WalkersAreLawful : (Agent Place Value Change Kind Deed : Type 0) → Type 0

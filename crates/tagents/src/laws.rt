@@ -159,13 +159,13 @@ pub fn meeting_is_certified()
 {}
 
 /// Of walkers it is enough to know that some changes have the same result in both orders, that what a change awakens
-/// was shut, and that no step shuts an open gate of another agent.
+/// was shut, and that no step shuts a gate of another agent whose gates are all open.
 pub fn walkers_are_lawful<Agent, Place, Value, Change, Kind, Deed>()
     ensures { WalkersAreLawful Agent Place Value Change Kind Deed }
 {}
 
-/// No step shuts an open gate of another agent, if each walk changes such a place only in ways that shut nothing, or
-/// after it has seen it shut.
+/// No step shuts a gate of another agent whose gates are all open, if each walk, once the agent's own gates were seen
+/// open, changes a gate only in ways that shut nothing, or where one gate of each other agent that has it was seen shut.
 pub fn careful_walkers_keep_gates<Agent, Place, Value, Change, Kind, Deed>()
     ensures { CarefulWalkersKeepGates Agent Place Value Change Kind Deed }
 {}
