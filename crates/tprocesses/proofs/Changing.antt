@@ -6,8 +6,9 @@ use Rattle.std.proofs.lemmas.Bool.{eqb-true}
 use Rattle.tword.specs.Stores.{Store}
 use Rattle.tplan.specs.declared.plan.Plan.{Plan}
 use Rattle.tprocesses.specs.Places.{Place, LinkHalf, Messages, Kept}
-use Rattle.tprocesses.specs.Values.{Use, Free, Saved, Receiving, Engaged, Last, Spoilt, Word, Value, IsWord}
-use Rattle.tprocesses.specs.Values.{IsStand, IsHalf, IsLink, IsFlag, IsAmount, IsCount, AreMessages, AreKept}
+use Rattle.tprocesses.specs.Values.{Use, Free, Saved, Receiving, Engaged, Choosing}
+use Rattle.tprocesses.specs.Values.{Awaiting, Last, Spoilt, Word, Value, IsWord}
+use Rattle.tprocesses.specs.Values.{IsStand, IsHalf, IsLink, IsFlag, IsAmount, IsCount, ArePorts, AreMessages, AreKept}
 use Rattle.tprocesses.specs.Changes.{Change, Engage, Decrement, Add, Raise, apply, kind_of, commute, awakens}
 use Rattle.tprocesses.specs.Changes.{engaged, decremented, is_last}
 use Rattle.tprocesses.specs.Machine.{Agent, Process, Channel, Wire, Successor, awaits_successor, sender_to}
@@ -28,6 +29,7 @@ add_twice z x (IsHalf h) = refl
 add_twice z x (IsLink l) = refl
 add_twice z x (IsFlag b) = refl
 add_twice z x (IsCount n) = refl
+add_twice z x (ArePorts channels) = refl
 add_twice z x (AreMessages m) = refl
 add_twice z x (AreKept r m) = refl
 
@@ -49,6 +51,8 @@ counted_from priority Free cells h = refl
 counted_from priority Saved cells h = refl
 counted_from priority Receiving cells h = refl
 counted_from priority Engaged cells h = refl
+counted_from priority Choosing cells h = refl
+counted_from priority Awaiting cells h = refl
 counted_from priority (Last p) cells h = absurd (true≢false (sym h))
 counted_from priority Spoilt cells h = absurd (true≢false (sym h))
 
@@ -101,6 +105,8 @@ engaged_stays Free cells h = absurd (true≢false (sym h))
 engaged_stays Saved cells h = refl
 engaged_stays Receiving cells h = refl
 engaged_stays Engaged cells h = h
+engaged_stays Choosing cells h = refl
+engaged_stays Awaiting cells h = refl
 engaged_stays (Last p) cells h = refl
 engaged_stays Spoilt cells h = refl
 
@@ -110,6 +116,8 @@ decremented_stays r Free cells h = absurd (true≢false (sym h))
 decremented_stays r Saved cells h = refl
 decremented_stays r Receiving cells h = refl
 decremented_stays r Engaged cells h = refl
+decremented_stays r Choosing cells h = refl
+decremented_stays r Awaiting cells h = refl
 decremented_stays r (Last p) cells h = refl
 decremented_stays r Spoilt cells h = refl
 

@@ -1,7 +1,7 @@
 -- Whose gate each place is.
 use Rattle.std.proofs.Common.{◌≡◌, ℕ, refl, sym, ap, ◌∙◌, subst, Bool, true, false, inl, inr, true≢false, Option}
 use Rattle.std.proofs.Common.{Some, None}
-use Rattle.std.specs.Prelude.{if◌then◌else◌, is_none, is_some}
+use Rattle.std.specs.Prelude.{if◌then◌else◌, is_some}
 use Rattle.tproc.specs.declared.channels.Side.{Side}
 use Rattle.tproc.specs.declared.channels.Side.TheVariants.{Input, Output}
 use Rattle.tplan.specs.declared.plan.End.{End}
@@ -10,14 +10,15 @@ use Rattle.tplan.specs.Wires.{same_end, far_end}
 use Rattle.tplan.specs.Wires.{all_wires}
 use Rattle.tplan.proofs.Ends.{same_end-true}
 use Rattle.tagents.specs.Tidy.{IsOneOf, IsGate}
-use Rattle.tprocesses.specs.Places.{Name, Place, WordAt, Standing, Half, LinkHalf, Error, HaltOnError, Successions}
-use Rattle.tprocesses.specs.Places.{Messages, Kept}
+use Rattle.tprocesses.specs.Places.{Name, Place, WordAt, Standing, Ports, Half, LinkHalf, Error, HaltOnError}
+use Rattle.tprocesses.specs.Places.{Successions, Messages, Kept}
 use Rattle.tprocesses.specs.Values.{Value, IsStand, IsHalf, IsLink, stand_in, half_in, link_in}
 use Rattle.tprocesses.specs.Machine.{Agent, Process, Channel, Wire, Successor, Role, Processor, Source, Sink}
 use Rattle.tprocesses.specs.Machine.{Nothing, offer_place, take_place, if_joined, joined_to, sender_to}
-use Rattle.tprocesses.specs.Machine.{gates_between, role_at, is_ready, is_offered, is_open, process_machine}
+use Rattle.tprocesses.specs.Machine.{gates_between, role_at, is_ready, is_offered, is_met_at, is_open, process_machine}
+use Rattle.tprocesses.specs.Choosing.{is_taken}
 use Rattle.tprocesses.proofs.Changing.{shut_wire}
-use Rattle.tprocesses.proofs.Safe.{Seen, Shut, IsShutTo}
+use Rattle.tprocesses.proofs.Safe.{Seen, Shut, Tells, IsShutTo}
 
 -- a place at which a wire may wait
 is_wire_place : Place → Bool
@@ -299,6 +300,10 @@ module _ (p : Plan) where
   unfolding may_be_gate
   halting_is_free a n seen = nobodys a (HaltOnError n) seen refl
 
+  pub ports_are_free : (a : Agent) (x : Name) (seen : Seen) → Shut p a (Ports x) seen
+  unfolding may_be_gate
+  ports_are_free a x seen = nobodys a (Ports x) seen refl
+
   pub successions_are_free : (a : Agent) (n w : ℕ) (seen : Seen) → Shut p a (Successions n w) seen
   unfolding may_be_gate
   successions_are_free a n w seen = nobodys a (Successions n w) seen refl
@@ -313,15 +318,24 @@ module _ (p : Plan) where
   standing_shut a x v h b gate =
       ap (λ (c : Agent). is_open p c (Standing x) v) (standing_gate b x gate) ∙ process_shut x (Standing x) v h
 
-  channel_shut : (n c : ℕ) (q : Place) (v : Value) → is_none (half_in v) ≡ true → is_open p (Channel n c) q v ≡ false
-  channel_shut n c q (IsHalf None) h = refl
-  channel_shut n c q (IsHalf (Some r)) h = absurd (true≢false (sym h))
-  channel_shut n c q _ h = refl
+  channel_shut : (n c : ℕ) (q : Place) (v : Value) → is_met_at q (half_in v) ≡ false
+      → is_open p (Channel n c) q v ≡ false
+  channel_shut n c q (IsHalf h) k = k
+  channel_shut n c q _ k = refl
 
-  pub half_shut : (a : Agent) (n c : ℕ) (s : Side) (v : Value) → is_none (half_in v) ≡ true
+  pub half_shut : (a : Agent) (n c : ℕ) (s : Side) (v : Value) → is_met_at (Half n c s) (half_in v) ≡ false
       → IsShutTo p a (Half n c s) v
   half_shut a n c s v h b gate =
       ap (λ (d : Agent). is_open p d (Half n c s) v) (half_gate b n c s gate) ∙ channel_shut n c (Half n c s) v h
+
+  -- a channel is shut where no message is sent on it
+  pub silent_shut : (a : Agent) (n c : ℕ) (v : Value) (t : Seen) → is_taken (half_in v) ≡ false
+      → Tells p a (Half n c Output) v t → Shut p a (Half n c Input) t
+  silent_shut a n c v t h tells b other gate =
+      let output : IsGate (process_machine p) b (Half n c Output) =
+      subst (λ (d : Agent). IsGate (process_machine p) d (Half n c Output)) (sym (half_gate b n c Input gate))
+      (inr (inl refl)) in
+      tells b other output (half_shut a n c Output v h b output)
 
   wire_shut : (e f : End) (s : Side) (v : Value) → is_offered (link_in v) ≡ false
       → is_open p (Wire e) (LinkHalf f s) v ≡ false

@@ -12,11 +12,13 @@ mod SafeTouches
 mod Gates
 -- the steps of agents
 mod SafeParts
+mod SafeChoices
 mod SafeMessages
 mod SafeSteps
 -- what steps begin and end
 mod Quiet
 mod Plain
+mod PlainChoices
 pub mod Leaving
 pub mod Tally
 pub mod StepsTallied

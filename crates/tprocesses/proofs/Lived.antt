@@ -10,7 +10,7 @@ use Rattle.tagents.specs.Agents.{Does}
 use Rattle.tagents.specs.Walks.{are_open}
 use Rattle.tagents.proofs.Walking.{is_step}
 use Rattle.tprocesses.specs.Places.{Place, Name, Standing, Population, same_name, same_place}
-use Rattle.tprocesses.specs.Values.{Value, Stand, Rests, Runs, Ended, IsStand, stand_in, amount_in, IsAmount}
+use Rattle.tprocesses.specs.Values.{Value, Stand, Rests, Runs, Chosen, Ended, IsStand, stand_in, amount_in, IsAmount}
 use Rattle.tprocesses.specs.Changes.{Change, Put, apply}
 use Rattle.tprocesses.specs.Parts.{Changed, made}
 use Rattle.tprocesses.specs.Standing.{is_absent}
@@ -118,6 +118,7 @@ record IsThere (v : Value) : Type 0 where
 ready_is_there : (p : Plan) (x : Name) (v : Value) → (is_open p (Process x) (Standing x) v && true) ≡ true → IsThere v
 ready_is_there p x (IsStand (Rests c)) h = record { present = refl; lives = refl }
 ready_is_there p x (IsStand (Runs c)) h = record { present = refl; lives = refl }
+ready_is_there p x (IsStand (Chosen c)) h = record { present = refl; lives = refl }
 ready_is_there p x _ h = absurd (true≢false (sym h))
 
 has_not_ended : (stand : Stand) → is_ended stand ≡ false → stand ≢ Ended

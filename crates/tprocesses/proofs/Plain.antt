@@ -1,6 +1,6 @@
 -- Parts of steps that begin and end no process, and move none to another workspace.
 use Rattle.std.proofs.Common.{ℕ, zero, suc, refl, [], ◌∷◌, Bool, true, false, Option, Some, None}
-use Rattle.std.specs.Prelude.{negsuc, ◌==◌, not, nat_le, length, slice_get, is_none, if◌then◌else◌}
+use Rattle.std.specs.Prelude.{negsuc, ◌==◌, not, nat_le, length, slice_get, if◌then◌else◌}
 use Rattle.tword.specs.declared.breaks.Break.TheVariants.{Unaligned, WrongEnd, ZeroLength, LinkBusy, LengthMismatch}
 use Rattle.tword.specs.declared.breaks.Break.TheVariants.{ChannelMisuse}
 use Rattle.tword.specs.declared.span.Span.{Span}
@@ -15,14 +15,15 @@ use Rattle.tplan.specs.declared.plan.NodePlan.{NodePlan}
 use Rattle.tplan.specs.declared.plan.Plan.{Plan}
 use Rattle.tprocesses.specs.Places.{Name}
 use Rattle.tprocesses.specs.Values.{Value, Free, Receiving, Engaged, Context, Lent, Stand, Absent, Rests, Runs, Waits}
-use Rattle.tprocesses.specs.Values.{Ended, Request, Link, Empty, Offered, Copied, AreMessages, AreKept, stand_in}
+use Rattle.tprocesses.specs.Values.{Chooses, Chosen, Ended, Request, Link, Offered, AreMessages}
+use Rattle.tprocesses.specs.Values.{AreKept, stand_in}
 use Rattle.tprocesses.specs.Values.{half_in, link_in, flag_in}
 use Rattle.tprocesses.specs.Parts.{Part, stopping, require, unless, Breaks, Halts, FullSink, HasNoStep, ◌>>=◌}
 use Rattle.tprocesses.specs.Touching.{Site, word_number, word_count, word_for, words_for, unsent, touch, replaced, put}
 use Rattle.tprocesses.specs.Touching.{count_outputs, write_word_at, save, forgotten, kept}
 use Rattle.tprocesses.specs.Performing.{copied}
 use Rattle.tprocesses.specs.Standing.{known, ready, wakes, unsave, is_copied, takes_back, resumes}
-use Rattle.tprocesses.specs.ChannelMessages.{takes_half, meet, meet_if, channel_step}
+use Rattle.tprocesses.specs.ChannelMessages.{is_nobody, takes_half, meet}
 use Rattle.tprocesses.specs.LinkMessages.{is_empty, lends, takes_link, sent_by, node_sends, first_message, received_by}
 use Rattle.tprocesses.specs.LinkMessages.{node_receives, keeps}
 use Rattle.tprocesses.specs.Scheduling.{communicates, sends_or_receives, sends_from_workspace, laid_down}
@@ -44,10 +45,11 @@ andthen part f h k = both IsPlain part f h k
 pub plain : {A : Type 0} (part : Part A) → Quiet part → Plain part
 plain part h = widen IsQuiet IsPlain part quiet_is_plain h
 
-quietly : {A B : Type 0} (part : Part A) (f : A → Part B) → Quiet part → ((x : A) → Plain (f x)) → Plain (part >>= f)
+pub quietly : {A B : Type 0} (part : Part A) (f : A → Part B) → Quiet part → ((x : A) → Plain (f x))
+    → Plain (part >>= f)
 quietly part f h k = andthen part f (plain part h) k
 
-chooses : {A : Type 0} (b : Bool) (x y : Part A) → Plain x → Plain y → Plain (if b then x else y)
+pub chooses : {A : Type 0} (b : Bool) (x y : Part A) → Plain x → Plain y → Plain (if b then x else y)
 chooses true x y h k = h
 chooses false x y h k = k
 
@@ -56,6 +58,8 @@ readies Absent x lent = tt
 readies (Rests c) x lent = tt
 readies (Runs c) x lent = tt
 readies (Waits c) x lent = (tt, tt)
+readies (Chooses c) x lent = tt
+readies (Chosen c) x lent = tt
 readies Ended x lent = tt
 
 wake : (x : Name) (lent : Option Lent) → Plain (wakes x lent)
@@ -78,8 +82,8 @@ take_half : (s : Site) (x : Name) (c : Context) (side : Side) (channel : ℕ) (b
     → Plain (takes_half s x c side channel buffer)
 take_half s x c side channel buffer =
     quietly (unless (word_place_break s.size channel)) _ (unlesses (word_place_break s.size channel))
-    (λ y half. quietly (require (is_none (half_in half)) (Breaks ChannelMisuse)) _
-    (requires (is_none (half_in half)) (Breaks ChannelMisuse))
+    (λ y half. quietly (require (is_nobody (half_in half)) (Breaks ChannelMisuse)) _
+    (requires (is_nobody (half_in half)) (Breaks ChannelMisuse))
     (λ z. (
       tt,
       quietly (unsent s (word_number channel)) _ (unsents s (word_number channel))
@@ -87,7 +91,7 @@ take_half s x c side channel buffer =
           (λ v. (tt, quietly (touch s (mode_of side) buffer) _ (touches s (mode_of side) buffer) (λ words. (tt, tt))))),
     )))
 
-meets : (s : Site) (channel : ℕ) (input output : Request) → Plain (meet s channel input output)
+pub meets : (s : Site) (channel : ℕ) (input output : Request) → Plain (meet s channel input output)
 meets s channel input output =
     quietly (require (input.buffer.size == output.buffer.size) (Breaks LengthMismatch)) _
     (requires (input.buffer.size == output.buffer.size) (Breaks LengthMismatch))
@@ -98,14 +102,6 @@ meets s channel input output =
           (λ u. andthen (wakes input.process None) _ (wake input.process None)
           (λ v. andthen (wakes output.process None) _ (wake output.process None) (λ w. (tt, (tt, tt))))),
     )))
-
-meets_if : (s : Site) (channel : ℕ) (input output : Option Request) → Plain (meet_if s channel input output)
-meets_if s channel (Some input) (Some output) = meets s channel input output
-meets_if s channel (Some input) None = tt
-meets_if s channel None output = tt
-
-pub channels : (channel : ℕ) (s : Site) → Plain (channel_step channel s)
-channels channel s input output = meets_if s channel (half_in input) (half_in output)
 
 take_link : (s : Site) (x : Name) (c : Context) (side : Side) (channel : ℕ) (buffer : Span)
     → Plain (takes_link s x c side channel buffer)
@@ -124,8 +120,6 @@ take_link s x c side channel buffer =
     )))))
 
 sents : (s : Site) (f : End) (l : Link) → Plain (sent_by s f l)
-sents s f Empty = tt
-sents s f Copied = tt
 sents s f (Offered output) =
     quietly (touch s Reads output.buffer) _ (touches s Reads output.buffer)
     (λ words. (
@@ -133,6 +127,7 @@ sents s f (Offered output) =
       andthen (wakes output.process (Some (record { link = f.link; buffer = output.buffer }))) _
           (wake output.process (Some (record { link = f.link; buffer = output.buffer }))) (λ y. tt),
     ))
+sents s f _ = tt
 
 first_messages : (f : End) (v : Value) → Plain (first_message f v)
 first_messages f (AreMessages (m ∷ rest)) = (tt, tt)
@@ -140,8 +135,6 @@ first_messages f (AreMessages []) = tt
 first_messages f _ = tt
 
 receive : (s : Site) (e : End) (message : Store) (l : Link) → Plain (received_by s e message l)
-receive s e message Empty = tt
-receive s e message Copied = tt
 receive s e message (Offered input) =
     quietly (require (input.buffer.size == length message) (Breaks LengthMismatch)) _
     (requires (input.buffer.size == length message) (Breaks LengthMismatch))
@@ -150,6 +143,7 @@ receive s e message (Offered input) =
     (λ words. quietly (put s Free input.buffer (replaced input.buffer words message)) _
     (puts s Free input.buffer (replaced input.buffer words message))
     (λ z. (tt, wake input.process None))))
+receive s e message _ = tt
 
 keep : (e : End) (message : Store) (v : Value) → Plain (keeps e message v)
 keep e message (AreKept room messages) =

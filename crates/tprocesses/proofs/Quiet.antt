@@ -13,17 +13,18 @@ use Rattle.tcpu.specs.declared.registers.Registers.{Registers}
 use Rattle.tproc.specs.declared.channels.Side.{Side}
 use Rattle.tproc.specs.declared.channels.Side.TheVariants.{Input, Output}
 use Rattle.tprocesses.specs.Places.{Place, Standing, Life, Population, HasRun, FlagChanged, Error, HaltOnError}
-use Rattle.tprocesses.specs.Values.{Value, Use, Free, Saved, Receiving, Engaged, Last, Spoilt, IsStand, Ended, word_in}
-use Rattle.tprocesses.specs.Values.{amount_in}
+use Rattle.tprocesses.specs.Values.{Value, Use, Free, Saved, Receiving, Engaged}
+use Rattle.tprocesses.specs.Values.{Choosing, Awaiting, Last, Spoilt, IsStand, Ended}
+use Rattle.tprocesses.specs.Values.{word_in, amount_in}
 use Rattle.tprocesses.specs.Changes.{Change, Put, Raise, are_known}
 use Rattle.tprocesses.specs.Parts.{Reason, Part, gives, stopping, seeing, changing, telling, require, unless, Breaks}
 use Rattle.tprocesses.specs.Parts.{WordInUse, ◌>>=◌}
 use Rattle.tprocesses.specs.Touching.{Site, word_number, word_count, is_zero, free_cells, same_use, word_for, words_for}
 use Rattle.tprocesses.specs.Touching.{unsent, settled, touch_word, touch_words, touch, part_of, replaced, put_words}
 use Rattle.tprocesses.specs.Touching.{put, write, count_words, count_outputs, touch_word_at, write_word_at, save_word}
-use Rattle.tprocesses.specs.Touching.{save, forgotten}
+use Rattle.tprocesses.specs.Touching.{save_upper, save, forgotten}
 use Rattle.tprocesses.specs.Performing.{Performed, noted, copied, perform, is_next_known, after_next, bytes_if}
-use Rattle.tprocesses.specs.Standing.{known, unsave_word, unsave}
+use Rattle.tprocesses.specs.Standing.{known, unsave_word, unsave_upper, unsave}
 use Rattle.tprocesses.specs.LinkMessages.{lends}
 use Rattle.tprocesses.specs.Instructions.{Flags, flags_before, is_same_flag, sets_flag, flags_after}
 
@@ -81,7 +82,7 @@ Quiet part = Makes IsQuiet part
 andthen : {A B : Type 0} (part : Part A) (f : A → Part B) → Quiet part → ((x : A) → Quiet (f x)) → Quiet (part >>= f)
 andthen part f h k = both IsQuiet part f h k
 
-chooses : {A : Type 0} (b : Bool) (x y : Part A) → Quiet x → Quiet y → Quiet (if b then x else y)
+pub chooses : {A : Type 0} (b : Bool) (x y : Part A) → Quiet x → Quiet y → Quiet (if b then x else y)
 chooses true x y h k = h
 chooses false x y h k = k
 
@@ -99,6 +100,8 @@ frees Free cells = tt
 frees Saved cells = tt
 frees Receiving cells = tt
 frees Engaged cells = tt
+frees Choosing cells = tt
+frees Awaiting cells = tt
 frees (Last p) cells = tt
 frees Spoilt cells = tt
 
@@ -165,11 +168,14 @@ writes_at s address new = andthen (touch_word_at s Writes address) _ (touches_at
 saves_word : (s : Site) (address : ℕ) (new : Store → Store) → Quiet (save_word s address new)
 saves_word s address new = andthen (touch_word_at s Writes address) _ (touches_at s Writes address) (λ y. (tt, tt))
 
+pub saves_upper : (s : Site) (w : ℕ) → Quiet (save_upper s w)
+saves_upper s w =
+    andthen (save_word s (word_below w 2) forgotten) _ (saves_word s (word_below w 2) forgotten)
+    (λ z. saves_word s (word_below w 1) forgotten)
+
 pub saves : (s : Site) (w : ℕ) (lowest : Store → Store) → Quiet (save s w lowest)
 saves s w lowest =
-    andthen (save_word s (word_below w 3) lowest) _ (saves_word s (word_below w 3) lowest)
-    (λ y. andthen (save_word s (word_below w 2) forgotten) _ (saves_word s (word_below w 2) forgotten)
-    (λ z. saves_word s (word_below w 1) forgotten))
+    andthen (save_word s (word_below w 3) lowest) _ (saves_word s (word_below w 3) lowest) (λ y. saves_upper s w)
 
 -- actions
 notes : {A : Type 0} (all : Bool) (rest : Part (Performed A)) → Quiet rest → Quiet (noted all rest)
@@ -220,11 +226,14 @@ unsaves_word : (s : Site) (address : ℕ) → Quiet (unsave_word s address)
 unsaves_word s address =
     andthen (word_for s Saved (word_number address)) _ (words_have s Saved (word_number address)) (λ cells. (tt, tt))
 
+pub unsaves_upper : (s : Site) (w : ℕ) → Quiet (unsave_upper s w)
+unsaves_upper s w =
+    andthen (unsave_word s (word_below w 2)) _ (unsaves_word s (word_below w 2))
+    (λ z. unsaves_word s (word_below w 1))
+
 pub unsaves : (s : Site) (w : ℕ) → Quiet (unsave s w)
 unsaves s w =
-    andthen (unsave_word s (word_below w 3)) _ (unsaves_word s (word_below w 3))
-    (λ y. andthen (unsave_word s (word_below w 2)) _ (unsaves_word s (word_below w 2))
-    (λ z. unsaves_word s (word_below w 1)))
+    andthen (unsave_word s (word_below w 3)) _ (unsaves_word s (word_below w 3)) (λ y. unsaves_upper s w)
 
 -- messages on links
 pub lend : (side : Side) (s : Site) (buffer : Span) → Quiet (lends side s buffer)

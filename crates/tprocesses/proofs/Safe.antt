@@ -6,7 +6,7 @@ use Rattle.tword.specs.declared.breaks.Break.{Break}
 use Rattle.tword.specs.Stores.{Store}
 use Rattle.tplan.specs.declared.plan.Plan.{Plan}
 use Rattle.tagents.specs.Walks.{Sight}
-use Rattle.tagents.specs.Tidy.{HoldsOfEach, IsGate, WasShut, Spares, IsCareful}
+use Rattle.tagents.specs.Tidy.{HoldsOfEach, IsGate, OneWasShut, Spares, IsCareful}
 use Rattle.tprocesses.specs.Places.{Place, same_place}
 use Rattle.tprocesses.specs.Values.{Value}
 use Rattle.tprocesses.specs.Changes.{Change, Put, Engage, Decrement, Add, Raise, apply}
@@ -34,18 +34,22 @@ Anything x seen = Unit {0}
 abbrev pub Always : Seen → Type 0
 Always seen = Unit {0}
 
+-- one gate of an agent was seen shut
+abbrev pub IsOff : Plan → Agent → Seen → Type 0
+IsOff p b seen = OneWasShut (process_machine p) b seen
+
 module _ (p : Plan) (a : Agent) where
   -- changes spare the gates of others
   abbrev pub Sparing : Seen → List Changed → Type 0
   Sparing seen changes = HoldsOfEach (Spares (process_machine p) a seen) changes
 
-  -- a place was seen shut to each other agent whose gate it is
+  -- the same of each other agent whose gate a place is
   abbrev pub Shut : Place → Seen → Type 0
-  Shut q seen = (b : Agent) → b ≢ a → IsGate (process_machine p) b q → WasShut (process_machine p) b q seen
+  Shut q seen = (b : Agent) → b ≢ a → IsGate (process_machine p) b q → IsOff p b seen
 
   -- what was shut is still known to be
   abbrev pub Later : Seen → Seen → Type 0
-  Later seen seen' = (q : Place) → Shut q seen → Shut q seen'
+  Later seen seen' = (b : Agent) → IsOff p b seen → IsOff p b seen'
 
   -- each change of a part spares the gates of others, and something holds at its end
   abbrev pub Safe : {A : Type 0} → Seen → List Changed → Part A → (A → Seen → List Changed → Type 0) → Type 0
@@ -63,7 +67,7 @@ module _ (p : Plan) (a : Agent) where
     pub later : Later before seen
     pub fact : F x seen
 
-  -- a part that may begin where something is known, and what is known at its end
+  -- a part of a step that may begin where something is known, and what is known at its end
   pub record Safely {A : Type 0} (K : Seen → Type 0) (part : Part A) (F : A → Seen → Type 0) : Type 0 where
     pub safe : (seen : Seen) (changes : List Changed) → K seen → Sparing seen changes
         → Safe seen changes part (Left seen F)
@@ -101,7 +105,7 @@ module _ (p : Plan) (a : Agent) where
         weaken (f x) (Left s G) (Left seen G) s c ((k x).safe s c left.fact left.sparing)
         (λ y s' c' last. record {
           sparing = last.sparing;
-          later = λ q shut. last.later q (left.later q shut);
+          later = λ b shut. last.later b (left.later b shut);
           fact = last.fact;
         }));
   }
@@ -110,7 +114,7 @@ module _ (p : Plan) (a : Agent) where
   pub nothing : {A : Type 0} {K : Seen → Type 0} {F : A → Seen → Type 0} (x : A) → ((s : Seen) → K s → F x s)
       → Safely K (gives x) F
   nothing x h = record {
-    safe = λ seen changes known spare. record { sparing = spare; later = λ q shut. shut; fact = h seen known };
+    safe = λ seen changes known spare. record { sparing = spare; later = λ b shut. shut; fact = h seen known };
   }
 
   pub stops : {A : Type 0} {K : Seen → Type 0} {F : A → Seen → Type 0} (why : Reason)
@@ -164,10 +168,13 @@ module _ (p : Plan) (a : Agent) where
         });
   }
 
+  off_still : (x : Sight Place Value) (seen : Seen) (b : Agent) → IsOff p b seen → IsOff p b (x ∷ seen)
+  off_still x seen b off = (off.0, off.1, inr off.2)
+
   spares_still : (x : Sight Place Value) (seen : Seen) (c : Changed) → Spares (process_machine p) a seen c
       → Spares (process_machine p) a (x ∷ seen) c
   spares_still x seen c (inl never) = inl never
-  spares_still x seen c (inr shut) = inr (λ b other gate. inr (shut b other gate))
+  spares_still x seen c (inr shut) = inr (λ b other gate. off_still x seen b (shut b other gate))
 
   sparing_still : (x : Sight Place Value) (seen : Seen) (changes : List Changed) → Sparing seen changes
       → Sparing (x ∷ seen) changes
@@ -182,21 +189,19 @@ module _ (p : Plan) (a : Agent) where
   -- the same of one change, where it holds for the rest
   step_open : (seen : Seen) (x : Changed) (b : Agent) (q : Place) → b ≢ a → IsGate (process_machine p) b q
       → Spares (process_machine p) a seen x → (after : Value → Value)
-      → ((v : Value) → is_open p b q v ≡ true
-      → (is_open p b q (after v) ≡ true) ⊎ WasShut (process_machine p) b q seen)
+      → ((v : Value) → is_open p b q v ≡ true → (is_open p b q (after v) ≡ true) ⊎ IsOff p b seen)
       → (v : Value) → is_open p b q v ≡ true → (t : Bool) → same_place x.place q ≡ t
-      → (is_open p b q (after (if t then apply x.change v else v)) ≡ true) ⊎ WasShut (process_machine p) b q seen
+      → (is_open p b q (after (if t then apply x.change v else v)) ≡ true) ⊎ IsOff p b seen
   step_open seen x b q other gate spare after rest v h false e = rest v h
   step_open seen x b q other gate (inl never) after rest v h true e = rest (apply x.change v) (never b q v gate h)
   step_open seen x b q other gate (inr shut) after rest v h true e =
       let there : x.place ≡ q = same_place-true x.place q e in
-      inr (subst (λ (r : Place). WasShut (process_machine p) b r seen) there
-      (shut b other (subst (λ (r : Place). IsGate (process_machine p) b r) (sym there) gate)))
+      inr (shut b other (subst (λ (r : Place). IsGate (process_machine p) b r) (sym there) gate))
 
-  -- what the changes so far make of a value that opens a gate opens it, or the gate was seen shut
+  -- what the changes so far make of a value that opens a gate opens it, or one gate of the agent was seen shut
   still_open : (seen : Seen) (changes : List Changed) (b : Agent) (q : Place) → b ≢ a
       → IsGate (process_machine p) b q → Sparing seen changes → (v : Value) → is_open p b q v ≡ true
-      → (is_open p b q (made changes q v) ≡ true) ⊎ WasShut (process_machine p) b q seen
+      → (is_open p b q (made changes q v) ≡ true) ⊎ IsOff p b seen
   still_open seen [] b q other gate spare v h = inl h
   still_open seen (x ∷ xs) b q other gate spare v h =
       step_open seen x b q other gate spare.0 (λ v'. made xs q v') (still_open seen xs b q other gate spare.1) v h
@@ -206,29 +211,36 @@ module _ (p : Plan) (a : Agent) where
   abbrev pub IsShutTo : Place → Value → Type 0
   IsShutTo q x = (b : Agent) → IsGate (process_machine p) b q → is_open p b q x ≡ false
 
+  -- a value that is seen tells of each other agent whose gate it does not open
+  abbrev pub Tells : Place → Value → Seen → Type 0
+  Tells q x seen =
+      (b : Agent) → b ≢ a → IsGate (process_machine p) b q → is_open p b q x ≡ false → IsOff p b seen
+
   -- a look
-  pub sees : {K : Seen → Type 0} (q : Place) → Safely K (see q) (λ x s. IsShutTo q x → Shut q s)
-  sees q = record {
+  pub sees_each : {K : Seen → Type 0} (q : Place) → Safely K (see q) (Tells q)
+  sees_each q = record {
     safe = λ seen changes known spare v. record {
       sparing = sparing_still (saw q v) seen changes spare;
-      later = λ r shut b other gate. inr (shut b other gate);
-      fact = λ shut b other gate. decide seen changes v b other gate spare (shut b gate);
+      later = λ b shut. off_still (saw q v) seen b shut;
+      fact = λ b other gate shut. decide seen changes v b other gate spare shut;
     };
   }
     where
       decide : (seen : Seen) (changes : List Changed) (v : Value) (b : Agent) → b ≢ a
           → IsGate (process_machine p) b q → Sparing seen changes → is_open p b q (made changes q v) ≡ false
-          → WasShut (process_machine p) b q (saw q v ∷ seen)
+          → IsOff p b (saw q v ∷ seen)
       decide seen changes v b other gate spare shut = by (is_open p b q v) refl
         where
-          by : (t : Bool) → is_open p b q v ≡ t → WasShut (process_machine p) b q (saw q v ∷ seen)
-          by false e = inl (refl, e)
+          by : (t : Bool) → is_open p b q v ≡ t → IsOff p b (saw q v ∷ seen)
+          by false e = (q, gate, inl (refl, e))
           by true e = with_open (still_open seen changes b q other gate spare v e)
             where
-              with_open : (is_open p b q (made changes q v) ≡ true) ⊎ WasShut (process_machine p) b q seen
-                  → WasShut (process_machine p) b q (saw q v ∷ seen)
+              with_open : (is_open p b q (made changes q v) ≡ true) ⊎ IsOff p b seen → IsOff p b (saw q v ∷ seen)
               with_open (inl is) = absurd (true≢false (sym is ∙ shut))
-              with_open (inr was) = inr was
+              with_open (inr was) = off_still (saw q v) seen b was
+
+  pub sees : {K : Seen → Type 0} (q : Place) → Safely K (see q) (λ x s. IsShutTo q x → Shut q s)
+  sees q = lighter (λ s k. k) (λ x s tells shut b other gate. tells b other gate (shut b gate)) (sees_each q)
 
   changes_so : {K : Seen → Type 0} (q : Place) (c : Change)
       → ((s : Seen) → K s → Spares (process_machine p) a s (altered q c)) → Safely K (change q c) Anything
@@ -237,7 +249,7 @@ module _ (p : Plan) (a : Agent) where
       h seen known,
       record {
         sparing = spares_more seen changes (altered q c) spare (h seen known);
-        later = λ r shut. shut;
+        later = λ b shut. shut;
         fact = tt;
       },
     );
@@ -287,7 +299,7 @@ module _ (p : Plan) (a : Agent) where
   -- a message is handed over
   pub tells : {K : Seen → Type 0} (m : Store) → Safely K (telling m done) Anything
   tells m = record {
-    safe = λ seen changes known spare. record { sparing = spare; later = λ q shut. shut; fact = tt };
+    safe = λ seen changes known spare. record { sparing = spare; later = λ b shut. shut; fact = tt };
   }
 
   -- so the walk of a step is careful

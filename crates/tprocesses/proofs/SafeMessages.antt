@@ -1,7 +1,7 @@
 -- Messages spare the gates of others.
-use Rattle.std.proofs.Common.{◌≡◌, ℕ, refl, sym, true, false, [], ◌∷◌, ◌++◌, length, replicate, Option, Some, None}
+use Rattle.std.proofs.Common.{◌≡◌, ℕ, refl, sym, true, false, [], ◌∷◌, ◌++◌, length, replicate, Some, None}
 use Rattle.std.proofs.Common.{true≢false}
-use Rattle.std.specs.Prelude.{◌==◌, ◌-◌, nat_le, not, pos, is_none}
+use Rattle.std.specs.Prelude.{◌==◌, ◌-◌, nat_le, not, pos}
 use Rattle.tword.specs.declared.breaks.Break.TheVariants.{LengthMismatch, ChannelMisuse, Unaligned, WrongEnd}
 use Rattle.tword.specs.declared.breaks.Break.TheVariants.{ZeroLength, LinkBusy}
 use Rattle.tword.specs.declared.span.Span.{Span}
@@ -16,33 +16,40 @@ use Rattle.tplan.specs.declared.plan.End.{End}
 use Rattle.tplan.specs.declared.plan.Plan.{Plan}
 use Rattle.tplan.specs.Wires.{end_at}
 use Rattle.tprocesses.specs.Places.{Place, Name, Half, LinkHalf, Messages, Kept}
-use Rattle.tprocesses.specs.Values.{Free, Receiving, Engaged, Context, Waits, Request, Link, Empty, Offered, Copied}
-use Rattle.tprocesses.specs.Values.{Value, IsWord, IsHalf, IsLink, AreMessages, AreKept, half_in, link_in}
+use Rattle.tprocesses.specs.Values.{Free, Receiving, Engaged, Context, Waits, Request, Holder, Nobody, TakenBy}
+use Rattle.tprocesses.specs.Values.{AwaitedBy, Link, Empty, Offered, Copied, Value, IsWord, IsHalf, IsLink}
+use Rattle.tprocesses.specs.Values.{AreMessages, AreKept, half_in, link_in}
 use Rattle.tprocesses.specs.Changes.{Put, free_word}
 use Rattle.tprocesses.specs.Parts.{change, Breaks, FullSink, HasNoStep}
 use Rattle.tprocesses.specs.Touching.{Site, word_number, word_count, word_place, part_of, replaced, kept, forgotten}
 use Rattle.tprocesses.specs.Standing.{forget}
-use Rattle.tprocesses.specs.ChannelMessages.{takes_half, meet, meet_if, channel_step}
+use Rattle.tprocesses.specs.ChannelMessages.{is_nobody, takes_half, meet, meet_if, channel_step}
 use Rattle.tprocesses.specs.LinkMessages.{is_empty, lends, takes_link, sent_by, node_sends, first_message}
 use Rattle.tprocesses.specs.LinkMessages.{source_sends, received_by, node_receives, keeps, sink_receives}
-use Rattle.tprocesses.specs.Machine.{Agent, is_offered}
+use Rattle.tprocesses.specs.Machine.{Agent, is_offered, is_met_at}
 use Rattle.tprocesses.proofs.Gates.{half_shut, link_shut}
-use Rattle.tprocesses.proofs.Safe.{Seen, Anything, Shut, Safely, andthen, nothing, stops, sees, sees_fine, requires}
-use Rattle.tprocesses.proofs.Safe.{requires_fine, unless_fine, puts, engages}
+use Rattle.tprocesses.proofs.Safe.{Seen, Anything, Shut, Safely, andthen, nothing, stops, sees}
+use Rattle.tprocesses.proofs.Safe.{sees_fine, requires, requires_fine, unless_fine, puts, engages}
 use Rattle.tprocesses.proofs.SafeTouches.{unsent_safe, touch_safe, put_safe, save_safe, word_for_safe}
 use Rattle.tprocesses.proofs.SafeTouches.{words_for_safe, count_outputs_safe}
+use Rattle.tprocesses.proofs.SafeChoices.{lets_go_on_safe}
 use Rattle.tprocesses.proofs.SafeParts.{IsOwn, touch_fine, copied_fine, stands_safe, wakes_fine}
 
 module _ (p : Plan) (a : Agent) where
+  nobody_met : (n c : ℕ) (side : Side) (h : Holder) → is_nobody h ≡ true → is_met_at (Half n c side) h ≡ false
+  nobody_met n c Input Nobody h = refl
+  nobody_met n c Output Nobody h = refl
+  nobody_met n c side _ h = absurd (true≢false (sym h))
+
   pub takes_half_safe : {K : Seen → Type 0} (s : Site) (x : Name) (c : Context) (side : Side) (channel : ℕ)
       (buffer : Span) → IsOwn p a x → Safely p a K (takes_half s x c side channel buffer) Anything
   takes_half_safe s x c side channel buffer own = let q = Half s.number channel side in
       andthen p a (unless_fine p a (word_place_break s.size channel))
       (λ y. andthen p a (sees p a q)
-      (λ half. andthen p a (requires p a (is_none (half_in half)) (Breaks ChannelMisuse))
+      (λ half. andthen p a (requires p a (is_nobody (half_in half)) (Breaks ChannelMisuse))
       (λ z. andthen p a
-      (puts p a q (IsHalf (Some (record { process = x; buffer = buffer })))
-      (λ t k. k.1 (half_shut p a s.number channel side half k.0)))
+      (puts p a q (IsHalf (TakenBy (record { process = x; buffer = buffer })))
+      (λ t k. k.1 (half_shut p a s.number channel side half (nobody_met s.number channel side (half_in half) k.0))))
       (λ u. andthen p a (unsent_safe p a s (word_number channel))
       (λ v. andthen p a (save_safe p a s c.wptr forgotten)
       (λ w. andthen p a (engages p a (word_place s channel))
@@ -66,14 +73,14 @@ module _ (p : Plan) (a : Agent) where
       (λ u. andthen p a (copied_fine p a s output.buffer input.buffer)
       (λ v. andthen p a (wakes_fine p a input.process None)
       (λ w. andthen p a (wakes_fine p a output.process None)
-      (λ r. andthen p a (puts_mine (Half s.number channel Input) (IsHalf None) (own Input))
-      (λ k. puts_mine (Half s.number channel Output) (IsHalf None) (own Output))))))))
+      (λ r. andthen p a (puts_mine (Half s.number channel Input) (IsHalf Nobody) (own Input))
+      (λ k. puts_mine (Half s.number channel Output) (IsHalf Nobody) (own Output))))))))
 
-  meet_if_safe : {K : Seen → Type 0} (s : Site) (channel : ℕ) (input output : Option Request)
+  meet_if_safe : {K : Seen → Type 0} (s : Site) (channel : ℕ) (input output : Holder)
       → ((side : Side) → IsMine (Half s.number channel side)) → Safely p a K (meet_if s channel input output) Anything
-  meet_if_safe s channel (Some input) (Some output) own = meet_safe s channel input output own
-  meet_if_safe s channel (Some input) None own = stops p a HasNoStep
-  meet_if_safe s channel None output own = stops p a HasNoStep
+  meet_if_safe s channel (TakenBy input) (TakenBy output) own = meet_safe s channel input output own
+  meet_if_safe s channel (AwaitedBy x) (TakenBy output) own = lets_go_on_safe p a s channel x (own Input)
+  meet_if_safe s channel _ _ own = stops p a HasNoStep
 
   pub channel_step_safe : {K : Seen → Type 0} (channel : ℕ) (s : Site)
       → ((side : Side) → IsMine (Half s.number channel side)) → Safely p a K (channel_step channel s) Anything
@@ -92,8 +99,7 @@ module _ (p : Plan) (a : Agent) where
 
   empty_shut : (l : Link) → is_empty l ≡ true → is_offered l ≡ false
   empty_shut Empty h = refl
-  empty_shut (Offered r) h = absurd (true≢false (sym h))
-  empty_shut Copied h = refl
+  empty_shut _ h = absurd (true≢false (sym h))
 
   pub takes_link_safe : {K : Seen → Type 0} (s : Site) (x : Name) (c : Context) (side : Side) (channel : ℕ)
       (buffer : Span) → IsOwn p a x → Safely p a K (takes_link s x c side channel buffer) Anything
@@ -118,8 +124,7 @@ module _ (p : Plan) (a : Agent) where
       (λ words. andthen p a (puts_mine (LinkHalf f Output) (IsLink Copied) own)
       (λ y. andthen p a (wakes_fine p a output.process (Some (record { link = f.link; buffer = output.buffer })))
       (λ z. nothing p a (part_of output.buffer words) (λ t k. tt))))
-  sent_by_safe s f Empty own = stops p a HasNoStep
-  sent_by_safe s f Copied own = stops p a HasNoStep
+  sent_by_safe s f _ own = stops p a HasNoStep
 
   pub node_sends_safe : {K : Seen → Type 0} (f : End) (s : Site) → IsMine (LinkHalf f Output)
       → Safely p a K (node_sends f s) Anything
@@ -146,8 +151,7 @@ module _ (p : Plan) (a : Agent) where
       (λ words. andthen p a (put_safe p a s Free input.buffer (replaced input.buffer words message))
       (λ z. andthen p a (puts_mine (LinkHalf e Input) (IsLink Empty) own)
       (λ u. wakes_fine p a input.process None))))
-  received_by_safe s e message Empty own = stops p a HasNoStep
-  received_by_safe s e message Copied own = stops p a HasNoStep
+  received_by_safe s e message _ own = stops p a HasNoStep
 
   pub node_receives_safe : {K : Seen → Type 0} (message : Store) (e : End) (s : Site) → IsMine (LinkHalf e Input)
       → Safely p a K (node_receives message e s) Anything

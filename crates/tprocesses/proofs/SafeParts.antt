@@ -1,6 +1,6 @@
 -- What agents have in common spares the gates of others: actions, and processes that come, wait, go on and end.
 use Rattle.std.proofs.Common.{◌≡◌, ℕ, refl, sym, Bool, true, false, List, [], ◌∷◌, Option, Some, None, true≢false}
-use Rattle.std.specs.Prelude.{◌==◌, pos, negsuc, ◌%◌}
+use Rattle.std.specs.Prelude.{◌==◌, pos, negsuc, ◌%◌, is_none}
 use Rattle.std.specs.Int.{w32, from_le_bytes, to_le_bytes}
 use Rattle.tword.specs.declared.breaks.Break.TheVariants.{AlreadyLive, Unaligned}
 use Rattle.tword.specs.declared.span.Span.{Span}
@@ -13,15 +13,15 @@ use Rattle.tproc.specs.declared.channels.Side.TheVariants.{Output}
 use Rattle.tplan.specs.declared.plan.Plan.{Plan}
 use Rattle.tplan.specs.Wires.{end_at}
 use Rattle.tprocesses.specs.Places.{Name, Standing, LinkHalf, Life, Population, HasRun}
-use Rattle.tprocesses.specs.Values.{Free, Saved, Context, Lent, Stand, Absent, Rests, Runs, Waits, Ended, Link}
-use Rattle.tprocesses.specs.Values.{Empty, Offered, Copied, Value, IsWord, IsStand, IsLink, stand_in, link_in}
+use Rattle.tprocesses.specs.Values.{Free, Saved, Context, Lent, Stand, Absent, Rests, Runs, Waits, Chooses, Chosen}
+use Rattle.tprocesses.specs.Values.{Ended, Link, Empty, Copied, Value, IsWord, IsStand, IsLink, stand_in, link_in}
 use Rattle.tprocesses.specs.Values.{amount_in}
 use Rattle.tprocesses.specs.Changes.{are_known}
-use Rattle.tprocesses.specs.Parts.{Part, Breaks, HasNoStep}
+use Rattle.tprocesses.specs.Parts.{Part, Breaks, WordInUse, HasNoStep}
 use Rattle.tprocesses.specs.Touching.{Site, touch, touch_word_at, word_number, word_place, is_zero, part_of, kept}
 use Rattle.tprocesses.specs.Performing.{Performed, noted, copied, perform, is_next_known, after_next, bytes_if}
 use Rattle.tprocesses.specs.Standing.{stands, known, is_absent, comes, starts, ends, moves, ready, wakes}
-use Rattle.tprocesses.specs.Standing.{unsave_word, unsave, is_copied, takes_back, resumes}
+use Rattle.tprocesses.specs.Standing.{unsave_word, unsave_upper, unsave, is_copied, takes_back, resumes}
 use Rattle.tprocesses.specs.Machine.{Agent, is_ready, is_offered}
 use Rattle.tprocesses.proofs.Gates.{standing_shut, link_shut}
 use Rattle.tprocesses.proofs.Safe.{Seen, Anything, Shut, Safely, IsShutTo, IsFine, andthen, nothing, stops, sees}
@@ -88,8 +88,6 @@ module _ (p : Plan) (a : Agent) where
 
   absent_shut : (t : Stand) → is_absent t ≡ true → is_ready t ≡ false
   absent_shut Absent h = refl
-  absent_shut Ended h = refl
-  absent_shut (Waits c) h = refl
   absent_shut _ h = absurd (true≢false (sym h))
 
   pub comes_fine : {K : Seen → Type 0} (s : Site) (x : Name) (c : Context) (stand : Context → Stand)
@@ -113,7 +111,8 @@ module _ (p : Plan) (a : Agent) where
 
   pub ends_safe : {K : Seen → Type 0} (s : Site) (x : Name) (c : Context) → IsOwn x → Safely p a K (ends s x c) Anything
   ends_safe s x c own =
-      andthen p a (adds p a (Life s.number c.wptr) (negsuc 0)) (λ y. stands_safe x Ended own)
+      andthen p a (requires_fine p a (is_none c.choice) WordInUse)
+      (λ y. andthen p a (adds p a (Life s.number c.wptr) (negsuc 0)) (λ z. stands_safe x Ended own))
 
   pub moves_fine : {K : Seen → Type 0} (s : Site) (old new : ℕ) → Safely p a K (moves s old new) Anything
   moves_fine s old new =
@@ -128,6 +127,8 @@ module _ (p : Plan) (a : Agent) where
   ready_safe (IsStand Absent) x lent = stops p a _
   ready_safe (IsStand (Rests c)) x lent = stops p a _
   ready_safe (IsStand (Runs c)) x lent = stops p a _
+  ready_safe (IsStand (Chooses c)) x lent = stops p a _
+  ready_safe (IsStand (Chosen c)) x lent = stops p a _
   ready_safe (IsStand Ended) x lent = stops p a _
   ready_safe _ x lent = stops p a _
 
@@ -139,15 +140,16 @@ module _ (p : Plan) (a : Agent) where
       andthen p a (word_for_safe p a s Saved (word_number address) refl)
       (λ cells. puts p a (word_place s address) (IsWord (record { cells = cells; used = Free })) (λ t k. k))
 
+  pub unsave_upper_fine : {K : Seen → Type 0} (s : Site) (w : ℕ) → Safely p a K (unsave_upper s w) Anything
+  unsave_upper_fine s w =
+      andthen p a (unsave_word_fine s (word_below w 2)) (λ y. unsave_word_fine s (word_below w 1))
+
   unsave_fine : {K : Seen → Type 0} (s : Site) (w : ℕ) → Safely p a K (unsave s w) Anything
-  unsave_fine s w =
-      andthen p a (unsave_word_fine s (word_below w 3))
-      (λ x. andthen p a (unsave_word_fine s (word_below w 2)) (λ y. unsave_word_fine s (word_below w 1)))
+  unsave_fine s w = andthen p a (unsave_word_fine s (word_below w 3)) (λ x. unsave_upper_fine s w)
 
   copied_shut : (l : Link) → is_copied l ≡ true → is_offered l ≡ false
-  copied_shut Empty h = refl
-  copied_shut (Offered r) h = absurd (true≢false (sym h))
   copied_shut Copied h = refl
+  copied_shut _ h = absurd (true≢false (sym h))
 
   takes_back_fine : {K : Seen → Type 0} (s : Site) (lent : Option Lent) → Safely p a K (takes_back s lent) Anything
   takes_back_fine s None = nothing p a tt (λ t k. tt)

@@ -1,6 +1,6 @@
 -- The steps of all agents spare the gates of others.
 use Rattle.std.proofs.Common.{◌≡◌, ℕ, zero, suc, refl, Bool, true, false, [], Option, Some, None}
-use Rattle.std.specs.Prelude.{◌||◌, not, unwrap_or, slice_get}
+use Rattle.std.specs.Prelude.{◌==◌, ◌||◌, not, unwrap_or, slice_get, is_none}
 use Rattle.std.specs.Int.{w32, to_le_bytes}
 use Rattle.tword.specs.declared.span.Span.{Span}
 use Rattle.tword.specs.declared.breaks.Break.TheVariants.{NoSuchOperation}
@@ -27,11 +27,10 @@ use Rattle.tplan.specs.declared.plan.NodePlan.{NodePlan}
 use Rattle.tplan.specs.declared.plan.Plan.{Plan}
 use Rattle.tprocesses.specs.Places.{Place, Name, WordAt, Standing, LinkHalf, Messages, Kept, Error, HaltOnError}
 use Rattle.tprocesses.specs.Places.{FlagChanged, Successions, After, child_of}
-use Rattle.tprocesses.specs.Values.{Use, Free, Saved, Receiving, Engaged, Last, Spoilt, Context, Stand, Absent}
-use Rattle.tprocesses.specs.Values.{Rests, Runs, Waits, Ended, IsWord, IsCount, IsFlag, word_in, stand_in, flag_in}
-use Rattle.tprocesses.specs.Values.{count_in}
+use Rattle.tprocesses.specs.Values.{Use, Last, Context, Stand, Rests, Runs, Chosen, IsWord, IsCount, IsFlag, word_in}
+use Rattle.tprocesses.specs.Values.{stand_in, flag_in, count_in}
 use Rattle.tprocesses.specs.Changes.{known_word, free_word}
-use Rattle.tprocesses.specs.Parts.{Part, stopping, Breaks, Halts, SawTheScheduler, HasAlternatives, WordInUse}
+use Rattle.tprocesses.specs.Parts.{Part, stopping, Breaks, Halts, SawTheScheduler, WordInUse}
 use Rattle.tprocesses.specs.Parts.{HasNoStep}
 use Rattle.tprocesses.specs.Touching.{Site, word_number, word_place, kept}
 use Rattle.tprocesses.specs.Performing.{Performed}
@@ -58,6 +57,9 @@ use Rattle.tprocesses.proofs.SafeParts.{comes_fine, starts_fine, ends_safe, move
 use Rattle.tprocesses.proofs.SafeMessages.{IsMine, puts_mine, takes_half_safe, channel_step_safe, takes_link_safe}
 use Rattle.tprocesses.proofs.SafeMessages.{node_sends_safe, source_sends_safe, node_receives_safe}
 use Rattle.tprocesses.proofs.SafeMessages.{sink_receives_safe}
+use Rattle.tprocesses.proofs.SafeChoices.{begins_choice_safe, enables_channel_safe, enables_skip_safe}
+use Rattle.tprocesses.proofs.SafeChoices.{awaits_choice_safe, goes_on_chosen_safe, disables_channel_safe}
+use Rattle.tprocesses.proofs.SafeChoices.{disables_skip_safe, ends_choice_safe}
 
 module _ (p : Plan) (a : Agent) where
   goes_on_safe : {K : Seen → Type 0} (x : Name) (c : Context) → IsOwn p a x → Safely p a K (goes_on x c) Anything
@@ -137,13 +139,13 @@ module _ (p : Plan) (a : Agent) where
   schedules_safe Out s x c own = sends_or_receives_safe Output s x c own
   schedules_safe Outbyte s x c own = sends_from_workspace_safe 1 s x c own
   schedules_safe Outword s x c own = sends_from_workspace_safe 4 s x c own
-  schedules_safe Alt s x c own = stops p a HasAlternatives
-  schedules_safe Enbc s x c own = stops p a HasAlternatives
-  schedules_safe Enbs s x c own = stops p a HasAlternatives
-  schedules_safe Altwt s x c own = stops p a HasAlternatives
-  schedules_safe Disc s x c own = stops p a HasAlternatives
-  schedules_safe Diss s x c own = stops p a HasAlternatives
-  schedules_safe Altend s x c own = stops p a HasAlternatives
+  schedules_safe Alt s x c own = begins_choice_safe p a s x c own
+  schedules_safe Enbc s x c own = enables_channel_safe p a s x c own
+  schedules_safe Enbs s x c own = enables_skip_safe p a s x c own
+  schedules_safe Altwt s x c own = awaits_choice_safe p a s x c own
+  schedules_safe Disc s x c own = disables_channel_safe p a s x c own
+  schedules_safe Diss s x c own = disables_skip_safe p a s x c own
+  schedules_safe Altend s x c own = ends_choice_safe p a s x c own
   schedules_safe _ s x c own = stops p a (Breaks NoSuchOperation)
 
   goes_on_after_safe : {K : Seen → Type 0} (s : Site) (k : ℕ) (u : Use) → IsMine p a (WordAt s.number k)
@@ -159,11 +161,7 @@ module _ (p : Plan) (a : Agent) where
       (successions_are_free p a s.number w))
       (λ u. comes_fine p a s (record { node = s.number; root = After w (count_in earlier); path = [] })
       (fresh priority w iptr) Runs))))))
-  goes_on_after_safe s k Free own = stops p a WordInUse
-  goes_on_after_safe s k Saved own = stops p a WordInUse
-  goes_on_after_safe s k Receiving own = stops p a WordInUse
-  goes_on_after_safe s k Engaged own = stops p a WordInUse
-  goes_on_after_safe s k Spoilt own = stops p a WordInUse
+  goes_on_after_safe s k _ own = stops p a WordInUse
 
   successor_step_safe : {K : Seen → Type 0} (k : ℕ) (s : Site) → IsMine p a (WordAt s.number k)
       → Safely p a K (successor_step k s) Anything
@@ -215,8 +213,10 @@ module _ (p : Plan) (a : Agent) where
   completed_safe s x c i f u d own = let r = d.value.0 in
       andthen p a (requires_fine p a (d.known || not u.reads_known) SawTheScheduler)
       (λ y. andthen p a (flags_after_fine s (has_flags s.kind i) f r)
-      (λ z. andthen p a (moves_fine p a s c.wptr r.wptr)
-      (λ w. followed_safe d.value.1 s x (record c { iptr = plus c.iptr i.length }) (context_after c u d.known r) own)))
+      (λ z. andthen p a (requires_fine p a (is_none c.choice || (c.wptr == r.wptr)) WordInUse)
+      (λ v. andthen p a (moves_fine p a s c.wptr r.wptr)
+      (λ w. followed_safe d.value.1 s x (record c { iptr = plus c.iptr i.length }) (context_after c u d.known r)
+      own))))
 
   executed_safe : {K : Seen → Type 0} (s : Site) (x : Name) (c : Context) (i : Instruction) → IsOwn p a x
       → Safely p a K (executed s x c i) Anything
@@ -235,9 +235,8 @@ module _ (p : Plan) (a : Agent) where
       → Safely p a K (process_step x stand s) Anything
   process_step_safe x (Rests c) s own = resumes_safe p a s x c own
   process_step_safe x (Runs c) s own = runs_safe s x c own
-  process_step_safe x Absent s own = stops p a HasNoStep
-  process_step_safe x (Waits c) s own = stops p a HasNoStep
-  process_step_safe x Ended s own = stops p a HasNoStep
+  process_step_safe x (Chosen c) s own = goes_on_chosen_safe p a s x c own
+  process_step_safe x _ s own = stops p a HasNoStep
 
   at_site_safe : {A : Type 0} {K : Seen → Type 0} (n : ℕ) (step : Site → Part A)
       → ((plan : NodePlan) → Safely p a K (step (site_of n plan)) Anything) → Safely p a K (at_site p n step) Anything

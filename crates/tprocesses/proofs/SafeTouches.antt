@@ -7,11 +7,12 @@ use Rattle.tword.specs.Words.{word_below}
 use Rattle.tword.specs.Touches.{Mode, Reads, Writes, place_break, word_place_break}
 use Rattle.tplan.specs.declared.plan.Plan.{Plan}
 use Rattle.tprocesses.specs.Places.{Place, WordAt, Sending}
-use Rattle.tprocesses.specs.Values.{Use, Free, Saved, Receiving, Engaged, Last, Spoilt, Value, IsWord, word_in}
-use Rattle.tprocesses.specs.Values.{amount_in}
+use Rattle.tprocesses.specs.Values.{Use, Free, Saved, Receiving, Engaged, Choosing}
+use Rattle.tprocesses.specs.Values.{Awaiting, Last, Spoilt, Value, IsWord}
+use Rattle.tprocesses.specs.Values.{word_in, amount_in}
 use Rattle.tprocesses.specs.Touching.{Site, free_cells, unsent, settled, touch_word, touch_words, touch, is_zero}
-use Rattle.tprocesses.specs.Touching.{replaced, word_number, word_count, word_place, put_words, put, write}
-use Rattle.tprocesses.specs.Touching.{count_words, count_outputs, touch_word_at, write_word_at, save_word, save}
+use Rattle.tprocesses.specs.Touching.{replaced, word_number, word_count, word_place, put_words, put, write, count_words}
+use Rattle.tprocesses.specs.Touching.{count_outputs, touch_word_at, write_word_at, save_word, save_upper, save}
 use Rattle.tprocesses.specs.Touching.{forgotten, same_use, word_for, words_for}
 use Rattle.tprocesses.specs.Machine.{Agent, awaits_successor}
 use Rattle.tprocesses.proofs.Changing.{word_shut}
@@ -42,11 +43,13 @@ module _ (p : Plan) (a : Agent) where
   free_safe {K} Saved cells = stops p a _
   free_safe {K} Receiving cells = stops p a _
   free_safe {K} Engaged cells = stops p a _
+  free_safe {K} Choosing cells = stops p a _
+  free_safe {K} Awaiting cells = stops p a _
   free_safe {K} (Last r) cells = stops p a _
   free_safe {K} Spoilt cells = stops p a _
 
-  stays_shut : (q : Place) → Stays p a (Shut p a q)
-  stays_shut q s s' later shut = later q shut
+  pub stays_shut : (q : Place) → Stays p a (Shut p a q)
+  stays_shut q s s' later shut b other gate = later b (shut b other gate)
 
   pub touch_word_safe : {K : Seen → Type 0} (s : Site) (mode : Mode) (k : ℕ)
       → Safely p a K (touch_word s mode k) (λ x t. Shut p a (WordAt s.number k) t)
@@ -65,7 +68,10 @@ module _ (p : Plan) (a : Agent) where
 
   all_stay : (s : Site) (k count : ℕ) → Stays p a (AllShut s k count)
   all_stay s k zero t t' later h = tt
-  all_stay s k (suc count) t t' later h = (later (WordAt s.number k) h.0, all_stay s (suc k) count t t' later h.1)
+  all_stay s k (suc count) t t' later h = (
+    stays_shut (WordAt s.number k) t t' later h.0,
+    all_stay s (suc k) count t t' later h.1,
+  )
 
   touch_words_safe : (s : Site) (mode : Mode) (k count : ℕ)
       → Safely p a Always (touch_words s mode k count) (λ x t. AllShut s k count t)
@@ -135,12 +141,14 @@ module _ (p : Plan) (a : Agent) where
       (λ cells. puts p a (word_place s address) (IsWord (record { cells = new cells; used = Saved }))
       (λ t known. known))
 
+  pub save_upper_safe : {K : Seen → Type 0} (s : Site) (w : ℕ) → Safely p a K (save_upper s w) Anything
+  save_upper_safe s w =
+      andthen p a (save_word_safe s (word_below w 2) forgotten)
+      (λ y. save_word_safe s (word_below w 1) forgotten)
+
   pub save_safe : {K : Seen → Type 0} (s : Site) (w : ℕ) (lowest : Store → Store)
       → Safely p a K (save s w lowest) Anything
-  save_safe s w lowest =
-      andthen p a (save_word_safe s (word_below w 3) lowest)
-      (λ x. andthen p a (save_word_safe s (word_below w 2) forgotten)
-      (λ y. save_word_safe s (word_below w 1) forgotten))
+  save_safe s w lowest = andthen p a (save_word_safe s (word_below w 3) lowest) (λ x. save_upper_safe s w)
 
   -- a word that has the use of another that awaits no successor awaits none
   alike_uses : (u v : Use) → same_use u v ≡ true → awaits_successor v ≡ false → awaits_successor u ≡ false
@@ -148,6 +156,8 @@ module _ (p : Plan) (a : Agent) where
   alike_uses Saved v h k = refl
   alike_uses Receiving v h k = refl
   alike_uses Engaged v h k = refl
+  alike_uses Choosing v h k = refl
+  alike_uses Awaiting v h k = refl
   alike_uses (Last r) (Last r') h k = k
   alike_uses Spoilt Spoilt h k = k
   alike_uses _ _ h k = absurd (true≢false (sym h))

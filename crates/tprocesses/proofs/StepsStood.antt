@@ -1,7 +1,7 @@
 -- Where the steps of all agents put processes, and which nodes have one more: one comes and then its parent goes on, or
 -- the agent's own ends, or none comes or ends.
 use Rattle.std.proofs.Common.{◌∷◌, ◌++◌, sym, subst, List, ◌≡◌, ℕ, suc, refl, ap, false, [], Option, Some, None}
-use Rattle.std.specs.Prelude.{◌==◌, ◌||◌, not, unwrap_or, slice_get, pos, negsuc}
+use Rattle.std.specs.Prelude.{◌==◌, ◌||◌, not, unwrap_or, slice_get, is_none, pos, negsuc}
 use Rattle.std.specs.Int.{w32, to_le_bytes}
 use Rattle.tword.specs.declared.breaks.Break.TheVariants.{Unaligned, AlreadyLive}
 use Rattle.tword.specs.Stores.{as_cells}
@@ -10,7 +10,8 @@ use Rattle.tword.specs.Touches.{Reads, is_aligned, word_place_break}
 use Rattle.tcode.specs.declared.instruction.Instruction.{Instruction}
 use Rattle.tcode.specs.declared.instruction.Operation.{Operation}
 use Rattle.tcode.specs.declared.instruction.Operation.TheVariants.{Startp, Endp, Runp, Stopp, Stoperr, Ldpri, In, Out}
-use Rattle.tcode.specs.declared.instruction.Operation.TheVariants.{Outbyte, Outword}
+use Rattle.tcode.specs.declared.instruction.Operation.TheVariants.{Outbyte, Outword, Alt, Enbc, Enbs, Altwt, Disc, Diss}
+use Rattle.tcode.specs.declared.instruction.Operation.TheVariants.{Altend}
 use Rattle.tcode.specs.Decoding.{decode}
 use Rattle.tcpu.specs.declared.registers.Next.{Next}
 use Rattle.tcpu.specs.declared.registers.Next.TheVariants.{Go, Jumped, Schedule, Halt}
@@ -21,10 +22,11 @@ use Rattle.tproc.specs.declared.channels.Side.TheVariants.{Input, Output}
 use Rattle.tplan.specs.declared.plan.NodePlan.{NodePlan}
 use Rattle.tplan.specs.declared.plan.Plan.{Plan}
 use Rattle.tprocesses.specs.Places.{Name, WordAt, Standing, Error, Life, HasRun, Successions, After, child_of}
-use Rattle.tprocesses.specs.Values.{Use, Last, Context, Stand, Absent, Rests, Runs, Waits, Ended, IsWord, IsCount}
+use Rattle.tprocesses.specs.Values.{Use, Last, Context, Stand, Rests, Runs, Chosen, Ended, IsWord, IsCount}
 use Rattle.tprocesses.specs.Values.{word_in, stand_in, flag_in, amount_in, count_in}
 use Rattle.tprocesses.specs.Changes.{Put, Decrement, Raise, free_word, known_word, Add}
-use Rattle.tprocesses.specs.Parts.{Part, stopping, change, require, unless, Breaks, SawTheScheduler, HasNoStep}
+use Rattle.tprocesses.specs.Parts.{Part, stopping, change, require, unless, Breaks, SawTheScheduler, WordInUse}
+use Rattle.tprocesses.specs.Parts.{HasNoStep}
 use Rattle.tprocesses.specs.Touching.{Site, word_number, word_place, is_zero, touch_word_at, write_word_at, unsent}
 use Rattle.tprocesses.specs.Touching.{save, kept}
 use Rattle.tprocesses.specs.Performing.{Performed, perform}
@@ -32,6 +34,8 @@ use Rattle.tprocesses.specs.Standing.{goes_on, known, is_absent, comes, starts, 
 use Rattle.tprocesses.specs.Scheduling.{starts_child, runs_child, stops_itself, stops_by_error, ends_among_others}
 use Rattle.tprocesses.specs.Scheduling.{with_child, sends_or_receives, sends_from_workspace, schedules, goes_on_after}
 use Rattle.tprocesses.specs.Scheduling.{successor_workspace, successor_step}
+use Rattle.tprocesses.specs.Choosing.{begins_choice, enables_channel, enables_skip, awaits_choice, goes_on_chosen}
+use Rattle.tprocesses.specs.Choosing.{disables_channel, disables_skip, ends_choice}
 use Rattle.tprocesses.specs.Instructions.{Flags, has_flags, flags_before, registers, flags_after, context_after, jumped}
 use Rattle.tprocesses.specs.Instructions.{sets_error, followed, completed, executed, runs}
 use Rattle.tprocesses.specs.ChannelMessages.{channel_step}
@@ -40,8 +44,10 @@ use Rattle.tprocesses.specs.Machine.{Agent, Process, Channel, Wire, Successor, s
 use Rattle.tprocesses.specs.Machine.{process_step, passes, step_of}
 use Rattle.tprocesses.proofs.Quiet.{requires, unlesses, unsents, touches_at, writes_at, saves, performs, knows}
 use Rattle.tprocesses.proofs.Quiet.{flags_looked_at, set_flags}
-use Rattle.tprocesses.proofs.Plain.{resume, channels, send_or_receive, send_from, jump, set_error, pass}
+use Rattle.tprocesses.proofs.Plain.{resume, send_or_receive, send_from, jump, set_error, pass}
 use Rattle.tprocesses.proofs.Plain.{there as plain_there}
+use Rattle.tprocesses.proofs.PlainChoices.{begin_choice, enable_channel, enable_skip, await_choice, go_on_chosen}
+use Rattle.tprocesses.proofs.PlainChoices.{disable_channel, disable_skip, end_choice, channels}
 use Rattle.tprocesses.proofs.Leaving.{Leaves, andthen, sees, chooses, lighter}
 use Rattle.tprocesses.proofs.Stood.{Stood, is_ended, NoneEnded, Holds, IsFresh, HasCome, IsSettled, Begun, Done, Goes}
 use Rattle.tprocesses.proofs.Stood.{holds_more, keeps, stopped, quietly, lives_on, still, stands_there, adds}
@@ -89,13 +95,14 @@ move s old new =
 -- one ends
 end : (s : Site) (x : Name) (c : Context) → Goes IsFresh (IsSettled (Process x)) (ends s x c)
 end s x c =
-    andthen (lives_on s.number c.wptr (Add (negsuc 0)))
+    andthen (quietly (require (is_none c.choice) WordInUse) (requires (is_none c.choice) WordInUse))
+    (λ z. andthen (lives_on s.number c.wptr (Add (negsuc 0)))
     (λ y. stands_there x Ended (λ stood added fresh. Done (record {
       name = x;
       own = refl;
       only = ap (λ z. z ++ record { name = x; stand = Ended } ∷ []) fresh.0;
       none = fresh.1;
-    })))
+    }))))
 
 -- operations of the scheduler
 start_child : (s : Site) (x : Name) (c : Context) → Goes IsFresh (IsSettled (Process x)) (starts_child s x c)
@@ -149,6 +156,13 @@ schedule In s x c = still (sends_or_receives Input s x c) (send_or_receive Input
 schedule Out s x c = still (sends_or_receives Output s x c) (send_or_receive Output s x c)
 schedule Outbyte s x c = still (sends_from_workspace 1 s x c) (send_from 1 s x c)
 schedule Outword s x c = still (sends_from_workspace 4 s x c) (send_from 4 s x c)
+schedule Alt s x c = still (begins_choice s x c) (begin_choice s x c)
+schedule Enbc s x c = still (enables_channel s x c) (enable_channel s x c)
+schedule Enbs s x c = still (enables_skip s x c) (enable_skip s x c)
+schedule Altwt s x c = still (awaits_choice s x c) (await_choice s x c)
+schedule Disc s x c = still (disables_channel s x c) (disable_channel s x c)
+schedule Diss s x c = still (disables_skip s x c) (disable_skip s x c)
+schedule Altend s x c = still (ends_choice s x c) (end_choice s x c)
 schedule _ s x c = stopped _
 
 -- a successor has come, and nobody goes on
@@ -195,8 +209,10 @@ complete s x c i f u d =
     (requires (d.known || not u.reads_known) SawTheScheduler))
     (λ y. andthen (quietly (flags_after s (has_flags s.kind i) f d.value.0)
     (set_flags s (has_flags s.kind i) f d.value.0))
-    (λ z. andthen (move s c.wptr d.value.0.wptr)
-    (λ w. follow d.value.1 s x (record c { iptr = plus c.iptr i.length }) (context_after c u d.known d.value.0))))
+    (λ z. andthen (quietly (require (is_none c.choice || (c.wptr == d.value.0.wptr)) WordInUse)
+    (requires (is_none c.choice || (c.wptr == d.value.0.wptr)) WordInUse))
+    (λ v. andthen (move s c.wptr d.value.0.wptr)
+    (λ w. follow d.value.1 s x (record c { iptr = plus c.iptr i.length }) (context_after c u d.known d.value.0)))))
 
 execute : (s : Site) (x : Name) (c : Context) (i : Instruction)
     → Goes IsFresh (IsSettled (Process x)) (executed s x c i)
@@ -218,9 +234,8 @@ run s x c =
 process : (x : Name) (stand : Stand) (s : Site) → Goes IsFresh (IsSettled (Process x)) (process_step x stand s)
 process x (Rests c) s = still (resumes s x c) (resume s x c)
 process x (Runs c) s = run s x c
-process x Absent s = stopped HasNoStep
-process x (Waits c) s = stopped HasNoStep
-process x Ended s = stopped HasNoStep
+process x (Chosen c) s = still (goes_on_chosen s x c) (go_on_chosen s x c)
+process x _ s = stopped HasNoStep
 
 there : {A : Type 0} {R T : List Stood → List ℕ → Type 0} (p : Plan) (m : ℕ) (step : Site → Part A)
     → ((plan : NodePlan) → Goes R T (step (site_of m plan))) → Goes R T (at_site p m step)

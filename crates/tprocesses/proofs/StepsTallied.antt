@@ -1,7 +1,7 @@
 -- What the steps of all agents begin, end and move: each begins and ends one process at most, and where one begins or
 -- ends a workspace has one more or less.
 use Rattle.std.proofs.Common.{◌≡◌, ℕ, suc, ◌≤◌, refl, ap, Bool, true, false, [], arith, Option, Some, None}
-use Rattle.std.specs.Prelude.{◌==◌, ◌||◌, not, unwrap_or, slice_get}
+use Rattle.std.specs.Prelude.{◌==◌, ◌||◌, not, unwrap_or, slice_get, is_none}
 use Rattle.std.specs.Int.{w32, to_le_bytes}
 use Rattle.tword.specs.declared.breaks.Break.TheVariants.{Unaligned, AlreadyLive}
 use Rattle.tword.specs.Stores.{as_cells}
@@ -10,7 +10,8 @@ use Rattle.tword.specs.Touches.{Reads, is_aligned, word_place_break}
 use Rattle.tcode.specs.declared.instruction.Instruction.{Instruction}
 use Rattle.tcode.specs.declared.instruction.Operation.{Operation}
 use Rattle.tcode.specs.declared.instruction.Operation.TheVariants.{Startp, Endp, Runp, Stopp, Stoperr, Ldpri, In, Out}
-use Rattle.tcode.specs.declared.instruction.Operation.TheVariants.{Outbyte, Outword}
+use Rattle.tcode.specs.declared.instruction.Operation.TheVariants.{Outbyte, Outword, Alt, Enbc, Enbs, Altwt, Disc, Diss}
+use Rattle.tcode.specs.declared.instruction.Operation.TheVariants.{Altend}
 use Rattle.tcode.specs.Decoding.{decode}
 use Rattle.tcpu.specs.declared.registers.Next.{Next}
 use Rattle.tcpu.specs.declared.registers.Next.TheVariants.{Go, Jumped, Schedule, Halt}
@@ -21,10 +22,11 @@ use Rattle.tproc.specs.declared.channels.Side.TheVariants.{Input, Output}
 use Rattle.tplan.specs.declared.plan.NodePlan.{NodePlan}
 use Rattle.tplan.specs.declared.plan.Plan.{Plan}
 use Rattle.tprocesses.specs.Places.{Name, WordAt, Standing, Error, Life, HasRun, Successions, After, child_of}
-use Rattle.tprocesses.specs.Values.{Use, Last, Context, Stand, Absent, Rests, Runs, Waits, Ended, IsWord, IsStand}
+use Rattle.tprocesses.specs.Values.{Use, Last, Context, Stand, Rests, Runs, Chosen, IsWord, IsStand}
 use Rattle.tprocesses.specs.Values.{IsCount, word_in, stand_in, flag_in, amount_in, count_in}
 use Rattle.tprocesses.specs.Changes.{Put, Decrement, Raise, free_word, known_word}
-use Rattle.tprocesses.specs.Parts.{Part, stopping, change, require, unless, Breaks, SawTheScheduler, HasNoStep}
+use Rattle.tprocesses.specs.Parts.{Part, stopping, change, require, unless, Breaks, SawTheScheduler, WordInUse}
+use Rattle.tprocesses.specs.Parts.{HasNoStep}
 use Rattle.tprocesses.specs.Touching.{Site, word_number, word_place, is_zero, touch_word_at, write_word_at, unsent}
 use Rattle.tprocesses.specs.Touching.{save, kept}
 use Rattle.tprocesses.specs.Performing.{Performed, perform}
@@ -32,6 +34,8 @@ use Rattle.tprocesses.specs.Standing.{goes_on, known, is_absent, comes, starts, 
 use Rattle.tprocesses.specs.Scheduling.{starts_child, runs_child, stops_itself, stops_by_error, ends_among_others}
 use Rattle.tprocesses.specs.Scheduling.{with_child, sends_or_receives, sends_from_workspace, schedules, goes_on_after}
 use Rattle.tprocesses.specs.Scheduling.{successor_workspace, successor_step}
+use Rattle.tprocesses.specs.Choosing.{begins_choice, enables_channel, enables_skip, awaits_choice, goes_on_chosen}
+use Rattle.tprocesses.specs.Choosing.{disables_channel, disables_skip, ends_choice}
 use Rattle.tprocesses.specs.Instructions.{Flags, has_flags, flags_before, registers, flags_after, context_after, jumped}
 use Rattle.tprocesses.specs.Instructions.{sets_error, followed, completed, executed, runs}
 use Rattle.tprocesses.specs.ChannelMessages.{channel_step}
@@ -40,8 +44,10 @@ use Rattle.tprocesses.specs.Machine.{Agent, Process, Channel, Wire, Successor, s
 use Rattle.tprocesses.specs.Machine.{process_step, passes, step_of}
 use Rattle.tprocesses.proofs.Quiet.{requires, unlesses, unsents, touches_at, writes_at, saves, performs, knows}
 use Rattle.tprocesses.proofs.Quiet.{flags_looked_at, set_flags}
-use Rattle.tprocesses.proofs.Plain.{Plain, resume, channels, send_or_receive, send_from, jump, set_error, pass}
+use Rattle.tprocesses.proofs.Plain.{Plain, resume, send_or_receive, send_from, jump, set_error, pass}
 use Rattle.tprocesses.proofs.Plain.{there as plain_there}
+use Rattle.tprocesses.proofs.PlainChoices.{begin_choice, enable_channel, enable_skip, await_choice, go_on_chosen}
+use Rattle.tprocesses.proofs.PlainChoices.{disable_channel, disable_skip, end_choice, channels}
 use Rattle.tprocesses.proofs.Leaving.{Leaves, andthen, sees, chooses}
 use Rattle.tprocesses.proofs.Tally.{one_if, AreEven, AreUp, AreDown, AreSettled, Goes, Holds, keeps, stopped, less}
 use Rattle.tprocesses.proofs.Tally.{plainly, quietly, goes_up, goes_down, goes_begun, goes_ended, no_changes}
@@ -103,7 +109,8 @@ module _ (n : ℕ) where
   -- one ends
   end : (s : Site) (x : Name) (c : Context) → x.node ≡ s.number → Goes n (AreEven n) (AreSettled n) (ends s x c)
   end s x c home =
-      andthen (goes_down n {T = AreDown n (one_if (s.number == n))} s.number c.wptr (λ u d b e h. (
+      andthen (quietly n (require (is_none c.choice) WordInUse) (requires (is_none c.choice) WordInUse))
+      (λ z. andthen (goes_down n {T = AreDown n (one_if (s.number == n))} s.number c.wptr (λ u d b e h. (
         omega (arith, h.0),
         h.1,
         h.2,
@@ -114,7 +121,7 @@ module _ (n : ℕ) where
         omega (arith, h.0, h.1, h.2, same),
         omega (arith, h.1),
         omega (arith, h.2, one),
-      )))
+      ))))
 
   -- operations of the scheduler
   start_child : (s : Site) (x : Name) (c : Context) → Goes n (AreEven n) (AreSettled n) (starts_child s x c)
@@ -171,6 +178,13 @@ module _ (n : ℕ) where
   schedule Out s x c home = still (sends_or_receives Output s x c) (send_or_receive Output s x c)
   schedule Outbyte s x c home = still (sends_from_workspace 1 s x c) (send_from 1 s x c)
   schedule Outword s x c home = still (sends_from_workspace 4 s x c) (send_from 4 s x c)
+  schedule Alt s x c home = still (begins_choice s x c) (begin_choice s x c)
+  schedule Enbc s x c home = still (enables_channel s x c) (enable_channel s x c)
+  schedule Enbs s x c home = still (enables_skip s x c) (enable_skip s x c)
+  schedule Altwt s x c home = still (awaits_choice s x c) (await_choice s x c)
+  schedule Disc s x c home = still (disables_channel s x c) (disable_channel s x c)
+  schedule Diss s x c home = still (disables_skip s x c) (disable_skip s x c)
+  schedule Altend s x c home = still (ends_choice s x c) (end_choice s x c)
   schedule _ s x c home = stopped n _
 
   succeed : (s : Site) (k : ℕ) (u : Use) → Goes n (AreEven n) (AreSettled n) (goes_on_after s k u)
@@ -206,9 +220,11 @@ module _ (n : ℕ) where
       (requires (d.known || not u.reads_known) SawTheScheduler))
       (λ y. andthen (quietly n (flags_after s (has_flags s.kind i) f d.value.0)
       (set_flags s (has_flags s.kind i) f d.value.0))
-      (λ z. andthen (move s c.wptr d.value.0.wptr)
+      (λ z. andthen (quietly n (require (is_none c.choice || (c.wptr == d.value.0.wptr)) WordInUse)
+      (requires (is_none c.choice || (c.wptr == d.value.0.wptr)) WordInUse))
+      (λ v. andthen (move s c.wptr d.value.0.wptr)
       (λ w. follow d.value.1 s x (record c { iptr = plus c.iptr i.length }) (context_after c u d.known d.value.0)
-      home)))
+      home))))
 
   execute : (s : Site) (x : Name) (c : Context) (i : Instruction) → x.node ≡ s.number
       → Goes n (AreEven n) (AreSettled n) (executed s x c i)
@@ -231,9 +247,8 @@ module _ (n : ℕ) where
       → Goes n (AreEven n) (AreSettled n) (process_step x stand s)
   process x (Rests c) s home = still (resumes s x c) (resume s x c)
   process x (Runs c) s home = run s x c home
-  process x Absent s home = stopped n HasNoStep
-  process x (Waits c) s home = stopped n HasNoStep
-  process x Ended s home = stopped n HasNoStep
+  process x (Chosen c) s home = still (goes_on_chosen s x c) (go_on_chosen s x c)
+  process x _ s home = stopped n HasNoStep
 
   there : {A : Type 0} (p : Plan) (m : ℕ) (step : Site → Part A)
       → ((plan : NodePlan) → Goes n (AreEven n) (AreSettled n) (step (site_of m plan)))

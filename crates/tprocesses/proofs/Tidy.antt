@@ -1,7 +1,8 @@
 -- The process machine is tidy.
-use Rattle.std.proofs.Common.{List, [], None}
+use Rattle.std.proofs.Common.{List, [], None, map}
 use Rattle.tplan.specs.declared.plan.Plan.{Plan}
 use Rattle.tagents.specs.Certificates.{IsCertified, IsTheOnlyRun}
+use Rattle.tagents.specs.Walks.{sight}
 use Rattle.tagents.specs.Tidy.{AreTold, AreCareful}
 use Rattle.tagents.proofs.Careful.{careful_walkers_keep_gates}
 use Rattle.tagents.proofs.Completed.{each_run_is_completed, each_end_is_the_end}
@@ -10,7 +11,7 @@ use Rattle.tprocesses.specs.Places.{Place}
 use Rattle.tprocesses.specs.Values.{Value}
 use Rattle.tprocesses.specs.Changes.{Change, ChangeKind}
 use Rattle.tprocesses.specs.Parts.{Deed}
-use Rattle.tprocesses.specs.Machine.{Agent, step_of, process_machine}
+use Rattle.tprocesses.specs.Machine.{Agent, gates, step_of, process_machine}
 use Rattle.tprocesses.specs.Opening.{opening_state}
 use Rattle.tprocesses.specs.Certified.{ProcessStep, machine_of, IsCertificate, ProcessMachineIsTidy}
 use Rattle.tprocesses.specs.Certified.{ProcessMachineIsLawful, CertificatesTellOfAllRuns}
@@ -29,9 +30,9 @@ all_are_told p =
     }
 
 pub all_are_careful : (p : Plan) → AreCareful (process_machine p)
-all_are_careful p a =
-    careful_walk p a (step_of p a) [] (record { changes = []; message = None; stops = None })
-    ((step_of_safe p a).safe [] [] tt tt)
+all_are_careful p a s is =
+    careful_walk p a (step_of p a) (map (sight s) (gates p a)) (record { changes = []; message = None; stops = None })
+    ((step_of_safe p a).safe (map (sight s) (gates p a)) [] tt tt)
 
 pub process_machine_is_tidy : ProcessMachineIsTidy
 process_machine_is_tidy p =

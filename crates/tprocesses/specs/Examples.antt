@@ -15,8 +15,8 @@ use Rattle.tprocesses.specs.Places.{Place, Name, Image, After, WordAt, Sending, 
 use Rattle.tprocesses.specs.Places.{FlagChanged}
 use Rattle.tprocesses.specs.Values.{Value, Stand, Ended, IsAmount, IsFlag, AreMessages, AreKept, word_in, stand_in}
 use Rattle.tprocesses.specs.Changes.{are_known, known_word}
-use Rattle.tprocesses.specs.Parts.{Reason, Breaks, Halts, SawTheScheduler, HasAlternatives, WordInUse, FullSink}
-use Rattle.tprocesses.specs.Parts.{Deed}
+use Rattle.tprocesses.specs.Parts.{Reason, Breaks, Halts, HasAlternatives, SeveralReady, SawTheScheduler, WordInUse}
+use Rattle.tprocesses.specs.Parts.{FullSink, Deed}
 use Rattle.tprocesses.specs.Touching.{word_number}
 use Rattle.tprocesses.specs.Machine.{Agent, Process, Channel, Wire, Successor, process_machine}
 use Rattle.tprocesses.specs.Opening.{opening_state}
@@ -299,13 +299,6 @@ stores-known : word_then (after (beside_another (0x40 ∷ 0xd0 ∷ [])) (times 3
 unfolding computes
 stores-known = refl
 
--- `alt`
-stops-alternative : reason_then (beside_another (0x24 ∷ 0xf3 ∷ []))
-    (after (beside_another (0x24 ∷ 0xf3 ∷ [])) (times 1 (image 0 0))) (Process (image 0 0))
-    ≡ Some HasAlternatives
-unfolding computes
-stops-alternative = refl
-
 -- a source sends two messages to link 2 of a node, whose process takes one of them; `in` asks for four bytes
 abbrev fed : Plan
 fed =
@@ -539,3 +532,158 @@ leads-before : does_lead (meeting 4 4) (label_after (meeting 4 4) (times 4 (imag
     (label_after (meeting 4 4) inputs_first (Channel 0 0x8000_00c0)) ≡ Some false
 unfolding computes
 leads-before = refl
+
+-- P chooses between the channels at #80000210 and #80000214, with a branch for each: the first one stores 7 in w(2),
+-- the second one inputs a word into w(1). Q outputs 7 on the second channel, R outputs 8 on the first one
+abbrev choosing : Plan
+choosing =
+    one_node (
+    segment 0x8000_0080 (
+    0x24 ∷ 0xf3 ∷ 0x14 ∷ 0x41 ∷ 0x24 ∷ 0xf8 ∷ 0x15 ∷ 0x41 ∷ 0x24 ∷ 0xf8 ∷ 0x24 ∷ 0xf4 ∷ 0x14 ∷ 0x41 ∷ 0x40 ∷ 0x22 ∷
+    0xff ∷ 0x15 ∷ 0x41 ∷ 0x44 ∷ 0x22 ∷ 0xff ∷ 0x24 ∷ 0xf5 ∷ 0x47 ∷ 0xd2 ∷ 0x21 ∷ 0xf5 ∷ 0x11 ∷ 0x15 ∷ 0x44 ∷ 0xf7 ∷
+    0x21 ∷ 0xf5 ∷ [])
+    ∷ segment 0x8000_00c0 (0x61 ∷ 0x15 ∷ 0x47 ∷ 0xff ∷ 0x21 ∷ 0xf5 ∷ [])
+    ∷ segment 0x8000_00e0 (0x62 ∷ 0x14 ∷ 0x48 ∷ 0xff ∷ 0x21 ∷ 0xf5 ∷ [])
+    ∷ segment 0x8000_0210 (0x00 ∷ 0x00 ∷ 0x00 ∷ 0x80 ∷ 0x00 ∷ 0x00 ∷ 0x00 ∷ 0x80 ∷ [])
+    ∷ [])
+    (started 0x8000_0201 0x8000_0080 ∷ started 0x8000_0281 0x8000_00c0 ∷ started 0x8000_02c1 0x8000_00e0 ∷ [])
+
+-- Q comes before P waits at `altwt`, or after
+abbrev sender_first : List Agent
+sender_first = times 4 (image 0 1) ++ times 9 (image 0 0)
+
+abbrev chooser_first : List Agent
+chooser_first = times 9 (image 0 0) ++ times 4 (image 0 1)
+
+-- the channel of Q makes P go on, which disables both, jumps to the second branch and inputs; then both stop
+abbrev first_channel : Agent
+first_channel = Channel 0 0x8000_0210
+
+abbrev second_channel : Agent
+second_channel = Channel 0 0x8000_0214
+
+abbrev takes_branch : List Agent
+takes_branch =
+    second_channel ∷ times 14 (image 0 0) ++ second_channel ∷ times 2 (image 0 0) ++ times 2 (image 0 1)
+
+choice-sender_first : word_then (after choosing (sender_first ++ takes_branch)) 0 0x8000_0204 ≡ Some 7
+unfolding computes
+choice-sender_first = refl
+
+choice-chooser_first : word_then (after choosing (chooser_first ++ takes_branch)) 0 0x8000_0204 ≡ Some 7
+unfolding computes
+choice-chooser_first = refl
+
+choice-other_channel : word_then (after choosing (chooser_first ++ takes_branch)) 0 0x8000_0210 ≡ Some 0x8000_0000
+unfolding computes
+choice-other_channel = refl
+
+choice-ends : has_ended (after choosing (chooser_first ++ takes_branch)) (image 0 0) ≡ true
+unfolding computes
+choice-ends = refl
+
+-- P waits until a sender comes
+choice-waits : has_step choosing (after choosing (times 9 (image 0 0))) second_channel ≡ Some false
+unfolding computes
+choice-waits = refl
+
+choice-no_sender : has_step choosing (after choosing chooser_first) first_channel ≡ Some false
+unfolding computes
+choice-no_sender = refl
+
+-- where both senders wait, the scheduler decides
+choice-several : reason_then choosing (after choosing (chooser_first ++ times 4 (image 0 2))) second_channel
+    ≡ Some SeveralReady
+unfolding computes
+choice-several = refl
+
+-- and where the other one comes before P disables its channel
+choice-goes_on_already : reason_then choosing
+    (after choosing (chooser_first ++ second_channel ∷ times 4 (image 0 2))) first_channel ≡ Some SeveralReady
+unfolding computes
+choice-goes_on_already = refl
+
+choice-disables_too_late : reason_then choosing
+    (after choosing (chooser_first ++ second_channel ∷ times 4 (image 0 2) ++ times 4 (image 0 0)))
+    (Process (image 0 0)) ≡ Some SeveralReady
+unfolding computes
+choice-disables_too_late = refl
+
+-- whoever comes last leads to the channel, and this to what P does next
+leads-sender : does_lead choosing
+    (label_after choosing (times 9 (image 0 0) ++ times 3 (image 0 1)) (Process (image 0 1)))
+    (label_after choosing chooser_first second_channel) ≡ Some true
+unfolding computes
+leads-sender = refl
+
+leads-chooser : does_lead choosing
+    (label_after choosing (times 4 (image 0 1) ++ times 8 (image 0 0)) (Process (image 0 0)))
+    (label_after choosing sender_first second_channel) ≡ Some true
+unfolding computes
+leads-chooser = refl
+
+leads-chosen : does_lead choosing (label_after choosing chooser_first second_channel)
+    (label_after choosing (chooser_first ++ second_channel ∷ []) (Process (image 0 0))) ≡ Some true
+unfolding computes
+leads-chosen = refl
+
+-- a sender that comes later to the other channel has a race with this one
+clash-other_sender : do_clash choosing (label_after choosing chooser_first second_channel)
+    (label_after choosing (chooser_first ++ times 3 (image 0 2)) (Process (image 0 2))) ≡ Some true
+unfolding computes
+clash-other_sender = refl
+
+-- `alt; ldc 1; enbs; altwt; ldc 1; ldc 0; diss; altend; ldc 9; stl 2`: a guard without a channel is ready at once
+abbrev skipping : Plan
+skipping =
+    one_node (
+    segment 0x8000_0080 (
+    0x24 ∷ 0xf3 ∷ 0x41 ∷ 0x24 ∷ 0xf9 ∷ 0x24 ∷ 0xf4 ∷ 0x41 ∷ 0x40 ∷ 0x23 ∷ 0xf0 ∷ 0x24 ∷ 0xf5 ∷ 0x49 ∷ 0xd2 ∷ 0x21 ∷
+    0xf5 ∷ [])
+    ∷ [])
+    (started 0x8000_0201 0x8000_0080 ∷ [])
+
+skip-chosen : word_then (after skipping (times 11 (image 0 0))) 0 0x8000_0208 ≡ Some 9
+unfolding computes
+skip-chosen = refl
+
+skip-ends : has_ended (after skipping (times 12 (image 0 0))) (image 0 0) ≡ true
+unfolding computes
+skip-ends = refl
+
+-- a process stops with its alternative under way
+stops-open_choice : reason_then (beside_another (0x24 ∷ 0xf3 ∷ 0x21 ∷ 0xf5 ∷ []))
+    (after (beside_another (0x24 ∷ 0xf3 ∷ 0x21 ∷ 0xf5 ∷ [])) (times 2 (image 0 0))) (Process (image 0 0))
+    ≡ Some WordInUse
+unfolding computes
+stops-open_choice = refl
+
+-- after `alt` a process does this; its w(2) has the address of the input of link 2
+abbrev about_link : List ℕ → Plan
+about_link code =
+    one_node (segment 0x8000_0080 (0x24 ∷ 0xf3 ∷ code) ∷ segment 0x8000_0208 (0x18 ∷ 0 ∷ 0 ∷ 0x80 ∷ []) ∷ [])
+    (started 0x8000_0201 0x8000_0080 ∷ [])
+
+-- `ldl 2; ldc 1; enbc`
+abbrev enabling : Plan
+enabling = about_link (0x72 ∷ 0x41 ∷ 0x24 ∷ 0xf8 ∷ [])
+
+enables-link : reason_then enabling (after enabling (times 4 (image 0 0))) (Process (image 0 0)) ≡ Some HasAlternatives
+unfolding computes
+enables-link = refl
+
+-- `enbs` with this guard, then `ldl 2; ldc 1; ldc 0; disc`: a channel is disabled only in an alternative that need not
+-- wait
+abbrev disabling : (skips : ℕ) → Plan
+disabling skips =
+    about_link ((0x40 + skips) ∷ 0x24 ∷ 0xf9 ∷ 0x72 ∷ 0x41 ∷ 0x40 ∷ 0x22 ∷ 0xff ∷ [])
+
+disables-link : reason_then (disabling 1) (after (disabling 1) (times 7 (image 0 0))) (Process (image 0 0))
+    ≡ Some HasAlternatives
+unfolding computes
+disables-link = refl
+
+disables-too_early : reason_then (disabling 0) (after (disabling 0) (times 7 (image 0 0))) (Process (image 0 0))
+    ≡ Some WordInUse
+unfolding computes
+disables-too_early = refl

@@ -1,8 +1,8 @@
 -- One instruction of a process.
 -- Source: the Compiler Writer's Guide (1988) and the T414 data sheet. What is known after a jump, at which the
 -- scheduler may put another process first: own choice.
-use Rattle.std.specs.Prelude.{ℕ, zero, suc, Bool, true, false, not, ◌||◌, ◌&&◌, [], Option, Some, None, unwrap_or}
-use Rattle.std.specs.Prelude.{if◌then◌else◌}
+use Rattle.std.specs.Prelude.{ℕ, zero, suc, Bool, true, false, not, ◌==◌, ◌||◌, ◌&&◌, [], Option, Some, None}
+use Rattle.std.specs.Prelude.{unwrap_or, is_none, if◌then◌else◌}
 use Rattle.tword.specs.declared.kind.Kind.{Kind}
 use Rattle.tword.specs.Words.{plus}
 use Rattle.tcode.specs.declared.instruction.Function.{Function}
@@ -20,8 +20,8 @@ use Rattle.tcpu.specs.Effects.{effect}
 use Rattle.tprocesses.specs.Places.{Place, Name, Error, HaltOnError, FlagChanged}
 use Rattle.tprocesses.specs.Values.{Context, Rests, IsFlag, flag_in}
 use Rattle.tprocesses.specs.Changes.{Put, Raise}
-use Rattle.tprocesses.specs.Parts.{Part, gives, Doing, done, see, change, require, Halts, SawTheScheduler, ◌>>=◌}
-use Rattle.tprocesses.specs.Parts.{◌>>◌}
+use Rattle.tprocesses.specs.Parts.{Part, gives, Doing, done, see, change, require, Halts, SawTheScheduler, WordInUse}
+use Rattle.tprocesses.specs.Parts.{◌>>=◌, ◌>>◌}
 use Rattle.tprocesses.specs.Touching.{Site, save, kept}
 use Rattle.tprocesses.specs.Performing.{Performed, perform}
 use Rattle.tprocesses.specs.Uses.{Uses, uses_of, has_needed, is_known, known_writes, known_value}
@@ -125,11 +125,12 @@ followed Jumped s x scheduled after = jumped after.priority s x after
 followed (Schedule o) s x scheduled after = schedules o s x scheduled
 followed Halt s x scheduled after = sets_error s x after
 
--- the end of an instruction that was done
+-- the end of an instruction that was done. While an alternative is under way the workspace stays
 abbrev pub completed : Site → Name → Context → Instruction → Flags → Uses → Performed Outcome → Doing
 completed s x c i f u p = let r = p.value.0 in do
   require (p.known || not u.reads_known) SawTheScheduler
   flags_after s (has_flags s.kind i) f r
+  require (is_none c.choice || (c.wptr == r.wptr)) WordInUse
   moves s c.wptr r.wptr
   followed p.value.1 s x (record c { iptr = plus c.iptr i.length }) (context_after c u p.known r)
 

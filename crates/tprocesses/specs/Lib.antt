@@ -16,6 +16,8 @@ pub mod Standing
 -- messages
 pub mod ChannelMessages
 pub mod LinkMessages
+-- alternatives
+pub mod Choosing
 -- what an instruction needs to know
 pub mod Uses
 -- operations of the scheduler

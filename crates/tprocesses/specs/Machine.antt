@@ -1,6 +1,6 @@
 -- The process machine: its agents and their steps.
 -- Source: own choice.
-use Rattle.std.specs.Prelude.{ℕ, ◌==◌, ◌&&◌, ◌+◌, nat_lt, Bool, true, false, List, [], ◌∷◌, length, Option, Some}
+use Rattle.std.specs.Prelude.{ℕ, ◌==◌, ◌&&◌, ◌||◌, ◌+◌, nat_lt, Bool, true, false, List, [], ◌∷◌, length, Option, Some}
 use Rattle.std.specs.Prelude.{None, slice_get, is_some, if◌then◌else◌}
 use Rattle.tword.specs.Stores.{Store}
 use Rattle.tproc.specs.declared.channels.Side.TheVariants.{Input, Output}
@@ -12,13 +12,15 @@ use Rattle.tplan.specs.Wires.{same_end, far_end}
 use Rattle.tplan.specs.Wires.{all_wires}
 use Rattle.tprocesses.specs.Places.{Place, Name, WordAt, Standing, Half, LinkHalf, Messages, Kept, same_name}
 use Rattle.tprocesses.specs.Places.{same_place}
-use Rattle.tprocesses.specs.Values.{Value, Use, Last, Spoilt, Stand, Rests, Runs, Link, Offered, IsWord, IsStand}
+use Rattle.tprocesses.specs.Values.{Value, Use, Last, Spoilt, Stand, Rests, Runs, Chosen, Holder, Link}
+use Rattle.tprocesses.specs.Values.{Offered, IsWord, IsStand}
 use Rattle.tprocesses.specs.Values.{IsHalf, IsLink, AreMessages, AreKept, stand_in}
 use Rattle.tprocesses.specs.Changes.{Change, ChangeKind, apply, kind_of, commute, awakens}
 use Rattle.tprocesses.specs.Parts.{Part, Doing, stopping, telling, done, see, Deed, walk_of, HasNoStep, ◌>>=◌, ◌>>◌}
 use Rattle.tprocesses.specs.Touching.{Site}
 use Rattle.tprocesses.specs.Standing.{resumes}
 use Rattle.tprocesses.specs.ChannelMessages.{channel_step}
+use Rattle.tprocesses.specs.Choosing.{goes_on_chosen, is_taken, is_awaited}
 use Rattle.tprocesses.specs.LinkMessages.{node_sends, source_sends, node_receives, sink_receives}
 use Rattle.tprocesses.specs.Scheduling.{successor_step}
 use Rattle.tprocesses.specs.Instructions.{runs}
@@ -99,6 +101,7 @@ gates p (Successor n k) = WordAt n k ∷ []
 abbrev pub is_ready : Stand → Bool
 is_ready (Rests c) = true
 is_ready (Runs c) = true
+is_ready (Chosen c) = true
 is_ready _ = false
 
 -- a half of a link has a process that waits for a message
@@ -110,6 +113,11 @@ is_offered _ = false
 abbrev pub has_messages : List (List ℕ) → Bool
 has_messages [] = false
 has_messages (m ∷ rest) = true
+
+-- a channel may go on at a half with this holder: a process waits for a message, or to the input also for several ones
+abbrev pub is_met_at : Place → Holder → Bool
+is_met_at (Half n c Input) h = is_taken h || is_awaited h
+is_met_at q h = is_taken h
 
 -- the count of a word awaits a successor, or the word is spoilt
 abbrev pub awaits_successor : Use → Bool
@@ -127,7 +135,7 @@ is_passable _ _ = false
 -- an agent may go on at a gate with this value; a wire that joins no two ends never
 abbrev pub is_open : Plan → Agent → Place → Value → Bool
 is_open p (Process x) q (IsStand s) = is_ready s
-is_open p (Channel n c) q (IsHalf h) = is_some h
+is_open p (Channel n c) q (IsHalf h) = is_met_at q h
 is_open p (Wire e) q v = is_some (sender_to p e) && is_passable q v
 is_open p (Successor n k) q (IsWord v) = awaits_successor v.used
 is_open p _ q _ = false
@@ -136,6 +144,7 @@ is_open p _ q _ = false
 abbrev pub process_step : Name → Stand → Site → Doing
 process_step x (Rests c) s = resumes s x c
 process_step x (Runs c) s = runs s x c
+process_step x (Chosen c) s = goes_on_chosen s x c
 process_step x _ s = stopping HasNoStep
 
 -- the message that goes over from an end

@@ -12,10 +12,10 @@ use Rattle.tplan.specs.declared.plan.NodePlan.{NodePlan}
 use Rattle.tplan.specs.declared.plan.SourcePlan.{SourcePlan}
 use Rattle.tplan.specs.declared.plan.SinkPlan.{SinkPlan}
 use Rattle.tplan.specs.declared.plan.Plan.{Plan}
-use Rattle.tprocesses.specs.Places.{Place, Root, Image, WordAt, Sending, Standing, Half, LinkHalf, Error}
+use Rattle.tprocesses.specs.Places.{Place, Root, Image, WordAt, Sending, Standing, Ports, Half, LinkHalf, Error}
 use Rattle.tprocesses.specs.Places.{HaltOnError, Life, Successions, Messages, Kept, Population, HasRun, FlagChanged}
-use Rattle.tprocesses.specs.Values.{Value, Word, Free, Saved, Stand, Absent, Rests, Empty, IsWord, IsStand, IsHalf}
-use Rattle.tprocesses.specs.Values.{IsLink, IsFlag, IsAmount, IsCount, AreMessages, AreKept}
+use Rattle.tprocesses.specs.Values.{Value, Word, Free, Saved, Stand, Absent, Rests, Nobody, Empty, IsWord, IsStand}
+use Rattle.tprocesses.specs.Values.{IsHalf, IsLink, IsFlag, IsAmount, IsCount, ArePorts, AreMessages, AreKept}
 use Rattle.tprocesses.specs.Standing.{fresh}
 
 -- the byte at an address after a segment was loaded
@@ -93,7 +93,8 @@ opening_state p (WordAt n k) =
     IsWord (of_node p n (record { cells = []; used = Free }) (λ plan. opened_word plan (most_neg + 4 * k)))
 opening_state p (Sending n k) = IsAmount (pos 0)
 opening_state p (Standing x) = IsStand (of_node p x.node Absent (stand_of x.root x.path))
-opening_state p (Half n c side) = IsHalf None
+opening_state p (Ports x) = ArePorts []
+opening_state p (Half n c side) = IsHalf Nobody
 opening_state p (LinkHalf e side) = IsLink Empty
 opening_state p (Error n) = IsFlag false
 opening_state p (HaltOnError n) = IsFlag false

@@ -16,9 +16,11 @@ pub data Reason : Type 0 where
   Halts : Reason
   -- a register or a byte decides that the scheduler may have changed
   SawTheScheduler : Reason
-  -- the instruction belongs to alternatives, which this machine has not
+  -- an alternative over a link
   HasAlternatives : Reason
-  -- a word is touched that is in use as a channel or as a count
+  -- the scheduler decides which of several channels an alternative chooses
+  SeveralReady : Reason
+  -- a word is touched that is in use as a channel, as a count or for an alternative
   WordInUse : Reason
   -- a sink has no room for the message
   FullSink : Reason

@@ -31,6 +31,8 @@ pub data Place : Type 0 where
   Sending : (node word : ℕ) → Place
   -- where a process stands
   Standing : Name → Place
+  -- the channels that a process has enabled
+  Ports : Name → Place
   -- who waits to input, or to output, on the internal channel at an address
   Half : (node channel : ℕ) → Side → Place
   -- the input, or the output, of a link
@@ -80,6 +82,7 @@ abbrev pub same_place : Place → Place → Bool
 same_place (WordAt n k) (WordAt m l) = (n == m) && (k == l)
 same_place (Sending n k) (Sending m l) = (n == m) && (k == l)
 same_place (Standing x) (Standing y) = same_name x y
+same_place (Ports x) (Ports y) = same_name x y
 same_place (Half n c s) (Half m d t) = (n == m) && (c == d) && same_side s t
 same_place (LinkHalf e s) (LinkHalf f t) = same_end e f && same_side s t
 same_place (Error n) (Error m) = n == m

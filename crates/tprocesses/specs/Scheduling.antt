@@ -19,13 +19,15 @@ use Rattle.tproc.specs.LinkChannels.{is_link}
 use Rattle.tprocesses.specs.Places.{Name, WordAt, Error, Successions, After, child_of}
 use Rattle.tprocesses.specs.Values.{Use, Last, Context, Runs, IsWord, IsCount, word_in, flag_in, count_in}
 use Rattle.tprocesses.specs.Changes.{Put, Decrement, free_word, known_word}
-use Rattle.tprocesses.specs.Parts.{Doing, stopping, see, change, unless, Breaks, HasAlternatives, WordInUse, ◌>>=◌}
+use Rattle.tprocesses.specs.Parts.{Doing, stopping, see, change, unless, Breaks, WordInUse, ◌>>=◌}
 use Rattle.tprocesses.specs.Parts.{◌>>◌}
 use Rattle.tprocesses.specs.Touching.{Site, word_number, word_place, touch_word_at, write_word_at, unsent}
 use Rattle.tprocesses.specs.Performing.{bytes_if}
 use Rattle.tprocesses.specs.Standing.{goes_on, known, push, pop, fresh, comes, starts, ends}
 use Rattle.tprocesses.specs.ChannelMessages.{takes_half}
 use Rattle.tprocesses.specs.LinkMessages.{takes_link}
+use Rattle.tprocesses.specs.Choosing.{begins_choice, enables_channel, enables_skip, awaits_choice, disables_channel}
+use Rattle.tprocesses.specs.Choosing.{disables_skip, ends_choice}
 
 -- a process that has started one more child
 abbrev pub with_child : Context → Context
@@ -107,13 +109,13 @@ schedules In s x c = sends_or_receives Input s x c
 schedules Out s x c = sends_or_receives Output s x c
 schedules Outbyte s x c = sends_from_workspace 1 s x c
 schedules Outword s x c = sends_from_workspace 4 s x c
-schedules Alt s x c = stopping HasAlternatives
-schedules Enbc s x c = stopping HasAlternatives
-schedules Enbs s x c = stopping HasAlternatives
-schedules Altwt s x c = stopping HasAlternatives
-schedules Disc s x c = stopping HasAlternatives
-schedules Diss s x c = stopping HasAlternatives
-schedules Altend s x c = stopping HasAlternatives
+schedules Alt s x c = begins_choice s x c
+schedules Enbc s x c = enables_channel s x c
+schedules Enbs s x c = enables_skip s x c
+schedules Altwt s x c = awaits_choice s x c
+schedules Disc s x c = disables_channel s x c
+schedules Diss s x c = disables_skip s x c
+schedules Altend s x c = ends_choice s x c
 schedules _ s x c = stopping (Breaks NoSuchOperation)
 
 -- the workspace of the process that goes on where others have ended, by the number of the word that counted them: that

@@ -1,7 +1,8 @@
 -- How a process comes, waits, goes on and ends.
 -- Source: the Compiler Writer's Guide (1988) for the saved words. That each process that is ready may go on at any
 -- time, and what it knows then: own choice.
-use Rattle.std.specs.Prelude.{ℕ, ◌==◌, pos, negsuc, Bool, true, false, Option, Some, None, if◌then◌else◌}
+use Rattle.std.specs.Prelude.{ℕ, ◌==◌, pos, negsuc, Bool, true, false, Option, Some, None, is_none}
+use Rattle.std.specs.Prelude.{if◌then◌else◌}
 use Rattle.tword.specs.declared.breaks.Break.TheVariants.{Unaligned, AlreadyLive}
 use Rattle.tword.specs.Words.{word_below}
 use Rattle.tword.specs.Touches.{is_aligned}
@@ -12,7 +13,7 @@ use Rattle.tprocesses.specs.Values.{Free, Saved, Context, Lent, Stand, Absent, R
 use Rattle.tprocesses.specs.Values.{Empty, Copied, IsWord, IsStand, IsLink, stand_in, link_in, amount_in}
 use Rattle.tprocesses.specs.Changes.{Put, Add, Raise}
 use Rattle.tprocesses.specs.Parts.{Part, gives, stopping, Doing, done, see, change, require, Breaks}
-use Rattle.tprocesses.specs.Parts.{SawTheScheduler, HasNoStep, ◌>>=◌, ◌>>◌}
+use Rattle.tprocesses.specs.Parts.{SawTheScheduler, WordInUse, HasNoStep, ◌>>=◌, ◌>>◌}
 use Rattle.tprocesses.specs.Touching.{Site, word_number, word_place, is_zero, word_for, count_outputs, save, kept}
 
 -- a process stands there
@@ -52,6 +53,7 @@ fresh priority w iptr =
       c = Some 0;
       children = 0;
       lent = None;
+      choice = None;
     }
 
 -- a process that starts was not there
@@ -78,9 +80,10 @@ starts s x c = do
   comes s x c Rests
   save s c.wptr kept
 
--- a process ends
+-- a process ends, with no alternative under way
 abbrev pub ends : Site → Name → Context → Doing
 ends s x c = do
+  require (is_none c.choice) WordInUse
   change (Life s.number c.wptr) (Add (negsuc 0))
   stands x Ended
 
@@ -109,12 +112,17 @@ unsave_word s address = do
   cells ← word_for s Saved (word_number address)
   change (word_place s address) (Put (IsWord (record { cells = cells; used = Free })))
 
+-- the upper two words below a workspace are for programs again
+abbrev pub unsave_upper : Site → ℕ → Doing
+unsave_upper s w = do
+  unsave_word s (word_below w 2)
+  unsave_word s (word_below w 1)
+
 -- the three words below a workspace are for programs again
 abbrev pub unsave : Site → ℕ → Doing
 unsave s w = do
   unsave_word s (word_below w 3)
-  unsave_word s (word_below w 2)
-  unsave_word s (word_below w 1)
+  unsave_upper s w
 
 -- the message of an output has gone over
 abbrev pub is_copied : Link → Bool

@@ -10,8 +10,9 @@ use Rattle.tword.specs.Stores.{Store, place}
 use Rattle.tword.specs.Words.{word_below}
 use Rattle.tword.specs.Touches.{Mode, Reads, Writes, place_break, word_place_break}
 use Rattle.tprocesses.specs.Places.{Place, WordAt, Sending}
-use Rattle.tprocesses.specs.Values.{Use, Free, Saved, Receiving, Engaged, Last, Spoilt, IsWord, word_in, amount_in}
-use Rattle.tprocesses.specs.Values.{unknown}
+use Rattle.tprocesses.specs.Values.{Use, Free, Saved, Receiving, Engaged, Choosing}
+use Rattle.tprocesses.specs.Values.{Awaiting, Last, Spoilt, IsWord, word_in}
+use Rattle.tprocesses.specs.Values.{amount_in, unknown}
 use Rattle.tprocesses.specs.Changes.{Put, Add}
 use Rattle.tprocesses.specs.Parts.{Breaks, WordInUse, Part, gives, stopping, Doing, done, see, change, require}
 use Rattle.tprocesses.specs.Parts.{unless, ◌>>=◌, ◌>>◌}
@@ -52,6 +53,8 @@ same_use Free Free = true
 same_use Saved Saved = true
 same_use Receiving Receiving = true
 same_use Engaged Engaged = true
+same_use Choosing Choosing = true
+same_use Awaiting Awaiting = true
 same_use (Last p) (Last q) = p == q
 same_use Spoilt Spoilt = true
 same_use _ _ = false
@@ -167,10 +170,14 @@ forgotten cells = unknown
 abbrev pub kept : Store → Store
 kept cells = cells
 
--- the three words below a workspace become saved words. The scheduler may change the upper two; lowest: what is known
--- of the third one
+-- the upper two words below a workspace become saved words, which the scheduler may change
+abbrev pub save_upper : Site → ℕ → Doing
+save_upper s w = do
+  save_word s (word_below w 2) forgotten
+  save_word s (word_below w 1) forgotten
+
+-- the three words below a workspace become saved words; lowest: what is known of the third one
 abbrev pub save : Site → ℕ → (Store → Store) → Doing
 save s w lowest = do
   save_word s (word_below w 3) lowest
-  save_word s (word_below w 2) forgotten
-  save_word s (word_below w 1) forgotten
+  save_upper s w

@@ -2,7 +2,7 @@
 -- unknown: None.
 -- Source: the Compiler Writer's Guide (1988) for registers and workspaces. Unknown values, and what a word is in use
 -- for: own choice.
-use Rattle.std.specs.Prelude.{ℕ, ℤ, pos, Bool, true, List, Option, None, replicate}
+use Rattle.std.specs.Prelude.{ℕ, ℤ, pos, Bool, true, List, [], Option, None, replicate}
 use Rattle.tword.specs.Stores.{Store}
 use Rattle.tword.specs.declared.span.Span.{Span}
 use Rattle.tprocesses.specs.Places.{Name}
@@ -17,6 +17,10 @@ pub data Use : Type 0 where
   Receiving : Use
   -- an internal channel on which a process waits
   Engaged : Use
+  -- the state of an alternative that is under way
+  Choosing : Use
+  -- the state of an alternative whose process waits for it, or was made to go on
+  Awaiting : Use
   -- the count of processes that end together: the last of them has ended, with this priority
   Last : (priority : ℕ) → Use
   -- two uses that exclude each other: whoever looks at it stops
@@ -32,7 +36,12 @@ pub record Lent : Type 0 where
   pub link : ℕ
   pub buffer : Span
 
--- the registers of a process, how many processes it has started, and its output that is not over
+-- an alternative that is under way: whether it need not wait, since a guard without a channel was true, or since a
+-- channel made it go on
+pub record Choice : Type 0 where
+  pub skips : Bool
+
+-- the registers of a process, how many processes it has started, its output that is not over, and its alternative
 pub record Context : Type 0 where
   pub priority : ℕ
   pub wptr : ℕ
@@ -42,6 +51,7 @@ pub record Context : Type 0 where
   pub c : Option ℕ
   pub children : ℕ
   pub lent : Option Lent
+  pub choice : Option Choice
 
 -- where a process stands
 pub data Stand : Type 0 where
@@ -53,12 +63,25 @@ pub data Stand : Type 0 where
   Runs : Context → Stand
   -- it waits for a message to pass
   Waits : Context → Stand
+  -- it waits for one of the channels that it has enabled
+  Chooses : Context → Stand
+  -- it is ready, since one of them made it go on
+  Chosen : Context → Stand
   Ended : Stand
 
 -- a process that waits at a channel, with its buffer
 pub record Request : Type 0 where
   pub process : Name
   pub buffer : Span
+
+-- who has a half of an internal channel
+pub data Holder : Type 0 where
+  Nobody : Holder
+  TakenBy : Request → Holder
+  -- a process that has enabled the channel
+  EnabledBy : Name → Holder
+  -- a process that waits for the channel, and for others
+  AwaitedBy : Name → Holder
 
 -- a half of a link
 pub data Link : Type 0 where
@@ -71,11 +94,13 @@ pub data Link : Type 0 where
 pub data Value : Type 0 where
   IsWord : Word → Value
   IsStand : Stand → Value
-  IsHalf : Option Request → Value
+  IsHalf : Holder → Value
   IsLink : Link → Value
   IsFlag : Bool → Value
   IsAmount : ℤ → Value
   IsCount : ℕ → Value
+  -- channels
+  ArePorts : List ℕ → Value
   -- messages still to come
   AreMessages : List (List ℕ) → Value
   -- messages kept, the first one first, and how many bytes there is room for
@@ -95,9 +120,9 @@ abbrev pub stand_in : Value → Stand
 stand_in (IsStand s) = s
 stand_in _ = Ended
 
-abbrev pub half_in : Value → Option Request
+abbrev pub half_in : Value → Holder
 half_in (IsHalf h) = h
-half_in _ = None
+half_in _ = Nobody
 
 abbrev pub link_in : Value → Link
 link_in (IsLink l) = l
@@ -114,3 +139,7 @@ amount_in _ = pos 1
 abbrev pub count_in : Value → ℕ
 count_in (IsCount n) = n
 count_in _ = 0
+
+abbrev pub ports_in : Value → List ℕ
+ports_in (ArePorts channels) = channels
+ports_in _ = []
