@@ -2,8 +2,8 @@
 use Rattle.std.proofs.Common.{◌≡◌, ℕ, refl, sym, subst, ap, ◌∙◌, Bool, true, false, Some, Ok}
 use Rattle.std.specs.Prelude.{◌==◌, ◌&&◌, slice_get, if◌then◌else◌}
 use Rattle.std.proofs.lemmas.Bool.{eqb-true}
-use Rattle.tprocesses.specs.Places.{Place, WordAt, Sending, Standing, Half, LinkHalf, Error, HaltOnError, Life}
-use Rattle.tprocesses.specs.Places.{Successions, Messages, Kept, Population, HasRun, FlagChanged}
+use Rattle.tprocesses.specs.Places.{Place, WordAt, Sending, Standing, Ports, Half, LinkHalf, Error, HaltOnError}
+use Rattle.tprocesses.specs.Places.{Life, Successions, Messages, Kept, Population, HasRun, FlagChanged}
 use Rattle.tprocesses.specs.Values.{Value, IsWord}
 use Rattle.tprocesses.specs.Changes.{Change, Put, apply}
 use Rattle.tprocesses.specs.Parts.{change}
@@ -34,6 +34,7 @@ module _ (s : State) (n k : ℕ) (c : Change) (v : Value) (makes : apply c (s (W
   put_at (WordAt m l) = put_word m l (n == m) (k == l) refl refl
   put_at (Sending m l) = refl
   put_at (Standing z) = refl
+  put_at (Ports z) = refl
   put_at (Half m l z) = refl
   put_at (LinkHalf z l) = refl
   put_at (Error m) = refl

@@ -1,11 +1,12 @@
 -- What a change makes of a state in which a node has a board.
 use Rattle.std.proofs.Common.{◌≡◌, ℕ, refl, sym, ap, ◌∙◌, Bool, true, false, List, eq-eqb}
-use Rattle.std.specs.Prelude.{◌==◌, ◌&&◌, ℤ, pos, ◌+ℤ◌, Option, if◌then◌else◌}
+use Rattle.std.specs.Prelude.{◌==◌, ◌&&◌, ℤ, pos, ◌+ℤ◌, if◌then◌else◌}
 use Rattle.tproc.specs.declared.channels.Side.{Side}
 use Rattle.tplan.specs.Wires.{end_at}
-use Rattle.tprocesses.specs.Places.{Place, Name, Standing, Half, LinkHalf, Error, HaltOnError, Life, Successions}
-use Rattle.tprocesses.specs.Places.{Population, HasRun, FlagChanged, same_place, same_name, same_side}
-use Rattle.tprocesses.specs.Values.{Value, Stand, Request, Link, IsStand, IsHalf, IsLink, IsFlag, IsAmount, IsCount}
+use Rattle.tprocesses.specs.Places.{Place, Name, Standing, Ports, Half, LinkHalf, Error, HaltOnError, Life}
+use Rattle.tprocesses.specs.Places.{Successions, Population, HasRun, FlagChanged, same_place, same_name, same_side}
+use Rattle.tprocesses.specs.Values.{Value, Stand, Holder, Link, IsStand, ArePorts, IsHalf, IsLink, IsFlag}
+use Rattle.tprocesses.specs.Values.{IsAmount, IsCount}
 use Rattle.tprocesses.specs.Changes.{Change, Put, Add, Raise, apply}
 use Rattle.tcertify.proofs.Telling.{same_place-true}
 use Rattle.tcertify.specs.declared.stored.StoredWord.{StoredWord}
@@ -162,8 +163,23 @@ module _ (n : ℕ) (words : List StoredWord) (x : Board) (rest : State) where
           (λ h. ap IsStand (others z e))
       others_stay q e = refl
 
-  -- who has taken a half of a channel
-  pub half_put : (a : ℕ) (side : Side) (r : Option Request) (f : ℕ → Side → Option Request) → f a side ≡ r
+  -- the channels that a process has enabled
+  pub ports_put : (y : Name) (ports : List ℕ) (f : Name → List ℕ) → y.node ≡ x.node → f y ≡ ports
+      → ((z : Name) → same_name y z ≡ false → f z ≡ x.ports z)
+      → at (record x { ports = f }) ≡ changed (Ports y) (Put (ArePorts ports)) (at x)
+  ports_put y ports f own set others =
+      state_changed (at x) (at (record x { ports = f })) (Ports y) (Put (ArePorts ports))
+      (chosen (x.node == y.node) (ArePorts (f y)) (rest (Ports y)) (eq-eqb x.node y.node (sym own))
+      ∙ ap ArePorts set) others_stay
+    where
+      others_stay : (q : Place) → same_place (Ports y) q ≡ false → at (record x { ports = f }) q ≡ at x q
+      others_stay (Ports z) e =
+          alike (x.node == z.node) (ArePorts (f z)) (ArePorts (x.ports z)) (rest (Ports z))
+          (λ h. ap ArePorts (others z e))
+      others_stay q e = refl
+
+  -- who has a half of a channel
+  pub half_put : (a : ℕ) (side : Side) (r : Holder) (f : ℕ → Side → Holder) → f a side ≡ r
       → ((c : ℕ) (t : Side) → ((a == c) && same_side side t) ≡ false → f c t ≡ x.half c t)
       → at (record x { half = f }) ≡ changed (Half x.node a side) (Put (IsHalf r)) (at x)
   half_put a side r f set others =

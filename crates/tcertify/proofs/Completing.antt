@@ -1,11 +1,11 @@
 -- The end of an instruction, and a step of a process.
 use Rattle.std.proofs.Common.{◌≡◌, ◌<◌, ℕ, ◌∙◌, sym, subst, length, Bool, [], Result, Ok, Err}
-use Rattle.std.specs.Prelude.{not, ◌||◌, unwrap_or}
+use Rattle.std.specs.Prelude.{not, ◌||◌, ◌==◌, is_none, unwrap_or}
 use Rattle.tword.specs.Words.{plus}
 use Rattle.tcode.specs.declared.instruction.Instruction.{Instruction}
 use Rattle.tprocesses.specs.Places.{Name, Standing}
 use Rattle.tprocesses.specs.Values.{Context, IsStand, Stand, stand_in}
-use Rattle.tprocesses.specs.Parts.{Reason, Part, Doing, SawTheScheduler, gives, require, see, ◌>>=◌, ◌>>◌}
+use Rattle.tprocesses.specs.Parts.{Reason, Part, Doing, SawTheScheduler, WordInUse, gives, require, see, ◌>>=◌, ◌>>◌}
 use Rattle.tprocesses.specs.Performing.{Performed, perform}
 use Rattle.tprocesses.specs.Uses.{Uses, has_needed, uses_of}
 use Rattle.tcpu.specs.Outcomes.{Outcome}
@@ -21,28 +21,43 @@ use Rattle.tcertify.specs.Carried.{Followed}
 use Rattle.tcertify.specs.Nodes.{Does, RunsAt, name_at, node_site, nothing}
 use Rattle.tcertify.specs.Steps.{ended, instructed, performed, step_of_process}
 use Rattle.tcertify.proofs.Following.{does_then}
-use Rattle.tcertify.proofs.NodeRunning.{bind_assoc, does_stop, runs_at_stop}
+use Rattle.tcertify.proofs.NodeRunning.{bind_assoc, does_on, does_stop, runs_at_stop}
 
 -- the end of an instruction
 module _ (a b : Node) (k : ℕ) (ctx : Context) (i : Instruction) (f : Followed) where
   abbrev at_end : Context → Site → Name → Unit {0} → Doing
   at_end scheduled s x _ = spec.followed f.0 s x scheduled f.1
 
-  pub moves_not : (e : Fault) → Does (moves (node_site a) ctx.wptr f.1.wptr) nothing a (Err e) b
+  -- whether it may have its workspace
+  abbrev pub keeps : Doing
+  keeps = require (is_none ctx.choice || (ctx.wptr == f.1.wptr)) WordInUse
+
+  abbrev behind_keeps : Site → Name → Doing
+  behind_keeps s x =
+      moves s ctx.wptr f.1.wptr >>= at_end (record ctx { iptr = plus ctx.iptr i.length }) s x
+
+  pub keeps_not : (why : Reason) → RunsAt keeps a (Err why) a
+      → RunsAt (ended ctx i (node_site a) (name_at a k) f) a (Err why) a
+  keeps_not why h = runs_at_stop keeps (λ _. behind_keeps (node_site a) (name_at a k)) a a why h
+
+  pub moves_not : (e : Fault) → RunsAt keeps a (Ok tt) a → Does (moves (node_site a) ctx.wptr f.1.wptr) nothing a (Err
+      e) b
       → Does (ended ctx i (node_site a) (name_at a k) f) nothing a (Err e) b
-  moves_not e h =
-      does_stop (moves (node_site a) ctx.wptr f.1.wptr)
-      (at_end (record ctx { iptr = plus ctx.iptr i.length }) (node_site a) (name_at a k)) nothing nothing a b e h
+  moves_not e kept h =
+      does_on keeps (λ _. behind_keeps (node_site a) (name_at a k)) nothing a a b tt (Err e) kept
+      (does_stop (moves (node_site a) ctx.wptr f.1.wptr)
+      (at_end (record ctx { iptr = plus ctx.iptr i.length }) (node_site a) (name_at a k)) nothing nothing a b e h)
 
   pub completed : (c : Node) (r : Result (Unit {0}) Fault) → k < length a.processes.items.items
-      → RunsAt (moves (node_site a) ctx.wptr f.1.wptr) a (Ok tt) b
+      → RunsAt keeps a (Ok tt) a → RunsAt (moves (node_site a) ctx.wptr f.1.wptr) a (Ok tt) b
       → (scheduled : Context) → scheduled ≡ record ctx { iptr = plus ctx.iptr i.length }
       → Does (spec.followed f.0 (node_site b) (name_at b k) scheduled f.1) nothing b r c
       → Does (ended ctx i (node_site a) (name_at a k) f) nothing a r c
-  completed c r inside first scheduled e h =
-      does_then a b c k (moves (node_site a) ctx.wptr f.1.wptr) (at_end (record ctx { iptr = plus ctx.iptr i.length }))
+  completed c r inside kept first scheduled e h =
+      does_on keeps (λ _. behind_keeps (node_site a) (name_at a k)) nothing a a c tt r kept
+      (does_then a b c k (moves (node_site a) ctx.wptr f.1.wptr) (at_end (record ctx { iptr = plus ctx.iptr i.length }))
       tt first inside nothing r
-      (subst (λ (l : Context). Does (at_end l (node_site b) (name_at b k) tt) nothing b r c) e h)
+      (subst (λ (l : Context). Does (at_end l (node_site b) (name_at b k) tt) nothing b r c) e h))
 
 -- what follows may be told otherwise
 bind_same : {A B : Type 0} (p : Part A) (f g : A → Part B) → ((x : A) → f x ≡ g x) → (p >>= f) ≡ (p >>= g)

@@ -9,8 +9,8 @@ use Rattle.std.proofs.lemmas.Int.{ints}
 use Rattle.std.proofs.lemmas.List.Elements.{All-cons, All-nil}
 use Rattle.tagents.specs.WalkAccesses.{Changes}
 use Rattle.tword.specs.declared.span.Span.{Span}
-use Rattle.tprocesses.specs.Places.{Place, WordAt, Sending, Standing, Half, LinkHalf, Error, HaltOnError, Life}
-use Rattle.tprocesses.specs.Places.{Successions, Messages, Kept, Population, HasRun, FlagChanged}
+use Rattle.tprocesses.specs.Places.{Place, WordAt, Sending, Standing, Ports, Half, LinkHalf, Error, HaltOnError}
+use Rattle.tprocesses.specs.Places.{Life, Successions, Messages, Kept, Population, HasRun, FlagChanged}
 use Rattle.tprocesses.specs.Values.{Value, Word, IsWord, IsAmount}
 use Rattle.tprocesses.specs.Changes.{Add, Adds, apply}
 use Rattle.tprocesses.specs.Touching.{Site, count_outputs, count_words, word_count, word_number}
@@ -107,6 +107,7 @@ module _ (n : ℕ) (ws : List StoredWord) (k : ℕ) (x y : StoredWord) (there : 
   place_counted rest (WordAt m l) = word_stays (n == m) l (rest (WordAt m l))
   place_counted rest (Sending m l) = sent_changes (n == m) l (rest (Sending m l))
   place_counted rest (Standing q) = refl
+  place_counted rest (Ports q) = refl
   place_counted rest (Half m l q) = refl
   place_counted rest (LinkHalf q l) = refl
   place_counted rest (Error m) = refl

@@ -1,8 +1,8 @@
 -- Messages of sources and sinks.
-use Rattle.std.proofs.Common.{◌≡◌, ◌≤◌, ◌∙◌, ℕ, zero, suc, ◌+◌, ◌-◌, refl, sym, ap, subst, arith, Bool, true, false}
+use Rattle.std.proofs.Common.{◌≡◌, ◌≤◌, ℕ, zero, suc, ◌-◌, refl, sym, ap, subst, arith, Bool, true, false}
 use Rattle.std.proofs.Common.{List, [], ◌∷◌, ◌++◌}
-use Rattle.std.proofs.Common.{Ok, Err, length, Some}
-use Rattle.std.specs.Prelude.{drop, map, nat_le, slice_get}
+use Rattle.std.proofs.Common.{Ok, Err, length}
+use Rattle.std.specs.Prelude.{drop, nat_le}
 use Rattle.tplan.specs.declared.plan.End.{End}
 use Rattle.tword.specs.Stores.{Store, as_cells}
 use Rattle.tprocesses.specs.Changes.{Put}

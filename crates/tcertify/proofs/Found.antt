@@ -51,6 +51,25 @@ find_else test (z ∷ zs) zero x y there before after =
 find_else test (z ∷ zs) (suc k) x y there before after =
     ap (λ (o : Option _). cond (test z) (Some z) o) (find_else test zs k x y there before after)
 
+-- what is told of the one that is found stays where one is set that tells the same, and that a test finds as before
+pub find_same : {X Y : Type 0} (test : X → Bool) (f : Option X → Y) (xs : List X) (k : ℕ) (x y : X)
+    → slice_get xs k ≡ Some x → test y ≡ test x → f (Some y) ≡ f (Some x)
+    → f (find test (slice_set xs k y)) ≡ f (find test xs)
+find_same test f [] k x y there alike e = cc
+find_same test f (z ∷ zs) zero x y there alike e =
+    ap (λ (b : Bool). f (cond b (Some y) (find test zs))) alike ∙ by (test x)
+    ∙ ap (λ (w : _). f (cond (test w) (Some w) (find test zs))) (sym (same_Some z x there))
+  where
+    by : (b : Bool) → f (cond b (Some y) (find test zs)) ≡ f (cond b (Some x) (find test zs))
+    by true = e
+    by false = refl
+find_same test f (z ∷ zs) (suc k) x y there alike e = by (test z) (find_same test f zs k x y there alike e)
+  where
+    by : (b : Bool) → f (find test (slice_set zs k y)) ≡ f (find test zs)
+        → f (cond b (Some z) (find test (slice_set zs k y))) ≡ f (cond b (Some z) (find test zs))
+    by true h = refl
+    by false h = h
+
 -- what is told of a list stays where one of it is set that tells the same
 pub map_set : {X Y : Type 0} (f : X → Y) (xs : List X) (k : ℕ) (x y : X) → slice_get xs k ≡ Some x → f y ≡ f x
     → map f (slice_set xs k y) ≡ map f xs

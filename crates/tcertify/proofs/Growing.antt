@@ -3,8 +3,8 @@ use Rattle.std.proofs.Common.{◌≡◌, ℕ, sym, ap, ◌∙◌, ◌+◌, Some}
 use Rattle.std.specs.Prelude.{slice_get}
 use Rattle.tproc.specs.declared.channels.Side.TheVariants.{Input, Output}
 use Rattle.tplan.specs.Wires.{end_at}
-use Rattle.tprocesses.specs.Places.{Place, Name, WordAt, Sending, Standing, Half, LinkHalf, Error, HaltOnError, Life}
-use Rattle.tprocesses.specs.Places.{Successions, Population, HasRun, FlagChanged}
+use Rattle.tprocesses.specs.Places.{Place, Name, WordAt, Sending, Standing, Ports, Half, LinkHalf, Error}
+use Rattle.tprocesses.specs.Places.{HaltOnError, Life, Successions, Population, HasRun, FlagChanged}
 use Rattle.tprocesses.specs.Touching.{Site}
 use Rattle.tcertify.specs.declared.channel.Channel.{Channel}
 use Rattle.tcertify.specs.declared.life.Life as life
@@ -49,6 +49,13 @@ module _ (a b : Node) (h : Stays a b) where
     stand k p at =
         let (q, there, same) = h.processes.items k p at in
         ap (λ (x : Name). numbering (Standing x)) (sym (name_agrees p q same)) ∙ n.stand k q there
+        ∙ ap (λ (k : Name × ℕ). k.1) same
+
+    ports : (k : ℕ) (p : Process) → slice_get a.processes.items.items k ≡ Some p
+        → numbering (Ports (name_of a.words.number p)) ≡ p.place
+    ports k p at =
+        let (q, there, same) = h.processes.items k p at in
+        ap (λ (x : Name). numbering (Ports x)) (sym (name_agrees p q same)) ∙ n.ports k q there
         ∙ ap (λ (k : Name × ℕ). k.1) same
 
     input : (k : ℕ) (c : Channel) → slice_get a.channels.items.items k ≡ Some c
@@ -100,6 +107,7 @@ module _ (a b : Node) (h : Stays a b) where
             sending = λ k. word_at (λ m. Sending m k) (λ f. f + k) (n.words.sending k);
           };
           stand = stand;
+          ports = ports;
           input = input;
           output = output;
           life = counts;

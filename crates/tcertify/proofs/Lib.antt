@@ -54,6 +54,7 @@ pub mod NodeFlags
 -- Things that are found; processes of a node.
 pub mod Found
 pub mod NodeStands
+pub mod NodePorts
 -- Processes that wake, come and end.
 pub mod NodeWaking
 -- Workspaces of a node.
@@ -97,7 +98,10 @@ pub mod OpenedWords
 pub mod NodeOpening
 -- Whether a process comes before the first step, by the workspaces of those before it.
 pub mod OwnWorkspaces
--- Messages on internal channels.
+-- Messages on internal channels, and alternatives.
+pub mod Choices
+pub mod Alternatives
+pub mod EachPort
 pub mod Messages
 -- Messages on links.
 pub mod LinkOffers

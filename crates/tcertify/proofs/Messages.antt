@@ -6,7 +6,7 @@ use Rattle.std.proofs.Common.{◌⊎◌, inl, inr}
 use Rattle.std.proofs.Math.Dec.{eqb}
 use Rattle.std.proofs.lemmas.Bool.Decides.{eqb_tells}
 use Rattle.std.proofs.lemmas.Option.{slice_get-map}
-use Rattle.std.specs.Prelude.{is_none, is_some, option_map, slice_get, unwrap_or, ◌==◌, ◌≢◌}
+use Rattle.std.specs.Prelude.{option_map, slice_get, unwrap_or, ◌==◌, ◌≢◌}
 use Rattle.tword.specs.declared.breaks.Break.{Break}
 use Rattle.tword.specs.declared.breaks.Break.TheVariants.{ChannelMisuse, LengthMismatch}
 use Rattle.tword.specs.declared.span.Span.{Span}
@@ -17,7 +17,7 @@ use Rattle.tproc.specs.declared.channels.Side.{Side}
 use Rattle.tproc.specs.declared.channels.Side.TheVariants.{Input, Output}
 use Rattle.tproc.specs.Channels.{mode_of}
 use Rattle.tproc.specs.Queues.{not_process}
-use Rattle.tprocesses.specs.ChannelMessages.{channel_step, meet, meet_if, takes_half}
+use Rattle.tprocesses.specs.ChannelMessages.{channel_step, is_nobody, meet, meet_if, takes_half}
 use Rattle.tprocesses.specs.Changes.{Engage, Put, free_word}
 use Rattle.tprocesses.specs.Parts.{Reason, Breaks, HasNoStep, Part, Doing, done, stopping, change, require, see, unless}
 use Rattle.tprocesses.specs.Parts.{◌>>=◌, ◌>>◌}
@@ -26,15 +26,18 @@ use Rattle.tprocesses.specs.Places.{Name, Place, Half, WordAt}
 use Rattle.tprocesses.specs.Standing.{forget, stands, wakes}
 use Rattle.tprocesses.specs.Touching.{Site, forgotten, save, touch, unsent, word_for, word_number, word_place}
 use Rattle.tprocesses.specs.Values as value
-use Rattle.tprocesses.specs.Values.{Context, Engaged, IsCount, IsHalf, IsWord, Value, Waits, Word}
+use Rattle.tprocesses.specs.Values.{AwaitedBy, Context, EnabledBy, Engaged, IsCount, IsHalf, IsWord, Nobody}
+use Rattle.tprocesses.specs.Values.{TakenBy, Value, Waits, Word}
 use Rattle.tprocesses.specs.Values.{half_in}
 use Rattle.tcertify.specs.declared.channel.Channel.{Channel}
+use Rattle.tcertify.specs.declared.channel.Holder.{Holder}
+use Rattle.tcertify.specs.declared.channel.Holder.TheVariants as holder
 use Rattle.tcertify.specs.declared.channel.Request.{Request}
 use Rattle.tcertify.specs.declared.fault.Fault.{Fault}
 use Rattle.tcertify.specs.declared.fault.Fault.TheVariants as fault
 use Rattle.tcertify.specs.declared.node.Node.{Node}
 use Rattle.tcertify.specs.declared.stop.Stop.TheVariants as stop
-use Rattle.tcertify.specs.Channels.{request_of}
+use Rattle.tcertify.specs.Channels.{holder_of}
 use Rattle.tcertify.specs.Messages.{awaits, leave, marks, passes}
 use Rattle.tcertify.specs.Nodes.{Does, Grows, RunsAt, address_at, name_at, names, node_site, nothing}
 use Rattle.tcertify.proofs.Following.{does_still, does_then, inside_still, runs_then}
@@ -126,27 +129,28 @@ module _ (a : Node) (k : ℕ) (ctx : Context) (side : Side) (channel : ℕ) (buf
           (runs_then c d e k (change (word_place (node_site c) channel) Engage) (λ s x _. awaits s x ctx side buffer) tt
           third in_c r fourth))
 
--- whoever has taken a half, by its number
-pub asks_some : (names : List Name) (o : Option Request) → is_some o ≡ true → is_none (request_of names o) ≡ false
-asks_some names (Some r) e = refl
-asks_some names None e = cc
+-- whoever has a half, by its number
+pub asks_some : (names : List Name) (h : Holder) → (h ≡ holder.Nobody → ⊥) → is_nobody (holder_of names h) ≡ false
+asks_some names holder.Nobody n = absurd (n refl)
+asks_some names (holder.Taken r) n = refl
+asks_some names (holder.Enabled k) n = refl
+asks_some names (holder.Awaited k) n = refl
 
-pub asks_none : (names : List Name) (o : Option Request) → is_some o ≡ false → is_none (request_of names o) ≡ true
-asks_none names (Some r) e = cc
-asks_none names None e = refl
+pub asks_none : (names : List Name) (h : Holder) → h ≡ holder.Nobody → is_nobody (holder_of names h) ≡ true
+asks_none names h e = ap (λ (x : Holder). is_nobody (holder_of names x)) e
 
 -- a process takes its half
 module _ (a : Node) (k : ℕ) (ctx : Context) (side : Side) (channel : ℕ) (buffer : Span) where
   abbrev sets : Site → Name → Doing
   sets s x =
-      change (Half s.number channel side) (Put (IsHalf (Some (record { process = x; buffer = buffer }))))
+      change (Half s.number channel side) (Put (IsHalf (TakenBy (record { process = x; buffer = buffer }))))
       >> marks s x ctx side channel buffer
 
   abbrev sets_if : Bool → Site → Name → Doing
   sets_if t s x = require t (Breaks ChannelMisuse) >> sets s x
 
   abbrev asks : Site → Name → Doing
-  asks s x = see (Half s.number channel side) >>= (λ (v : Value). sets_if (is_none (half_in v)) s x)
+  asks s x = see (Half s.number channel side) >>= (λ (v : Value). sets_if (is_nobody (half_in v)) s x)
 
   pub takes_nowhere : (n : ℕ) (e : Break) → or_break (word_place_break (node_site a).size channel) n ≡ Err e
       → RunsAt (takes_half (node_site a) (name_at a k) ctx side channel buffer) a (Err (Breaks e)) a
@@ -156,9 +160,9 @@ module _ (a : Node) (k : ℕ) (ctx : Context) (side : Side) (channel : ℕ) (buf
 
   module _ (n m : ℕ) (there : or_break (word_place_break (node_site a).size channel) n ≡ Ok m)
       (inside : k < length a.processes.items.items) (b : Node) (first : RunsAt done a (Ok tt) b) (j : ℕ)
-      (at : address_at b j ≡ channel) (o : Option value.Request) (c : Node)
+      (at : address_at b j ≡ channel) (o : value.Holder) (c : Node)
       (second : RunsAt (see (Half (node_site b).number (address_at b j) side)) b (Ok (IsHalf o)) c) where
-    takes_by : (t : Bool) (d : Node) (r : Result (Unit {0}) Fault) → is_none o ≡ t
+    takes_by : (t : Bool) (d : Node) (r : Result (Unit {0}) Fault) → is_nobody o ≡ t
         → Does (sets_if t (node_site c) (name_at c k)) nothing c r d
         → Does (takes_half (node_site a) (name_at a k) ctx side channel buffer) nothing a r d
     takes_by t d r e h =
@@ -168,29 +172,29 @@ module _ (a : Node) (k : ℕ) (ctx : Context) (side : Side) (channel : ℕ) (buf
         (does_after (asks (node_site a) (name_at a k)) nothing a b d r first
         (does_still a b k first.grows inside asks nothing d r
         (does_then b c d k (see (Half (node_site b).number channel side))
-        (λ s x (v : Value). sets_if (is_none (half_in v)) s x) (IsHalf o)
+        (λ s x (v : Value). sets_if (is_nobody (half_in v)) s x) (IsHalf o)
         (subst (λ (p : ℕ). RunsAt (see (Half (node_site b).number p side)) b (Ok (IsHalf o)) c) at second)
         (inside_still a b k first.grows inside) nothing r
         (subst (λ (u : Bool). Does (sets_if u (node_site c) (name_at c k)) nothing c r d) (sym e) h))))
 
-    pub takes_taken : is_none o ≡ false
+    pub takes_taken : is_nobody o ≡ false
         → RunsAt (takes_half (node_site a) (name_at a k) ctx side channel buffer) a (Err (Breaks ChannelMisuse)) c
     takes_taken e =
         takes_by false c (Err (fault.Stops (stop.Breaks ChannelMisuse))) e (runs_at_stopped (Breaks ChannelMisuse) c)
 
-    pub takes_so : (d e : Node) (r : Result (Unit {0}) Fault) → is_none o ≡ true → j < length b.channels.items.items
+    pub takes_so : (d e : Node) (r : Result (Unit {0}) Fault) → is_nobody o ≡ true → j < length b.channels.items.items
         → RunsAt (change (Half (node_site c).number (address_at c j) side)
-        (Put (IsHalf (Some (record { process = name_at c k; buffer = buffer }))))) c (Ok tt) d
+        (Put (IsHalf (TakenBy (record { process = name_at c k; buffer = buffer }))))) c (Ok tt) d
         → Does (marks (node_site d) (name_at d k) ctx side channel buffer) nothing d r e
         → Does (takes_half (node_site a) (name_at a k) ctx side channel buffer) nothing a r e
     takes_so d e r free is_there third fourth =
         let in_b = inside_still a b k first.grows inside in
         takes_by true e r free
         (does_then c d e k (change (Half (node_site c).number channel side)
-        (Put (IsHalf (Some (record { process = name_at c k; buffer = buffer })))))
+        (Put (IsHalf (TakenBy (record { process = name_at c k; buffer = buffer })))))
         (λ s x _. marks s x ctx side channel buffer) tt
         (subst (λ (p : ℕ). RunsAt (change (Half (node_site c).number p side)
-        (Put (IsHalf (Some (record { process = name_at c k; buffer = buffer }))))) c (Ok tt) d)
+        (Put (IsHalf (TakenBy (record { process = name_at c k; buffer = buffer }))))) c (Ok tt) d)
         (address_stays b c j second.grows is_there ∙ at) third) (inside_still b c k second.grows in_b) nothing r fourth)
 
 -- a half that is set behind other calls
@@ -206,8 +210,8 @@ half_behind a b c j side v g is_there h =
 module _ (a b : Node) (j i o : ℕ) where
   abbrev frees : Site → ℕ → Doing
   frees s channel =
-      change (Half s.number channel Input) (Put (IsHalf None))
-      >> change (Half s.number channel Output) (Put (IsHalf None))
+      change (Half s.number channel Input) (Put (IsHalf Nobody))
+      >> change (Half s.number channel Output) (Put (IsHalf Nobody))
 
   pub leaves_not : (why : Reason) → RunsAt (wakes (name_at a i) None) a (Err why) b
       → RunsAt (leave (node_site a) (address_at a j) (name_at a i) (name_at a o)) a (Err why) b
@@ -233,18 +237,18 @@ module _ (a b : Node) (j i o : ℕ) where
         (subst (λ (x : Name). RunsAt (wakes x None) b (Err why) c) (name_stays a b o first.grows in_o) h))
 
     pub leaves_so : (d e : Node) → j < length a.channels.items.items → RunsAt (wakes (name_at b o) None) b (Ok tt) c
-        → RunsAt (change (Half (node_site c).number (address_at c j) Input) (Put (IsHalf None))) c (Ok tt) d
-        → RunsAt (change (Half (node_site d).number (address_at d j) Output) (Put (IsHalf None))) d (Ok tt) e
+        → RunsAt (change (Half (node_site c).number (address_at c j) Input) (Put (IsHalf Nobody))) c (Ok tt) d
+        → RunsAt (change (Half (node_site d).number (address_at d j) Output) (Put (IsHalf Nobody))) d (Ok tt) e
         → RunsAt (leave (node_site a) (address_at a j) (name_at a i) (name_at a o)) a (Ok tt) e
     leaves_so d e is_there second third fourth =
         let g = grows_on a b c first.grows second.grows in
         leaves_by e (Ok tt)
         (runs_at_on (wakes (name_at a o) None) (λ _. frees (node_site a) (address_at a j)) b c e tt (Ok tt)
         (subst (λ (x : Name). RunsAt (wakes x None) b (Ok tt) c) (name_stays a b o first.grows in_o) second)
-        (runs_at_on (change (Half (node_site a).number (address_at a j) Input) (Put (IsHalf None)))
-        (λ _. change (Half (node_site a).number (address_at a j) Output) (Put (IsHalf None))) c d e tt (Ok tt)
-        (half_behind a c d j Input (IsHalf None) g is_there third)
-        (half_behind a d e j Output (IsHalf None) (grows_on a c d g third.grows) is_there fourth)))
+        (runs_at_on (change (Half (node_site a).number (address_at a j) Input) (Put (IsHalf Nobody)))
+        (λ _. change (Half (node_site a).number (address_at a j) Output) (Put (IsHalf Nobody))) c d e tt (Ok tt)
+        (half_behind a c d j Input (IsHalf Nobody) g is_there third)
+        (half_behind a d e j Output (IsHalf Nobody) (grows_on a c d g third.grows) is_there fourth)))
 
 -- the site, a channel and two processes stay
 module _ (a b : Node) (g : Grows a b) (j i o : ℕ) (is_there : j < length a.channels.items.items)
@@ -353,79 +357,116 @@ address_is a j ch e =
     ∙ ap (λ (o : Option Channel). option_map (λ (x : Channel). x.address) o) e)
 
 -- the step of a channel
-module _ (a b : Node) (j : ℕ) (is_there : j < length a.channels.items.items) (x : Option Request)
-    (first : RunsAt (see (Half (node_site a).number (address_at a j) Input)) a (Ok (IsHalf (request_of (names a) x))) b)
-    (y : Option Request) (c : Node)
-    (second : RunsAt (see (Half (node_site b).number (address_at b j) Output)) b (Ok (IsHalf (request_of (names b) y)))
+module _ (a b : Node) (j : ℕ) (is_there : j < length a.channels.items.items) (x : Holder)
+    (first : RunsAt (see (Half (node_site a).number (address_at a j) Input)) a (Ok (IsHalf (holder_of (names a) x))) b)
+    (y : Holder) (c : Node)
+    (second : RunsAt (see (Half (node_site b).number (address_at b j) Output)) b (Ok (IsHalf (holder_of (names b) y)))
     c)
   where
     abbrev asks_output : Site → ℕ → Doing
     asks_output s channel =
         see (Half s.number channel Output)
-        >>= (λ (v : Value). meet_if s channel (request_of (names a) x) (half_in v))
+        >>= (λ (v : Value). meet_if s channel (holder_of (names a) x) (half_in v))
 
-    -- the two meet, or a half is free
+    -- the two meet, or a half is shut
     steps_by : (d : Node) (r : Result (Unit {0}) Fault)
-        → Does (meet_if (node_site c) (address_at c j) (request_of (names a) x) (request_of (names b) y)) nothing c r d
+        → Does (meet_if (node_site c) (address_at c j) (holder_of (names a) x) (holder_of (names b) y)) nothing c r d
         → Does (channel_step (address_at a j) (node_site a)) nothing a r d
     steps_by d r h =
         let in_b = channel_still a b j first.grows is_there in
         does_on (see (Half (node_site a).number (address_at a j) Input))
         (λ (u : Value). see (Half (node_site a).number (address_at a j) Output)
         >>= (λ (v : Value). meet_if (node_site a) (address_at a j) (half_in u) (half_in v))) nothing a b d
-        (IsHalf (request_of (names a) x)) r first
+        (IsHalf (holder_of (names a) x)) r first
         (subst (λ (s : Site). Does (asks_output s (address_at a j)) nothing b r d) first.grows.site
         (subst (λ (p : ℕ). Does (asks_output (node_site b) p) nothing b r d) (address_stays a b j first.grows is_there)
         (does_on (see (Half (node_site b).number (address_at b j) Output))
-        (λ (v : Value). meet_if (node_site b) (address_at b j) (request_of (names a) x) (half_in v)) nothing b c d
-        (IsHalf (request_of (names b) y)) r second
-        (subst (λ (s : Site). Does (meet_if s (address_at b j) (request_of (names a) x) (request_of (names b) y))
+        (λ (v : Value). meet_if (node_site b) (address_at b j) (holder_of (names a) x) (half_in v)) nothing b c d
+        (IsHalf (holder_of (names b) y)) r second
+        (subst (λ (s : Site). Does (meet_if s (address_at b j) (holder_of (names a) x) (holder_of (names b) y))
         nothing c r
         d) second.grows.site
-        (subst (λ (p : ℕ). Does (meet_if (node_site c) p (request_of (names a) x) (request_of (names b) y)) nothing c r
+        (subst (λ (p : ℕ). Does (meet_if (node_site c) p (holder_of (names a) x) (holder_of (names b) y)) nothing c r
         d)
         (address_stays b c j second.grows in_b) h)))))
 
-    idle : (s : Site) (p : ℕ) (u v : Option value.Request) → u ≡ None → meet_if s p u v ≡ stopping HasNoStep
-    idle s p None None e = refl
-    idle s p None (Some v) e = refl
-    idle s p (Some u) v e = cc
+    idle : (s : Site) (p : ℕ) (ns : List Name) (u : value.Holder) (h : Holder)
+        → ((r : Request) → h ≡ holder.Taken r → ⊥)
+        → meet_if s p u (holder_of ns h) ≡ stopping HasNoStep
+    idle s p ns u (holder.Taken r) n = absurd (n r refl)
+    idle s p ns (TakenBy q) holder.Nobody n = refl
+    idle s p ns (TakenBy q) (holder.Enabled k) n = refl
+    idle s p ns (TakenBy q) (holder.Awaited k) n = refl
+    idle s p ns (AwaitedBy q) holder.Nobody n = refl
+    idle s p ns (AwaitedBy q) (holder.Enabled k) n = refl
+    idle s p ns (AwaitedBy q) (holder.Awaited k) n = refl
+    idle s p ns Nobody holder.Nobody n = refl
+    idle s p ns Nobody (holder.Enabled k) n = refl
+    idle s p ns Nobody (holder.Awaited k) n = refl
+    idle s p ns (EnabledBy q) holder.Nobody n = refl
+    idle s p ns (EnabledBy q) (holder.Enabled k) n = refl
+    idle s p ns (EnabledBy q) (holder.Awaited k) n = refl
 
-    idle_too : (s : Site) (p : ℕ) (u v : Option value.Request) → v ≡ None → meet_if s p u v ≡ stopping HasNoStep
-    idle_too s p None None e = refl
-    idle_too s p (Some u) None e = refl
-    idle_too s p u (Some v) e = cc
-
-    stays_idle : meet_if (node_site c) (address_at c j) (request_of (names a) x) (request_of (names b) y) ≡ stopping
-        HasNoStep
+    -- no message is sent
+    pub no_output : ((r : Request) → y ≡ holder.Taken r → ⊥)
         → RunsAt (channel_step (address_at a j) (node_site a)) a (Err HasNoStep) c
-    stays_idle e =
+    no_output n =
         steps_by c (Err (fault.Stops stop.HasNoStep))
-        (subst (λ (q : Doing). RunsAt q c (Err HasNoStep) c) (sym e) (runs_at_stopped HasNoStep c))
+        (subst (λ (q : Doing). RunsAt q c (Err HasNoStep) c)
+        (sym (idle (node_site c) (address_at c j) (names b) (holder_of (names a) x) y n)) (runs_at_stopped HasNoStep c))
 
-    pub no_input : x ≡ None → RunsAt (channel_step (address_at a j) (node_site a)) a (Err HasNoStep) c
-    no_input e = stays_idle (idle (node_site c) (address_at c j) _ _ (ap (request_of (names a)) e))
+    -- one is sent
+    module _ (o : Request) (f : y ≡ holder.Taken o) where
+      shut : (h : Holder) → x ≡ h
+          → RunsAt (meet_if (node_site c) (address_at c j) (holder_of (names a) h)
+          (holder_of (names b) (holder.Taken o))) c (Err HasNoStep) c
+          → RunsAt (channel_step (address_at a j) (node_site a)) a (Err HasNoStep) c
+      shut h e so =
+          steps_by c (Err (fault.Stops stop.HasNoStep))
+          (subst (λ (g : Holder). RunsAt (meet_if (node_site c) (address_at c j) (holder_of (names a) g)
+          (holder_of (names b) y)) c (Err HasNoStep) c) (sym e)
+          (subst (λ (g : Holder). RunsAt (meet_if (node_site c) (address_at c j) (holder_of (names a) h)
+          (holder_of (names b) g)) c (Err HasNoStep) c) (sym f) so))
 
-    pub no_output : y ≡ None → RunsAt (channel_step (address_at a j) (node_site a)) a (Err HasNoStep) c
-    no_output e = stays_idle (idle_too (node_site c) (address_at c j) _ _ (ap (request_of (names b)) e))
+      -- nobody waits for it
+      pub no_input : (x ≡ holder.Nobody) ⊎ ((k : ℕ) × (x ≡ holder.Enabled k))
+          → RunsAt (channel_step (address_at a j) (node_site a)) a (Err HasNoStep) c
+      no_input (inl e) = shut holder.Nobody e (runs_at_stopped HasNoStep c)
+      no_input (inr (k, e)) = shut (holder.Enabled k) e (runs_at_stopped HasNoStep c)
 
-    pub steps_so : (d : Node) (r : Result (Unit {0}) Fault) (i o : Request) → x ≡ Some i → y ≡ Some o
-        → i.process < length a.processes.items.items → o.process < length b.processes.items.items
-        → Does (meet_if (node_site c) (address_at c j) (request_of (names c) (Some i)) (request_of (names c) (Some o)))
-        nothing
-        c r d
-        → Does (channel_step (address_at a j) (node_site a)) nothing a r d
-    steps_so d r i o e f in_i in_o h =
-        let asks_i : request_of (names c) (Some i) ≡ request_of (names a) x =
-        ap (λ (n : Name). Some (record { process = n; buffer = i.buffer }))
-        (name_stays a c i.process (grows_on a b c first.grows second.grows) in_i) ∙ ap (request_of (names a)) (sym e) in
-        let asks_o : request_of (names c) (Some o) ≡ request_of (names b) y =
-        ap (λ (n : Name). Some (record { process = n; buffer = o.buffer })) (name_stays b c o.process second.grows in_o)
-        ∙ ap (request_of (names b)) (sym f) in
-        steps_by d r
-        (subst (λ (u : Option value.Request). Does (meet_if (node_site c) (address_at c j) u (request_of (names b) y))
-        nothing
-        c r d) asks_i
-        (subst (λ (v : Option value.Request). Does (meet_if (node_site c) (address_at c j) (request_of (names c) (Some
-        i)) v)
-        nothing c r d) asks_o h))
+      -- both go on
+      steps_with : (d : Node) (r : Result (Unit {0}) Fault) (i : Holder) → holder_of (names c) i ≡ holder_of (names a) x
+          → o.process < length b.processes.items.items
+          → Does (meet_if (node_site c) (address_at c j) (holder_of (names c) i) (holder_of (names c) (holder.Taken o)))
+          nothing c r d
+          → Does (channel_step (address_at a j) (node_site a)) nothing a r d
+      steps_with d r i asks_i in_o h =
+          let asks_o : holder_of (names c) (holder.Taken o) ≡ holder_of (names b) y =
+          ap (λ (n : Name). TakenBy (record { process = n; buffer = o.buffer }))
+          (name_stays b c o.process second.grows in_o) ∙ ap (holder_of (names b)) (sym f) in
+          steps_by d r
+          (subst (λ (u : value.Holder). Does (meet_if (node_site c) (address_at c j) u (holder_of (names b) y))
+          nothing c r d) asks_i
+          (subst (λ (v : value.Holder). Does (meet_if (node_site c) (address_at c j) (holder_of (names c) i) v)
+          nothing c r d) asks_o h))
+
+      pub steps_so : (d : Node) (r : Result (Unit {0}) Fault) (i : Request) → x ≡ holder.Taken i
+          → i.process < length a.processes.items.items → o.process < length b.processes.items.items
+          → Does (meet_if (node_site c) (address_at c j) (holder_of (names c) (holder.Taken i))
+          (holder_of (names c) (holder.Taken o))) nothing c r d
+          → Does (channel_step (address_at a j) (node_site a)) nothing a r d
+      steps_so d r i e in_i in_o h =
+          steps_with d r (holder.Taken i)
+          (ap (λ (n : Name). TakenBy (record { process = n; buffer = i.buffer }))
+          (name_stays a c i.process (grows_on a b c first.grows second.grows) in_i)
+          ∙ ap (holder_of (names a)) (sym e)) in_o h
+
+      pub steps_chosen : (d : Node) (r : Result (Unit {0}) Fault) (k : ℕ) → x ≡ holder.Awaited k
+          → k < length a.processes.items.items → o.process < length b.processes.items.items
+          → Does (meet_if (node_site c) (address_at c j) (holder_of (names c) (holder.Awaited k))
+          (holder_of (names c) (holder.Taken o))) nothing c r d
+          → Does (channel_step (address_at a j) (node_site a)) nothing a r d
+      steps_chosen d r k e in_k in_o h =
+          steps_with d r (holder.Awaited k)
+          (ap AwaitedBy (name_stays a c k (grows_on a b c first.grows second.grows) in_k)
+          ∙ ap (holder_of (names a)) (sym e)) in_o h

@@ -15,14 +15,15 @@ use Rattle.tprocesses.specs.Values as value
 use Rattle.tcertify.specs.declared.channel.Channel.{Channel}
 use Rattle.tcertify.specs.declared.channel.LinkHalf.{LinkHalf}
 use Rattle.tcertify.specs.declared.channel.Links.{Links}
-use Rattle.tcertify.specs.declared.channel.Request.{Request}
+use Rattle.tcertify.specs.declared.channel.Holder.{Holder}
+use Rattle.tcertify.specs.declared.channel.Holder.TheVariants as holder
 use Rattle.tcertify.specs.declared.node.Node.{Node}
 use Rattle.tcertify.specs.declared.side.Side.{Side}
 use Rattle.tcertify.specs.declared.side.Side.TheVariants.{Input, Output}
 use Rattle.tcertify.specs.Boards.{board_at}
 use Rattle.tcertify.specs.Channels.{IsLinkSet, address_of, half_among, half_of, halves_of, link_among, link_of}
 use Rattle.tcertify.specs.Channels.{link_or_empty}
-use Rattle.tcertify.specs.Channels.{request_of, taken_half, with_request}
+use Rattle.tcertify.specs.Channels.{holder_of, held_half, with_holder}
 use Rattle.tcertify.specs.Finding.{AreApart, IsFound}
 use Rattle.tcertify.specs.Nodes.{address_at, board_of, names, node_at}
 use Rattle.tcertify.specs.Running.{State, changed}
@@ -52,49 +53,49 @@ channel_found cs k c apart there =
 
 -- a half of a channel by its side
 half_at : (ns : List Name) (cs : List Channel) (address : ℕ) (side : Side)
-    → half_among ns cs address (side_of side) ≡ taken_half ns side (find (λ d. d.address == address) cs)
+    → half_among ns cs address (side_of side) ≡ held_half ns side (find (λ d. d.address == address) cs)
 half_at ns cs address Input = refl
 half_at ns cs address Output = refl
 
 -- what is seen of it
 pub half_seen : (a : Node) (k : ℕ) (c : Channel) (side : Side) → slice_get a.channels.items.items k ≡ Some c
     → (rest : State) → node_at a rest (place.Half a.words.number c.address (side_of side))
-    ≡ IsHalf (request_of (names a) (half_of side c).request)
+    ≡ IsHalf (holder_of (names a) (half_of side c).holder)
 half_seen a k c side there rest =
     here a.words.number (IsHalf (half_among (names a) a.channels.items.items c.address (side_of side)))
     (rest (place.Half a.words.number c.address (side_of side)))
     ∙ ap IsHalf (half_at (names a) a.channels.items.items c.address side
-    ∙ ap (taken_half (names a) side) (channel_found a.channels.items.items k c a.channels.apart there))
+    ∙ ap (held_half (names a) side) (channel_found a.channels.items.items k c a.channels.apart there))
 
 -- sides that are others
-sides_apart : (s t : Side) (r : Option Request) (c : Channel) → same_side (side_of s) (side_of t) ≡ false
-    → (half_of t (with_request s r c)).request ≡ (half_of t c).request
+sides_apart : (s t : Side) (r : Holder) (c : Channel) → same_side (side_of s) (side_of t) ≡ false
+    → (half_of t (with_holder s r c)).holder ≡ (half_of t c).holder
 sides_apart Input Input r c e = cc
 sides_apart Input Output r c e = refl
 sides_apart Output Input r c e = refl
 sides_apart Output Output r c e = cc
 
-set_side : (s : Side) (r : Option Request) (c : Channel) → (half_of s (with_request s r c)).request ≡ r
+set_side : (s : Side) (r : Holder) (c : Channel) → (half_of s (with_holder s r c)).holder ≡ r
 set_side Input r c = refl
 set_side Output r c = refl
 
-pub same_address : (s : Side) (r : Option Request) (c : Channel) → (with_request s r c).address ≡ c.address
+pub same_address : (s : Side) (r : Holder) (c : Channel) → (with_holder s r c).address ≡ c.address
 same_address Input r c = refl
 same_address Output r c = refl
 
-pub same_places : (s : Side) (r : Option Request) (c : Channel)
+pub same_places : (s : Side) (r : Holder) (c : Channel)
     → ◌≡◌ {A = ℕ × ℕ × ℕ} (
-      (with_request s r c).address,
-      (with_request s r c).input.place,
-      (with_request s r
+      (with_holder s r c).address,
+      (with_holder s r c).input.place,
+      (with_holder s r
           c).output.place,
     )
     (c.address, c.input.place, c.output.place)
 same_places Input r c = refl
 same_places Output r c = refl
 
-pub same_half_place : (s t : Side) (r : Option Request) (c : Channel)
-    → (half_of t (with_request s r c)).place ≡ (half_of t c).place
+pub same_half_place : (s t : Side) (r : Holder) (c : Channel)
+    → (half_of t (with_holder s r c)).place ≡ (half_of t c).place
 same_half_place Input Input r c = refl
 same_half_place Input Output r c = refl
 same_half_place Output Input r c = refl
@@ -105,31 +106,31 @@ by_sides : (P : machine.Side → Type 0) → ((t : Side) → P (side_of t)) → 
 by_sides P h machines.Input = h Input
 by_sides P h machines.Output = h Output
 
--- a half is taken, or free
-module _ (a : Node) (ds : List Channel) (k : ℕ) (c : Channel) (side : Side) (r : Option Request)
+-- somebody has a half, or nobody
+module _ (a : Node) (ds : List Channel) (k : ℕ) (c : Channel) (side : Side) (r : Holder)
     (there : slice_get a.channels.items.items k ≡ Some c)
-    (set : ds ≡ slice_set a.channels.items.items k (with_request side r c)) (apart : AreApart address_of ds) where
-  pub channel_now : slice_get ds k ≡ Some (with_request side r c)
+    (set : ds ≡ slice_set a.channels.items.items k (with_holder side r c)) (apart : AreApart address_of ds) where
+  pub channel_now : slice_get ds k ≡ Some (with_holder side r c)
   channel_now =
       ap (λ (es : List Channel). slice_get es k) set
-      ∙ set_here a.channels.items.items k (with_request side r c) c there
+      ∙ set_here a.channels.items.items k (with_holder side r c) c there
 
-  found_now : find (λ d. d.address == c.address) ds ≡ Some (with_request side r c)
+  found_now : find (λ d. d.address == c.address) ds ≡ Some (with_holder side r c)
   found_now =
       ap (λ (w : ℕ). find (λ d. d.address == w) ds) (sym (same_address side r c))
-      ∙ channel_found ds k (with_request side r c) apart channel_now
+      ∙ channel_found ds k (with_holder side r c) apart channel_now
 
   found_else : (w : ℕ) → (c.address == w) ≡ false
       → find (λ d. d.address == w) ds ≡ find (λ d. d.address == w) a.channels.items.items
   found_else w e =
       ap (λ (es : List Channel). find (λ d. d.address == w) es) set
-      ∙ find_else (λ d. d.address == w) a.channels.items.items k c (with_request side r c) there e
+      ∙ find_else (λ d. d.address == w) a.channels.items.items k c (with_holder side r c) there e
       (ap (λ (v : ℕ). v == w) (same_address side r c) ∙ e)
 
-  half_now : half_among (names a) ds c.address (side_of side) ≡ request_of (names a) r
+  half_now : half_among (names a) ds c.address (side_of side) ≡ holder_of (names a) r
   half_now =
-      half_at (names a) ds c.address side ∙ ap (taken_half (names a) side) found_now
-      ∙ ap (request_of (names a)) (set_side side r c)
+      half_at (names a) ds c.address side ∙ ap (held_half (names a) side) found_now
+      ∙ ap (holder_of (names a)) (set_side side r c)
 
   half_else : (w : ℕ) (t : Side) → ((c.address == w) && same_side (side_of side) (side_of t)) ≡ false
       → half_among (names a) ds w (side_of t) ≡ half_among (names a) a.channels.items.items w (side_of t)
@@ -140,32 +141,32 @@ module _ (a : Node) (ds : List Channel) (k : ℕ) (c : Channel) (side : Side) (r
       by true h =
           let at = eqb-true c.address w h in
           half_at (names a) ds w t
-          ∙ ap (λ (v : ℕ). taken_half (names a) t (find (λ d. d.address == v) ds)) (sym at)
-          ∙ ap (taken_half (names a) t) found_now
-          ∙ ap (request_of (names a)) (sides_apart side t r c
+          ∙ ap (λ (v : ℕ). held_half (names a) t (find (λ d. d.address == v) ds)) (sym at)
+          ∙ ap (held_half (names a) t) found_now
+          ∙ ap (holder_of (names a)) (sides_apart side t r c
           (sym (ap (λ (u : Bool). u && same_side (side_of side) (side_of t)) h) ∙ e))
-          ∙ ap (taken_half (names a) t) (sym (channel_found a.channels.items.items k c a.channels.apart there))
-          ∙ ap (λ (v : ℕ). taken_half (names a) t (find (λ d. d.address == v) a.channels.items.items)) at
+          ∙ ap (held_half (names a) t) (sym (channel_found a.channels.items.items k c a.channels.apart there))
+          ∙ ap (λ (v : ℕ). held_half (names a) t (find (λ d. d.address == v) a.channels.items.items)) at
           ∙ sym (half_at (names a) a.channels.items.items w t)
       by false h =
-          half_at (names a) ds w t ∙ ap (taken_half (names a) t) (found_else w h)
+          half_at (names a) ds w t ∙ ap (held_half (names a) t) (found_else w h)
           ∙ sym (half_at (names a) a.channels.items.items w t)
 
   pub half_state : (rest : State)
       → with_words a.words.number a.words.items.items (board_at (board_from a.words.number a.processes.items.items ds
       a.links a.lives.items.items a.error a.halt_on_error a.is_flag_changed a.has_run_high a.has_run_low a.population)
       rest)
-      ≡ changed (place.Half a.words.number c.address (side_of side)) (Put (IsHalf (request_of (names a) r)))
+      ≡ changed (place.Half a.words.number c.address (side_of side)) (Put (IsHalf (holder_of (names a) r)))
       (node_at a rest)
   half_state rest =
-      half_put a.words.number a.words.items.items (board_of a) rest c.address (side_of side) (request_of (names a) r)
+      half_put a.words.number a.words.items.items (board_of a) rest c.address (side_of side) (holder_of (names a) r)
       (half_among (names a) ds) half_now
       (λ w t. by_sides (λ u. ((c.address == w) && same_side (side_of side) u) ≡ false
       → half_among (names a) ds w u ≡ half_among (names a) a.channels.items.items w u) (half_else w) t)
 
--- a channel that is added has no half that is taken
+-- nobody has a half of a channel that is added
 module _ (a : Node) (c : Channel) (none : IsFound address_of c.address a.channels.items.items None)
-    (input : c.input.request ≡ None) (output : c.output.request ≡ None) where
+    (input : c.input.holder ≡ holder.Nobody) (output : c.output.holder ≡ holder.Nobody) where
   not_found : (w : ℕ) → (c.address == w) ≡ true → find (λ d. d.address == w) a.channels.items.items ≡ None
   not_found w e =
       find_none (λ d. d.address == w) a.channels.items.items
@@ -178,7 +179,7 @@ module _ (a : Node) (c : Channel) (none : IsFound address_of c.address a.channel
           by true e = absurd (ne (eqb-true v w e))
           by false e = e
 
-  free_half : (t : Side) → (half_of t c).request ≡ None
+  free_half : (t : Side) → (half_of t c).holder ≡ holder.Nobody
   free_half Input = input
   free_half Output = output
 
@@ -187,12 +188,12 @@ module _ (a : Node) (c : Channel) (none : IsFound address_of c.address a.channel
       ≡ half_among (names a) a.channels.items.items w (side_of t)
   halves w t true e =
       half_at (names a) (a.channels.items.items ++ c ∷ []) w t
-      ∙ ap (taken_half (names a) t) (find_pushed (λ d. d.address == w) a.channels.items.items c e (not_found w e))
-      ∙ ap (request_of (names a)) (free_half t) ∙ ap (taken_half (names a) t) (sym (not_found w e))
+      ∙ ap (held_half (names a) t) (find_pushed (λ d. d.address == w) a.channels.items.items c e (not_found w e))
+      ∙ ap (holder_of (names a)) (free_half t) ∙ ap (held_half (names a) t) (sym (not_found w e))
       ∙ sym (half_at (names a) a.channels.items.items w t)
   halves w t false e =
       half_at (names a) (a.channels.items.items ++ c ∷ []) w t
-      ∙ ap (taken_half (names a) t) (find_push (λ d. d.address == w) a.channels.items.items c e)
+      ∙ ap (held_half (names a) t) (find_push (λ d. d.address == w) a.channels.items.items c e)
       ∙ sym (half_at (names a) a.channels.items.items w t)
 
   same_halves : half_among (names a) (a.channels.items.items ++ c ∷ []) ≡ half_among (names a) a.channels.items.items
@@ -209,7 +210,7 @@ module _ (a : Node) (c : Channel) (none : IsFound address_of c.address a.channel
       ap (λ (es : List Channel). with_words a.words.number a.words.items.items (board_at (board_from a.words.number
       a.processes.items.items es a.links a.lives.items.items a.error a.halt_on_error a.is_flag_changed a.has_run_high
       a.has_run_low a.population) rest)) e
-      ∙ ap (λ (f : ℕ → machine.Side → Option value.Request). with_words a.words.number a.words.items.items (board_at
+      ∙ ap (λ (f : ℕ → machine.Side → value.Holder). with_words a.words.number a.words.items.items (board_at
       (record (board_of a) { half = f }) rest)) same_halves
 
 -- channels that are the same

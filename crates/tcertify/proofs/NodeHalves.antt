@@ -1,13 +1,13 @@
 -- Halves of channels and links that are looked at and set.
-use Rattle.std.proofs.Common.{◌≡◌, ◌<◌, ℕ, zero, suc, refl, sym, ap, ◌∙◌, subst, false, List, [], ◌∷◌, ◌++◌, Option}
-use Rattle.std.proofs.Common.{Some, None}
+use Rattle.std.proofs.Common.{◌≡◌, ◌<◌, ℕ, zero, suc, refl, sym, ap, ◌∙◌, subst, false, List, [], ◌∷◌, ◌++◌}
+use Rattle.std.proofs.Common.{Some}
 use Rattle.std.proofs.Common.{arith, get_or, length, ◌⊎◌, inl, inr}
-use Rattle.std.specs.Prelude.{Contains, is_some, option_map, slice_get, slice_set}
+use Rattle.std.specs.Prelude.{Contains, option_map, slice_get, slice_set}
 use Rattle.std.proofs.lemmas.Bool.{cases_eq}
 use Rattle.std.proofs.lemmas.Option.{slice_get-get_or, slice_get-map, same_Some}
 use Rattle.tagents.specs.Walks.{Sight}
 use Rattle.tplan.specs.Wires.{end_at}
-use Rattle.tprocesses.specs.Machine.{is_offered}
+use Rattle.tprocesses.specs.Machine.{is_met_at, is_offered}
 use Rattle.tprocesses.specs.Places as place
 use Rattle.tprocesses.specs.Places.{Name, Place}
 use Rattle.tprocesses.specs.Values.{IsHalf, IsLink, Value, half_in, link_in}
@@ -16,14 +16,15 @@ use Rattle.tcertify.specs.declared.channel.Channel.{Channel}
 use Rattle.tcertify.specs.declared.channel.LinkHalf.{LinkHalf}
 use Rattle.tcertify.specs.declared.channel.LinkHalf.TheVariants as half
 use Rattle.tcertify.specs.declared.channel.Links.{Links}
+use Rattle.tcertify.specs.declared.channel.Holder.{Holder}
 use Rattle.tcertify.specs.declared.channel.Request.{Request}
 use Rattle.tcertify.specs.declared.lead.Lead.{Lead}
 use Rattle.tcertify.specs.declared.lead.Lead.TheVariants as lead
 use Rattle.tcertify.specs.declared.node.Node.{Node}
 use Rattle.tcertify.specs.declared.side.Side.{Side}
 use Rattle.tcertify.specs.declared.side.Side.TheVariants.{Input, Output}
-use Rattle.tcertify.specs.Channels.{AreKnown, IsKnownHalf, IsKnownRequest, IsLinkSet, address_of, free_channel, half_of}
-use Rattle.tcertify.specs.Channels.{halves_of, request_of, with_request}
+use Rattle.tcertify.specs.Channels.{AreKnown, IsKnownHalf, IsKnownHolder, IsLinkSet, address_of, free_channel, half_of}
+use Rattle.tcertify.specs.Channels.{halves_of, with_holder}
 use Rattle.tcertify.specs.Nodes.{HasLead, IsLed, NumbersNode, address_at, addresses, link_place}
 use Rattle.tcertify.specs.Notes.{Numbering}
 use Rattle.tcertify.specs.Sides.{side_of}
@@ -50,21 +51,17 @@ pub link_number : (a : Node) (k : ℕ) (side : Side) → k < 4 → (numbering : 
 link_number a k Input low numbering n = n.link_input k low
 link_number a k Output low numbering n = n.link_output k low
 
--- nobody waits
-pub nobody : (ns : List Name) (o : Option Request) → is_some o ≡ false → request_of ns o ≡ None
-nobody ns None e = refl
-nobody ns (Some r) e = cc
-
 -- the number of a node at which a lead is told
 number_told : (m b : Node) (l : Lead) → HasLead m l b → m.words.number ≡ b.words.number
 number_told m b l told = ap (λ (n : Node). n.words.number) (sym told.same)
 
--- a half that was seen free
-pub half_leads : (m b : Node) (k : ℕ) (c : Channel) (side : Side) (o : Option value.Request)
-    → HasLead m (lead.Channel k) b → slice_get m.channels.items.items k ≡ Some c → o ≡ None
+-- a half that was seen shut to its channel
+pub half_leads : (m b : Node) (k : ℕ) (c : Channel) (side : Side) (o : value.Holder)
+    → HasLead m (lead.Channel k) b → slice_get m.channels.items.items k ≡ Some c
+    → is_met_at (place.Half b.words.number (address_at m k) (side_of side)) o ≡ false
     → IsLed b (record { place = place.Half m.words.number (address_at m k) (side_of side); value = IsHalf o } ∷ []) []
     (lead.Channel k)
-half_leads m b k c side o told there none = (
+half_leads m b k c side o told there shut = (
   address_at m k,
   ap (λ (n : Node). slice_get (addresses n) k) told.same
       ∙ slice_get-map address_of m.channels.items.items k ∙ ap (option_map address_of) there
@@ -78,7 +75,7 @@ half_leads m b k c side o told there none = (
         value = IsHalf o;
       } ∷ []) (record { place = place.Half n (address_at m k) (side_of side); value = IsHalf o }))
           (number_told m b (lead.Channel k) told) (0, omega arith, refl);
-      shut = ap (λ (r : Option value.Request). is_some r) none;
+      shut = shut;
     },
   ),
 )
@@ -100,78 +97,67 @@ link_leads m b k side l told shut =
     }
 
 -- whoever waits is known
-pub known_request : (n : ℕ) (o : Option Request) → ((r : Request) → o ≡ Some r → r.process < n) → IsKnownRequest n o
-known_request n None h = tt
-known_request n (Some r) h = h r refl
-
 pub known_half : (n : ℕ) (l : LinkHalf) → ((r : Request) → l ≡ half.Offered r → r.process < n) → IsKnownHalf n l
 known_half n half.Empty h = tt
 known_half n (half.Offered r) h = h r refl
 known_half n half.Copied h = tt
 
-known_so : (n : ℕ) (o : Option Request) (q : Request) → IsKnownRequest n o → o ≡ Some q → q.process < n
-known_so n o q h e = let P : Option Request → Type 0 = IsKnownRequest n in subst P e h
-
 half_so : (n : ℕ) (l : LinkHalf) (q : Request) → IsKnownHalf n l → l ≡ half.Offered q → q.process < n
 half_so n l q h e = let P : LinkHalf → Type 0 = IsKnownHalf n in subst P e h
 
 -- a half that is set keeps that
-asked : (side t : Side) (r : Option Request) (c : Channel) (q : Request) (n : ℕ) → IsKnownRequest n r
-    → ((u : Side) (p : Request) → (half_of u c).request ≡ Some p → p.process < n)
-    → (half_of t (with_request side r c)).request ≡ Some q → q.process < n
-asked Input Input r c q n new old e = known_so n r q new e
-asked Input Output r c q n new old e = old Output q e
-asked Output Input r c q n new old e = old Input q e
-asked Output Output r c q n new old e = known_so n r q new e
+asked : (side t : Side) (h : Holder) (c : Channel) (n : ℕ) → IsKnownHolder n h
+    → ((u : Side) → IsKnownHolder n (half_of u c).holder) → IsKnownHolder n (half_of t (with_holder side h c)).holder
+asked Input Input h c n new old = new
+asked Input Output h c n new old = old Output
+asked Output Input h c n new old = old Input
+asked Output Output h c n new old = new
 
-pub known_set : (n : ℕ) (cs ds : List Channel) (l : Links) (k : ℕ) (c : Channel) (side : Side) (r : Option Request)
-    → AreKnown n cs l → slice_get cs k ≡ Some c → ds ≡ slice_set cs k (with_request side r c) → IsKnownRequest n r
+pub known_set : (n : ℕ) (cs ds : List Channel) (l : Links) (k : ℕ) (c : Channel) (side : Side) (h : Holder)
+    → AreKnown n cs l → slice_get cs k ≡ Some c → ds ≡ slice_set cs k (with_holder side h c) → IsKnownHolder n h
     → AreKnown n ds l
-known_set n cs ds l k c side r known there set new =
+known_set n cs ds l k c side h known there set new =
     record {
-      at_channels = λ i d t q at e. by i d t q at e (cases_eq k i);
+      at_channels = λ i d t at. by i d t at (cases_eq k i);
       at_links = known.at_links;
     }
   where
-    by : (i : ℕ) (d : Channel) (t : Side) (q : Request) → slice_get ds i ≡ Some d → (half_of t d).request ≡ Some q
-        → (k ≡ i) ⊎ (k ≡ i → ⊥) → q.process < n
-    by i d t q at e (inl same) =
-        let is : with_request side r c ≡ d =
-        same_Some (with_request side r c) d (sym (set_here cs k (with_request side r c) c there)
+    by : (i : ℕ) (d : Channel) (t : Side) → slice_get ds i ≡ Some d → (k ≡ i) ⊎ (k ≡ i → ⊥)
+        → IsKnownHolder n (half_of t d).holder
+    by i d t at (inl same) =
+        let is : with_holder side h c ≡ d =
+        same_Some (with_holder side h c) d (sym (set_here cs k (with_holder side h c) c there)
         ∙ ap (λ (es : List Channel). slice_get es k) (sym set) ∙ ap (slice_get ds) same ∙ at) in
-        asked side t r c q n new (λ u p h. known.at_channels k c u p there h)
-        (ap (λ (x : Channel). (half_of t x).request) is ∙ e)
-    by i d t q at e (inr ne) =
-        known.at_channels i d t q
-        (sym (set_elsewhere cs k i (with_request side r c) ne)
-        ∙ ap (λ (es : List Channel). slice_get es i) (sym set) ∙ at) e
+        subst (λ (x : Channel). IsKnownHolder n (half_of t x).holder) is
+        (asked side t h c n new (λ u. known.at_channels k c u there))
+    by i d t at (inr ne) =
+        known.at_channels i d t
+        (sym (set_elsewhere cs k i (with_holder side h c) ne)
+        ∙ ap (λ (es : List Channel). slice_get es i) (sym set) ∙ at)
 
 -- a channel that is added keeps it
-free_or_before : (n : ℕ) (xs : List Channel) (c : Channel) → ((t : Side) → (half_of t c).request ≡ None)
-    → ((i : ℕ) (d : Channel) (t : Side) (q : Request) → slice_get xs i ≡ Some d → (half_of t d).request ≡ Some q
-    → q.process < n)
-    → (i : ℕ) (d : Channel) (t : Side) (q : Request) → slice_get (xs ++ c ∷ []) i ≡ Some d
-    → (half_of t d).request ≡ Some q → q.process < n
-free_or_before n [] c free h zero d t q at asks =
-    let is = same_Some c d at in let none = free t in
-    let some : (half_of t c).request ≡ Some q = ap (λ (x : Channel). (half_of t x).request) is ∙ asks in cc
-free_or_before n [] c free h (suc i) d t q at asks = cc
-free_or_before n (x ∷ xs) c free h zero d t q at asks = h 0 d t q at asks
-free_or_before n (x ∷ xs) c free h (suc i) d t q at asks =
-    free_or_before n xs c free (λ j e u r there. h (suc j) e u r there) i d t q at asks
+free_or_before : (n : ℕ) (xs : List Channel) (c : Channel) → ((t : Side) → IsKnownHolder n (half_of t c).holder)
+    → ((i : ℕ) (d : Channel) (t : Side) → slice_get xs i ≡ Some d → IsKnownHolder n (half_of t d).holder)
+    → (i : ℕ) (d : Channel) (t : Side) → slice_get (xs ++ c ∷ []) i ≡ Some d → IsKnownHolder n (half_of t d).holder
+free_or_before n [] c free h zero d t at =
+    subst (λ (x : Channel). IsKnownHolder n (half_of t x).holder) (same_Some c d at) (free t)
+free_or_before n [] c free h (suc i) d t at = cc
+free_or_before n (x ∷ xs) c free h zero d t at = h 0 d t at
+free_or_before n (x ∷ xs) c free h (suc i) d t at =
+    free_or_before n xs c free (λ j e u there. h (suc j) e u there) i d t at
 
-free_sides : (address input output : ℕ) (t : Side) → (half_of t (free_channel address input output)).request ≡ None
-free_sides address input output Input = refl
-free_sides address input output Output = refl
+free_sides : (n address input output : ℕ) (t : Side)
+    → IsKnownHolder n (half_of t (free_channel address input output)).holder
+free_sides n address input output Input = λ k e. cc
+free_sides n address input output Output = λ k e. cc
 
 pub known_pushed : (n : ℕ) (cs ds : List Channel) (l : Links) (address input output : ℕ) → AreKnown n cs l
     → ds ≡ cs ++ free_channel address input output ∷ [] → AreKnown n ds l
 known_pushed n cs ds l address input output known e =
     record {
-      at_channels = λ i d t q at asks.
-          free_or_before n cs (free_channel address input output) (free_sides address input output) known.at_channels
-          i d
-          t q (ap (λ (es : List Channel). slice_get es i) (sym e) ∙ at) asks;
+      at_channels = λ i d t at.
+          free_or_before n cs (free_channel address input output) (free_sides n address input output)
+          known.at_channels i d t (ap (λ (es : List Channel). slice_get es i) (sym e) ∙ at);
       at_links = known.at_links;
     }
 

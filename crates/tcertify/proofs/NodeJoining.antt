@@ -18,6 +18,8 @@ use Rattle.tcertify.specs.declared.channel.Channel.{Channel}
 use Rattle.tcertify.specs.declared.channel.LinkHalf.{LinkHalf}
 use Rattle.tcertify.specs.declared.channel.LinkHalf.TheVariants as half
 use Rattle.tcertify.specs.declared.channel.Links.{Links}
+use Rattle.tcertify.specs.declared.channel.Holder.{Holder}
+use Rattle.tcertify.specs.declared.channel.Holder.TheVariants as holder
 use Rattle.tcertify.specs.declared.channel.Request.{Request}
 use Rattle.tcertify.specs.declared.lead.Lead.{Lead}
 use Rattle.tcertify.specs.declared.lead.Lead.TheVariants as lead
@@ -28,12 +30,12 @@ use Rattle.tcertify.specs.declared.side.Side.{Side}
 use Rattle.tcertify.specs.declared.side.Side.TheVariants.{Input, Output}
 use Rattle.tcertify.specs.Boards.{board_at}
 use Rattle.tcertify.specs.Channels.{AreKnown, half_among, half_of, halves_of, link_among, link_of, link_or_empty}
-use Rattle.tcertify.specs.Channels.{request_of}
-use Rattle.tcertify.specs.Channels.{taken_half}
+use Rattle.tcertify.specs.Channels.{IsKnownHolder, held_half, holder_of, request_of}
 use Rattle.tcertify.specs.Finding.{IsFound}
 use Rattle.tcertify.specs.Nodes.{IsLed, NumbersNode, RunsAt, board_of, names, node_at}
 use Rattle.tcertify.specs.Notes.{IsNoted, Keeps, Numbering, Tells}
-use Rattle.tcertify.specs.Processes.{name_in, name_of, stand_among, stand_or_absent}
+use Rattle.tcertify.specs.Processes.{name_in, name_of, ports_among, ports_or_none, stand_among}
+use Rattle.tcertify.specs.Processes.{stand_or_absent}
 use Rattle.tcertify.specs.Running.{State, changed, run_part}
 use Rattle.tcertify.specs.Seeing.{sights}
 use Rattle.tcertify.specs.Standing.{stand_of}
@@ -57,19 +59,24 @@ name_before ns x k low =
     let at = slice_get-get_or ns k x low in
     ap name_or_nobody (get_before ns (x ∷ []) k _ at ∙ sym at)
 
--- requests of processes that were there
-request_before : (ns : List Name) (x : Name) (o : Option Request) → ((r : Request) → o ≡ Some r → r.process < length ns)
-    → request_of (ns ++ x ∷ []) o ≡ request_of ns o
-request_before ns x None low = refl
-request_before ns x (Some r) low =
-    ap (λ (n : Name). Some (record { process = n; buffer = r.buffer })) (name_before ns x r.process (low r refl))
+-- holders of halves that were there
+request_before : (ns : List Name) (x : Name) (r : Request) → r.process < length ns
+    → request_of (ns ++ x ∷ []) r ≡ request_of ns r
+request_before ns x r low =
+    ap (λ (n : Name). record { process = n; buffer = r.buffer }) (name_before ns x r.process low)
+
+holder_before : (ns : List Name) (x : Name) (h : Holder) → IsKnownHolder (length ns) h
+    → holder_of (ns ++ x ∷ []) h ≡ holder_of ns h
+holder_before ns x holder.Nobody low = refl
+holder_before ns x (holder.Taken r) low = ap value.TakenBy (request_before ns x r (low r.process refl))
+holder_before ns x (holder.Enabled k) low = ap value.EnabledBy (name_before ns x k (low k refl))
+holder_before ns x (holder.Awaited k) low = ap value.AwaitedBy (name_before ns x k (low k refl))
 
 link_before : (ns : List Name) (x : Name) (l : LinkHalf) → ((r : Request) → l ≡ half.Offered r → r.process < length ns)
     → link_of (ns ++ x ∷ []) l ≡ link_of ns l
 link_before ns x half.Empty low = refl
 link_before ns x (half.Offered r) low =
-    ap (λ (n : Name). value.Offered (record { process = n; buffer = r.buffer })) (name_before ns x r.process (low r
-    refl))
+    ap value.Offered (request_before ns x r (low r refl))
 link_before ns x half.Copied low = refl
 
 -- one that is found is there
@@ -85,22 +92,22 @@ find_there test (y ∷ ys) x e = by (test y) refl (λ h. find_there test ys x h)
         let (k, at) = rest (sym (ap (λ (c : Bool). cond c (Some y) (find test ys)) h) ∙ e) in (suc k, at)
 
 module _ (ns : List Name) (x : Name) (cs : List Channel) (l : Links) (known : AreKnown (length ns) cs l) where
-  taken_before : (side : Side) (o : Option Channel)
+  held_before : (side : Side) (o : Option Channel)
       → ((c : Channel) → o ≡ Some c → (k : ℕ) × (slice_get cs k ≡ Some c))
-      → taken_half (ns ++ x ∷ []) side o ≡ taken_half ns side o
-  taken_before side None there = refl
-  taken_before side (Some c) there =
+      → held_half (ns ++ x ∷ []) side o ≡ held_half ns side o
+  held_before side None there = refl
+  held_before side (Some c) there =
       let (k, at) = there c refl in
-      request_before ns x (half_of side c).request (λ r e. known.at_channels k c side r at e)
+      holder_before ns x (half_of side c).holder (known.at_channels k c side at)
 
   halves_before : half_among (ns ++ x ∷ []) cs ≡ half_among ns cs
   halves_before = λ i a side. at a side i
     where
       at : (a : ℕ) (side : machine.Side) → half_among (ns ++ x ∷ []) cs a side ≡ half_among ns cs a side
       at a machines.Input =
-          taken_before Input (find (λ c. c.address == a) cs) (λ c e. find_there (λ d. d.address == a) cs c e)
+          held_before Input (find (λ c. c.address == a) cs) (λ c e. find_there (λ d. d.address == a) cs c e)
       at a machines.Output =
-          taken_before Output (find (λ c. c.address == a) cs) (λ c e. find_there (λ d. d.address == a) cs c e)
+          held_before Output (find (λ c. c.address == a) cs) (λ c e. find_there (λ d. d.address == a) cs c e)
 
   pending_before : (side : Side) (k : ℕ) (o : Option LinkHalf) → slice_get (halves_of side l) k ≡ o
       → link_or_empty (ns ++ x ∷ []) o ≡ link_or_empty ns o
@@ -115,8 +122,9 @@ module _ (ns : List Name) (x : Name) (cs : List Channel) (l : Links) (known : Ar
       at k machines.Input = pending_before Input k (slice_get l.inputs k) refl
       at k machines.Output = pending_before Output k (slice_get l.outputs k) refl
 
--- a process that comes
-module _ (a : Node) (p : Process) (none : IsFound (name_of 0) (name_of 0 p) a.processes.items.items None) where
+-- a process that comes, with no channel enabled
+module _ (a : Node) (p : Process) (none : IsFound (name_of 0) (name_of 0 p) a.processes.items.items None)
+    (free : p.ports.items ≡ []) where
   other_name : (k : ℕ) (q : Process) → slice_get a.processes.items.items k ≡ Some q
       → same_name (name_of a.words.number q) (name_of a.words.number p) ≡ false
   other_name k q at = by (same_name (name_of a.words.number q) (name_of a.words.number p)) refl
@@ -152,6 +160,23 @@ module _ (a : Node) (p : Process) (none : IsFound (name_of 0) (name_of 0 p) a.pr
   stand_else z e =
       ap stand_or_absent (find_push (λ q. same_name (name_of a.words.number q) z) a.processes.items.items p e)
 
+  -- no channel of it is enabled, as before
+  ports_by : (z : Name) (b : Bool) → same_name (name_of a.words.number p) z ≡ b
+      → ports_among a.words.number (a.processes.items.items ++ p ∷ []) z
+      ≡ ports_among a.words.number a.processes.items.items z
+  ports_by z true e =
+      let none_found = ap (λ (y : Name). find (λ q. same_name (name_of a.words.number q) y) a.processes.items.items)
+      (sym (same_name-true (name_of a.words.number p) z e)) ∙ not_there in
+      ap ports_or_none (find_pushed (λ q. same_name (name_of a.words.number q) z) a.processes.items.items p e
+      none_found)
+      ∙ free ∙ sym (ap ports_or_none none_found)
+  ports_by z false e =
+      ap ports_or_none (find_push (λ q. same_name (name_of a.words.number q) z) a.processes.items.items p e)
+
+  same_ports : ports_among a.words.number (a.processes.items.items ++ p ∷ [])
+      ≡ ports_among a.words.number a.processes.items.items
+  same_ports = λ i z. ports_by z (same_name (name_of a.words.number p) z) refl i
+
   -- the state then
   pub joined_state : (qs : List Process) → qs ≡ a.processes.items.items ++ p ∷ [] → (rest : State)
       → with_words a.words.number a.words.items.items (board_at (board_from a.words.number qs a.channels.items.items
@@ -167,13 +192,15 @@ module _ (a : Node) (p : Process) (none : IsFound (name_of 0) (name_of 0 p) a.pr
       a.has_run_low a.population) rest)) e
       ∙ ap (λ (ns : List Name). with_words a.words.number a.words.items.items (board_at (record (board_of a) {
         stand = stand_among a.words.number (a.processes.items.items ++ p ∷ []);
+        ports = ports_among a.words.number (a.processes.items.items ++ p ∷ []);
         half = half_among ns a.channels.items.items;
         link = link_among ns a.links;
       }) rest))
       (map-append (name_of a.words.number) a.processes.items.items (p ∷ []))
-      ∙ ap (λ (f : ℕ → machine.Side → Option value.Request). with_words a.words.number a.words.items.items (board_at
+      ∙ ap (λ (f : ℕ → machine.Side → value.Holder). with_words a.words.number a.words.items.items (board_at
       (record (board_of a) {
         stand = stand_among a.words.number (a.processes.items.items ++ p ∷ []);
+        ports = ports_among a.words.number (a.processes.items.items ++ p ∷ []);
         half = f;
         link = link_among (names a ++ name_of a.words.number p ∷ []) a.links;
       }) rest))
@@ -181,9 +208,14 @@ module _ (a : Node) (p : Process) (none : IsFound (name_of 0) (name_of 0 p) a.pr
       ∙ ap (λ (f : ℕ → machine.Side → value.Link). with_words a.words.number a.words.items.items (board_at (record
       (board_of a) {
         stand = stand_among a.words.number (a.processes.items.items ++ p ∷ []);
+        ports = ports_among a.words.number (a.processes.items.items ++ p ∷ []);
         link = f;
       }) rest))
       (links_before (names a) (name_of a.words.number p) a.channels.items.items a.links known)
+      ∙ ap (λ (f : Name → List ℕ). with_words a.words.number a.words.items.items (board_at (record (board_of a) {
+        stand = stand_among a.words.number (a.processes.items.items ++ p ∷ []);
+        ports = f;
+      }) rest)) same_ports
       ∙ stand_put a.words.number a.words.items.items (board_of a) rest (name_of a.words.number p) (stand_of p.stand)
       (stand_among a.words.number (a.processes.items.items ++ p ∷ [])) refl stand_now stand_else
 

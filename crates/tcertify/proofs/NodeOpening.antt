@@ -16,13 +16,15 @@ use Rattle.tplan.specs.declared.plan.Process.{Process}
 use Rattle.tprocesses.specs.Changes.{Add, Put, Raise, apply}
 use Rattle.tprocesses.specs.Opening.{has_priority, lives, of_node, opened_stand, opened_word, opening_state, stand_of}
 use Rattle.tprocesses.specs.Parts.{Breaks, Doing, HasNoStep, Reason, change, require, ◌>>◌}
-use Rattle.tprocesses.specs.Places.{Place, Name, Root, Image, After, WordAt, Sending, Standing, Half, LinkHalf, Error}
-use Rattle.tprocesses.specs.Places.{HaltOnError, Life, Successions, Messages, Kept, Population, HasRun, FlagChanged}
+use Rattle.tprocesses.specs.Places.{Place, Name, Root, Image, After, WordAt, Sending, Standing, Ports, Half, LinkHalf}
+use Rattle.tprocesses.specs.Places.{Error, HaltOnError, Life, Successions, Messages, Kept, Population, HasRun}
+use Rattle.tprocesses.specs.Places.{FlagChanged}
 use Rattle.tprocesses.specs.Places.{same_name}
 use Rattle.tprocesses.specs.Standing.{comes, fresh, is_absent, stands}
 use Rattle.tprocesses.specs.Touching.{Site, is_zero}
-use Rattle.tprocesses.specs.Values.{Absent, Context, Empty, IsAmount, IsCount, IsFlag, IsHalf, IsLink, IsStand}
-use Rattle.tprocesses.specs.Values.{IsWord, Rests}
+use Rattle.tprocesses.specs.Values.{Absent, ArePorts, Context, Empty, IsAmount, IsCount, IsFlag, IsHalf, IsLink}
+use Rattle.tprocesses.specs.Values.{IsStand}
+use Rattle.tprocesses.specs.Values.{IsWord, Nobody, Rests}
 use Rattle.tprocesses.specs.Values.{Stand, Value, amount_in, stand_in}
 use Rattle.tcertify.specs.declared.channel.LinkHalf as half
 use Rattle.tcertify.specs.declared.node.Node.{Node}
@@ -33,7 +35,7 @@ use Rattle.tcertify.specs.Channels.{half_among, link_among, link_of, link_or_emp
 use Rattle.tcertify.specs.Lives.{lives_at, successors_at}
 use Rattle.tcertify.specs.NodeOpened.{HasNothing}
 use Rattle.tcertify.specs.Nodes.{names, node_at}
-use Rattle.tcertify.specs.Processes.{stand_among}
+use Rattle.tcertify.specs.Processes.{ports_among, stand_among}
 use Rattle.tcertify.specs.Running.{State, changed, run_part}
 use Rattle.tcertify.specs.Words.{sending_or, word_or}
 use Rattle.tcertify.proofs.Keeping.{get_pushed}
@@ -320,7 +322,7 @@ module _ (plan : NodePlan) (number first : ℕ) (node : Node) (h : HasNothing pl
       ap (λ (t : Bool). has_run_at t node.has_run_low q) h.has_run_high
       ∙ ap (λ (t : Bool). has_run_at false t q) h.has_run_low ∙ no_run q
 
-  no_half : (a : ℕ) (s : machine.Side) → half_among (names node) node.channels.items.items a s ≡ None
+  no_half : (a : ℕ) (s : machine.Side) → half_among (names node) node.channels.items.items a s ≡ Nobody
   no_half a machines.Input = ap (λ cs. half_among (names node) cs a machines.Input) h.channels
   no_half a machines.Output = ap (λ cs. half_among (names node) cs a machines.Output) h.channels
 
@@ -347,6 +349,10 @@ module _ (plan : NodePlan) (number first : ℕ) (node : Node) (h : HasNothing pl
       else opening (Standing x)) h.processes
       ∙ ap (λ (k : ℕ). if k == x.node then IsStand Absent else opening (Standing x)) numbered
       ∙ ap (λ (s : Stand). if number == x.node then IsStand s else opening (Standing x)) (sym (no_stand x.root x.path))
+  at_place (Ports x) =
+      ap (λ ps. if node.words.number == x.node then ArePorts (ports_among node.words.number ps x)
+      else opening (Ports x)) h.processes
+      ∙ same_if (node.words.number == x.node) (ArePorts []) (opening (Ports x)) (λ e. refl)
   at_place (Life m w) =
       ap (λ ls. if node.words.number == m then IsAmount (lives_at ls w) else opening (Life m w)) h.lives
       ∙ ap (λ (k : ℕ). if k == m then IsAmount (pos 0) else opening (Life m w)) numbered

@@ -2,14 +2,14 @@
 use Rattle.std.proofs.Common.{◌≡◌, ◌<◌, ℕ, refl, sym, ap, ◌∙◌, subst, List, [], ◌∷◌, ◌++◌, length, arith, Result, Ok}
 use Rattle.std.proofs.Common.{Err}
 use Rattle.std.proofs.Common.{Option, Bool, inl, inr}
-use Rattle.std.specs.Prelude.{All, Contains, is_some, unwrap_or}
+use Rattle.std.specs.Prelude.{All, Contains, unwrap_or}
 use Rattle.std.proofs.lemmas.List.Elements.{All-append, All-weaker, Contains-append_left, Contains-append_right}
 use Rattle.std.proofs.lemmas.List.{append-nil, length-map}
 use Rattle.std.proofs.lemmas.Option.{slice_get-get_or}
 use Rattle.tagents.specs.Walks.{Sight}
 use Rattle.tplan.specs.Wires.{end_at}
 use Rattle.tprocesses.specs.Places.{Place, Name, Image, WordAt, Half, LinkHalf}
-use Rattle.tprocesses.specs.Machine.{is_offered}
+use Rattle.tprocesses.specs.Machine.{is_met_at, is_offered}
 use Rattle.tprocesses.specs.Changes.{Decrement}
 use Rattle.tprocesses.specs.Values.{Value, half_in, link_in}
 use Rattle.tprocesses.specs.Parts.{Reason, Part, Changed, done, gives, stopping, seeing, changing, telling, ◌>>=◌}
@@ -137,7 +137,8 @@ led_first a b g seen more deeds rest (lead.Channel k) (c, at, (side, h)) = (
   (
     side,
     shut_first seen more _ _
-        (subst (λ (n : ℕ). IsSeenShut seen (Half n c side) (λ v. is_some (half_in v))) (number_stays a b g) h),
+        (subst (λ (n : ℕ). IsSeenShut seen (Half n c side) (λ v. is_met_at (Half n c side) (half_in v)))
+        (number_stays a b g) h),
   ),
 )
 led_first a b g seen more deeds rest (lead.Link l side) h =

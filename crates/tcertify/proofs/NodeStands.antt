@@ -17,12 +17,12 @@ use Rattle.tcertify.specs.Channels.{AreKnown, half_among, link_among}
 use Rattle.tcertify.specs.Finding.{AreApart}
 use Rattle.tcertify.specs.Nodes.{HasLead, IsLed, NumbersNode, board_of, name_at, names, node_at}
 use Rattle.tcertify.specs.Notes.{Numbering}
-use Rattle.tcertify.specs.Processes.{name_of, stand_among, stand_or_absent}
+use Rattle.tcertify.specs.Processes.{name_of, ports_among, ports_or_none, stand_among, stand_or_absent}
 use Rattle.tcertify.specs.Running.{State, changed}
 use Rattle.tcertify.specs.Standing.{stand_of}
 use Rattle.tcertify.specs.Words.{with_words}
 use Rattle.tcertify.proofs.BoardChanges.{here, stand_put}
-use Rattle.tcertify.proofs.Found.{find_apart, find_else, map_set}
+use Rattle.tcertify.proofs.Found.{find_apart, find_else, find_same, map_set}
 use Rattle.tcertify.proofs.NodeWords.{board_from}
 use Rattle.tcertify.proofs.Places.{set_here}
 use Rattle.tcertify.proofs.Telling.{same_name-true, same_name-self}
@@ -74,6 +74,12 @@ module _ (a : Node) (qs : List Process) (k : ℕ) (p : Process) (s : Stand)
       ap (λ (rs : List Process). map (name_of a.words.number) rs) set
       ∙ map_set (name_of a.words.number) a.processes.items.items k p (record p { stand = s }) there refl
 
+  same_ports : ports_among a.words.number qs ≡ ports_among a.words.number a.processes.items.items
+  same_ports = λ i z.
+      (ap (λ (rs : List Process). ports_among a.words.number rs z) set
+      ∙ find_same (λ q. same_name (name_of a.words.number q) z) ports_or_none a.processes.items.items k p
+      (record p { stand = s }) there refl refl) i
+
   -- the state then
   pub stand_state : (rest : State)
       → with_words a.words.number a.words.items.items (board_at (board_from a.words.number qs a.channels.items.items
@@ -83,9 +89,14 @@ module _ (a : Node) (qs : List Process) (k : ℕ) (p : Process) (s : Stand)
   stand_state rest =
       ap (λ (ns : List Name). with_words a.words.number a.words.items.items (board_at (record (board_of a) {
         stand = stand_among a.words.number qs;
+        ports = ports_among a.words.number qs;
         half = half_among ns a.channels.items.items;
         link = link_among ns a.links;
       }) rest)) same_names
+      ∙ ap (λ (f : Name → List ℕ). with_words a.words.number a.words.items.items (board_at (record (board_of a) {
+        stand = stand_among a.words.number qs;
+        ports = f;
+      }) rest)) same_ports
       ∙ stand_put a.words.number a.words.items.items (board_of a) rest (name_of a.words.number p) (stand_of s)
       (stand_among a.words.number qs) refl stand_now stand_else
 
@@ -128,6 +139,6 @@ stand_leads m b k p told there shut = (
 pub known_more : (m n : ℕ) (cs : List Channel) (l : Links) → m ≤ n → AreKnown m cs l → AreKnown n cs l
 known_more m n cs l up h =
     record {
-      at_channels = λ i c side r at e. let low = h.at_channels i c side r at e in omega (arith, up, low);
+      at_channels = λ i c side at k e. let low = h.at_channels i c side at k e in omega (arith, up, low);
       at_links = λ k side r at. let low = h.at_links k side r at in omega (arith, up, low);
     }

@@ -13,7 +13,7 @@ use Rattle.tcertify.specs.Boards.{Board, board_at, has_run_at}
 use Rattle.tcertify.specs.Channels.{half_among, link_among}
 use Rattle.tcertify.specs.Lives.{lives_at, successors_at}
 use Rattle.tcertify.specs.Nodes.{AreBesides, RunsAt, board_of}
-use Rattle.tcertify.specs.Processes.{name_of, stand_among}
+use Rattle.tcertify.specs.Processes.{name_of, ports_among, stand_among}
 use Rattle.tcertify.specs.Words.{Runs, site_of, standing}
 use Rattle.tcertify.proofs.Growing.{Stays, process_key, channel_key, life_key, grows, numbers_before}
 use Rattle.tcertify.proofs.Keeping.{kept_same}
@@ -26,6 +26,7 @@ board_from k processes channels links lives error halting changed high low popul
     record {
       node = k;
       stand = stand_among k processes;
+      ports = ports_among k processes;
       half = half_among (map (name_of k) processes) channels;
       link = link_among (map (name_of k) processes) links;
       error = error;

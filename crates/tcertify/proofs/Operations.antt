@@ -1,5 +1,5 @@
 -- Operations that are none of the scheduler.
-use Rattle.std.proofs.Common.{◌≡◌, ◌⊎◌, inl, inr, refl, ap}
+use Rattle.std.proofs.Common.{◌≡◌, refl}
 use Rattle.tword.specs.declared.breaks.Break.TheVariants.{NoSuchOperation}
 use Rattle.tcode.specs.declared.instruction.Operation.{Operation}
 use Rattle.tcode.specs.declared.instruction.Operation.TheVariants.{Rev, Lb, Bsub, Endp, Diff, Add, Gcall, In, Prod, Gt}
@@ -13,7 +13,7 @@ use Rattle.tcode.specs.declared.instruction.Operation.TheVariants.{Ccnt1, Ldiff,
 use Rattle.tcode.specs.declared.instruction.Operation.TheVariants.{Sethalterr, Testhalterr, Dup}
 use Rattle.tprocesses.specs.Places.{Name}
 use Rattle.tprocesses.specs.Values.{Context}
-use Rattle.tprocesses.specs.Parts.{Breaks, Doing, HasAlternatives, stopping}
+use Rattle.tprocesses.specs.Parts.{Breaks, stopping}
 use Rattle.tprocesses.specs.Touching.{Site}
 use Rattle.tprocesses.specs.Scheduling.{schedules}
 
@@ -94,21 +94,3 @@ module _ (s : Site) (x : Name) (c : Context) where
   no_such Sethalterr a b d e f g h i j k l m n o p q r = refl
   no_such Testhalterr a b d e f g h i j k l m n o p q r = refl
   no_such Dup a b d e f g h i j k l m n o p q r = refl
-
-  -- the operation belongs to alternatives
-  abbrev doing : Operation → Doing
-  doing o = schedules o s x c
-
-  abbrev IsAlternative : Operation → Type 0
-  IsAlternative o =
-      (o ≡ Alt)
-      ⊎ ((o ≡ Enbc) ⊎ ((o ≡ Enbs) ⊎ ((o ≡ Altwt) ⊎ ((o ≡ Disc) ⊎ ((o ≡ Diss) ⊎ (o ≡ Altend))))))
-
-  pub alternative : (o : Operation) → IsAlternative o → doing o ≡ stopping HasAlternatives
-  alternative o (inl e) = ap doing e
-  alternative o (inr (inl e)) = ap doing e
-  alternative o (inr (inr (inl e))) = ap doing e
-  alternative o (inr (inr (inr (inl e)))) = ap doing e
-  alternative o (inr (inr (inr (inr (inl e))))) = ap doing e
-  alternative o (inr (inr (inr (inr (inr (inl e)))))) = ap doing e
-  alternative o (inr (inr (inr (inr (inr (inr e)))))) = ap doing e

@@ -9,10 +9,11 @@ use Rattle.tword.specs.declared.breaks.Break.TheVariants.{InTransit}
 use Rattle.tword.specs.Stores.{Store}
 use Rattle.tword.specs.Actions.{or_break}
 use Rattle.tword.specs.Touches.{Mode, Reads, Writes, word_place_break}
-use Rattle.tprocesses.specs.Places.{Place, WordAt, Sending, Standing, Half, LinkHalf, Error, HaltOnError, Life}
-use Rattle.tprocesses.specs.Places.{Successions, Messages, Kept, Population, HasRun, FlagChanged}
-use Rattle.tprocesses.specs.Values.{Use, Free, Saved, Receiving, Engaged, Last, Spoilt, Value, Word, IsWord, IsAmount}
-use Rattle.tprocesses.specs.Values.{word_in, amount_in}
+use Rattle.tprocesses.specs.Places.{Place, WordAt, Sending, Standing, Ports, Half, LinkHalf, Error, HaltOnError}
+use Rattle.tprocesses.specs.Places.{Life, Successions, Messages, Kept, Population, HasRun, FlagChanged}
+use Rattle.tprocesses.specs.Values.{Use, Free, Saved, Receiving, Engaged, Choosing, Awaiting, Last, Spoilt, Value, Word}
+use Rattle.tprocesses.specs.Values.{IsWord}
+use Rattle.tprocesses.specs.Values.{IsAmount, word_in, amount_in}
 use Rattle.tprocesses.specs.Changes.{Change, Put}
 use Rattle.tprocesses.specs.Parts.{Reason, Breaks, Part, Doing, gives, stopping, done, see, change, unless, ◌>>=◌, ◌>>◌}
 use Rattle.tprocesses.specs.Touching.{Site, free_cells, is_zero, settled, touch_word, touch_word_at, unsent}
@@ -70,6 +71,8 @@ free_quiet Free cells s = refl
 free_quiet Saved cells s = refl
 free_quiet Receiving cells s = refl
 free_quiet Engaged cells s = refl
+free_quiet Choosing cells s = refl
+free_quiet Awaiting cells s = refl
 free_quiet (Last p) cells s = refl
 free_quiet Spoilt cells s = refl
 
@@ -191,6 +194,7 @@ module _ (n : ℕ) (ws : List StoredWord) (k : ℕ) (x y : StoredWord) (there : 
   place_set same rest (WordAt m l) = word_set (n == m) l (rest (WordAt m l))
   place_set same rest (Sending m l) = sending_set same (n == m) l (rest (Sending m l))
   place_set same rest (Standing z) = refl
+  place_set same rest (Ports z) = refl
   place_set same rest (Half m l z) = refl
   place_set same rest (LinkHalf z l) = refl
   place_set same rest (Error m) = refl

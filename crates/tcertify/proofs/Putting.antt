@@ -7,8 +7,8 @@ use Rattle.std.proofs.lemmas.Bool.{cases_eq}
 use Rattle.std.proofs.lemmas.List.Elements.{All-cons, All-nil}
 use Rattle.tagents.specs.WalkAccesses.{Changes}
 use Rattle.tword.specs.Stores.{Store}
-use Rattle.tprocesses.specs.Places.{Place, WordAt, Sending, Standing, Half, LinkHalf, Error, HaltOnError, Life}
-use Rattle.tprocesses.specs.Places.{Successions, Messages, Kept, Population, HasRun, FlagChanged}
+use Rattle.tprocesses.specs.Places.{Place, WordAt, Sending, Standing, Ports, Half, LinkHalf, Error, HaltOnError}
+use Rattle.tprocesses.specs.Places.{Life, Successions, Messages, Kept, Population, HasRun, FlagChanged}
 use Rattle.tprocesses.specs.Values.{Use, Value, Word, IsWord, IsAmount}
 use Rattle.tprocesses.specs.Changes.{Put, Puts}
 use Rattle.tprocesses.specs.Touching.{Site, put_words}
@@ -63,6 +63,7 @@ module _ (n : ℕ) (vs ws : List StoredWord) (rest : State) where
         (sending_or (slice_get ws k) (rest (Sending m k))) (rest (Sending m k))
         (alike_sent (slice_get vs k) (slice_get ws k) (rest (Sending m k)) (sent k))
     stands_at (Standing z) = refl
+    stands_at (Ports z) = refl
     stands_at (Half m l z) = refl
     stands_at (LinkHalf z l) = refl
     stands_at (Error m) = refl

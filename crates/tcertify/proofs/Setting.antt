@@ -1,5 +1,5 @@
 -- A word at an address is set, or is not.
-use Rattle.std.proofs.Common.{◌≡◌, ℕ, sym, subst, ◌∙◌, Result, Ok, Err}
+use Rattle.std.proofs.Common.{◌≡◌, ℕ, sym, subst, Result, Ok, Err}
 use Rattle.tword.specs.Stores.{Store}
 use Rattle.tword.specs.Words.{word_below}
 use Rattle.tword.specs.Actions.{or_break}
@@ -7,9 +7,9 @@ use Rattle.tword.specs.Touches.{Writes, word_place_break}
 use Rattle.tprocesses.specs.Places.{WordAt}
 use Rattle.tprocesses.specs.Values.{IsWord, Use}
 use Rattle.tprocesses.specs.Changes.{Change, Put}
-use Rattle.tprocesses.specs.Parts.{Reason, Doing, change, ◌>>=◌, ◌>>◌}
+use Rattle.tprocesses.specs.Parts.{Reason, Doing, change, ◌>>=◌}
 use Rattle.tprocesses.specs.Touching.{Site, touch_word, touch_word_at, word_number, word_place}
-use Rattle.tprocesses.specs.Touching.{save, save_word, forgotten}
+use Rattle.tprocesses.specs.Touching.{save, save_upper, save_word, forgotten}
 use Rattle.tcertify.specs.declared.stored.Words.{Words}
 use Rattle.tcertify.specs.Words.{Runs, site_of}
 use Rattle.tcertify.proofs.Running.{runs_on, runs_stop}
@@ -50,33 +50,31 @@ sets w t v a k u new cells left is at touched same changed =
     (Ok tt) v)
     is changed)))
 
--- the three words below a workspace are saved, or one of them may not be written
+-- the upper two words below a workspace are saved, or one of them may not be written
+module _ (w v : Words) (a : ℕ) where
+  pub saves_none : (why : Reason) → Runs (save_word (site_of w) (word_below a 2) forgotten) w (Err why) v
+      → Runs (save_upper (site_of w) a) w (Err why) v
+  saves_none why h =
+      runs_stop (save_word (site_of w) (word_below a 2) forgotten)
+      (λ _. save_word (site_of w) (word_below a 1) forgotten) w v why h
+
+  pub saves_both : (u : Words) (r : Result (Unit {0}) Reason)
+      → Runs (save_word (site_of w) (word_below a 2) forgotten) w (Ok tt) v → site_of v ≡ site_of w
+      → Runs (save_word (site_of v) (word_below a 1) forgotten) v r u → Runs (save_upper (site_of w) a) w r u
+  saves_both u r first same second =
+      runs_on (save_word (site_of w) (word_below a 2) forgotten)
+      (λ _. save_word (site_of w) (word_below a 1) forgotten) w v u tt r first
+      (subst (λ (s : Site). Runs (save_word s (word_below a 1) forgotten) v r u) same second)
+
+-- all three are, or the lowest may not be written
 module _ (w v : Words) (a : ℕ) (lowest : Store → Store) where
-  -- the words that follow the lowest one
-  abbrev next_two : Doing
-  next_two =
-      save_word (site_of w) (word_below a 2) forgotten >> save_word (site_of w) (word_below a 1) forgotten
-
-  pub saves_none : (why : Reason) → Runs (save_word (site_of w) (word_below a 3) lowest) w (Err why) v
+  pub saves_not : (why : Reason) → Runs (save_word (site_of w) (word_below a 3) lowest) w (Err why) v
       → Runs (save (site_of w) a lowest) w (Err why) v
-  saves_none why h = runs_stop (save_word (site_of w) (word_below a 3) lowest) (λ _. next_two) w v why h
+  saves_not why h = runs_stop (save_word (site_of w) (word_below a 3) lowest) (λ _. save_upper (site_of w) a) w v why h
 
-  pub saves_one : (u : Words) (why : Reason) → Runs (save_word (site_of w) (word_below a 3) lowest) w (Ok tt) v
-      → site_of v ≡ site_of w → Runs (save_word (site_of v) (word_below a 2) forgotten) v (Err why) u
-      → Runs (save (site_of w) a lowest) w (Err why) u
-  saves_one u why first same second =
-      runs_on (save_word (site_of w) (word_below a 3) lowest) (λ _. next_two) w v u tt (Err why) first
-      (runs_stop (save_word (site_of w) (word_below a 2) forgotten)
-      (λ _. save_word (site_of w) (word_below a 1) forgotten) v u why
-      (subst (λ (s : Site). Runs (save_word s (word_below a 2) forgotten) v (Err why) u) same second))
-
-  pub saves : (u t : Words) (r : Result (Unit {0}) Reason)
+  pub saves : (u : Words) (r : Result (Unit {0}) Reason)
       → Runs (save_word (site_of w) (word_below a 3) lowest) w (Ok tt) v → site_of v ≡ site_of w
-      → Runs (save_word (site_of v) (word_below a 2) forgotten) v (Ok tt) u → site_of u ≡ site_of v
-      → Runs (save_word (site_of u) (word_below a 1) forgotten) u r t → Runs (save (site_of w) a lowest) w r t
-  saves u t r first same second alike third =
-      runs_on (save_word (site_of w) (word_below a 3) lowest) (λ _. next_two) w v t tt r first
-      (runs_on (save_word (site_of w) (word_below a 2) forgotten)
-      (λ _. save_word (site_of w) (word_below a 1) forgotten) v u t tt r
-      (subst (λ (s : Site). Runs (save_word s (word_below a 2) forgotten) v (Ok tt) u) same second)
-      (subst (λ (s : Site). Runs (save_word s (word_below a 1) forgotten) u r t) (alike ∙ same) third))
+      → Runs (save_upper (site_of v) a) v r u → Runs (save (site_of w) a lowest) w r u
+  saves u r first same second =
+      runs_on (save_word (site_of w) (word_below a 3) lowest) (λ _. save_upper (site_of w) a) w v u tt r first
+      (subst (λ (s : Site). Runs (save_upper s a) v r u) same second)

@@ -133,6 +133,8 @@ module _ (a b : Node) (k : ℕ) (word : Word)
   idle s value.Saved h = refl
   idle s value.Receiving h = refl
   idle s value.Engaged h = refl
+  idle s value.Choosing h = refl
+  idle s value.Awaiting h = refl
   idle s (Last p) h = absurd (h p refl)
   idle s value.Spoilt h = refl
 
@@ -156,5 +158,7 @@ no_last uses.Free n p e = cc
 no_last uses.Saved n p e = cc
 no_last uses.Receiving n p e = cc
 no_last uses.Engaged n p e = cc
+no_last uses.Choosing n p e = cc
+no_last uses.Awaiting n p e = cc
 no_last (uses.Last q) n p e = n q refl
 no_last uses.Spoilt n p e = cc

@@ -7,8 +7,8 @@ use Rattle.tproc.specs.declared.channels.Side.TheVariants.{Input, Output}
 use Rattle.tplan.specs.declared.plan.End.{End}
 use Rattle.tplan.specs.Wires.{same_end}
 use Rattle.tplan.proofs.Ends.{same_end-true, same_end-self}
-use Rattle.tprocesses.specs.Places.{Root, Image, After, Name, Place, WordAt, Sending, Standing, Half, LinkHalf}
-use Rattle.tprocesses.specs.Places.{Error, HaltOnError, Life, Successions, Messages, Kept, Population, HasRun}
+use Rattle.tprocesses.specs.Places.{Root, Image, After, Name, Place, WordAt, Sending, Standing, Ports, Half}
+use Rattle.tprocesses.specs.Places.{LinkHalf, Error, HaltOnError, Life, Successions, Messages, Kept, Population, HasRun}
 use Rattle.tprocesses.specs.Places.{FlagChanged, same_path, same_root, same_name, same_side, same_place}
 
 -- two numbers that the test finds the same are equal
@@ -93,6 +93,7 @@ pub same_place-true : (p q : Place) → same_place p q ≡ true → p ≡ q
 same_place-true (WordAt n k) (WordAt m l) h = same_pair WordAt n k m l h
 same_place-true (Sending n k) (Sending m l) h = same_pair Sending n k m l h
 same_place-true (Standing x) (Standing y) h = ap Standing (same_name-true x y h)
+same_place-true (Ports x) (Ports y) h = ap Ports (same_name-true x y h)
 same_place-true (Half n c s) (Half m d t) h = same_half n c s m d t h
 same_place-true (LinkHalf e s) (LinkHalf f t) h = same_link e s f t h
 same_place-true (Error n) (Error m) h = ap Error (same_number n m h)
@@ -110,6 +111,7 @@ pub same_place-self : (p : Place) → same_place p p ≡ true
 same_place-self (WordAt n k) = pair_itself n k
 same_place-self (Sending n k) = pair_itself n k
 same_place-self (Standing x) = same_name-self x
+same_place-self (Ports x) = same_name-self x
 same_place-self (Half n c s) = and_from _ _ (pair_itself n c) (same_side-self s)
 same_place-self (LinkHalf e s) = and_from _ _ (same_end-self e) (same_side-self s)
 same_place-self (Error n) = number_itself n

@@ -1,5 +1,5 @@
 -- Saved words that are for programs again.
-use Rattle.std.proofs.Common.{◌≡◌, ℕ, sym, subst, ◌∙◌, Bool, true, false, Some, Result, Ok, Err}
+use Rattle.std.proofs.Common.{◌≡◌, ℕ, sym, subst, Bool, true, false, Some, Result, Ok, Err}
 use Rattle.std.specs.Prelude.{slice_get}
 use Rattle.tword.specs.Stores.{Store}
 use Rattle.tword.specs.Words.{word_below}
@@ -8,7 +8,7 @@ use Rattle.tprocesses.specs.Values.{Use, Value, IsWord, Free, Saved, word_in}
 use Rattle.tprocesses.specs.Changes.{Put}
 use Rattle.tprocesses.specs.Parts.{Reason, WordInUse, Part, Doing, gives, see, change, require, ◌>>◌}
 use Rattle.tprocesses.specs.Touching.{Site, same_use, word_for, word_number, word_place}
-use Rattle.tprocesses.specs.Standing.{unsave, unsave_word}
+use Rattle.tprocesses.specs.Standing.{unsave, unsave_upper, unsave_word}
 use Rattle.tcertify.specs.declared.notes.Mode.TheVariants as noted
 use Rattle.tcertify.specs.declared.stored.StoredWord.{StoredWord}
 use Rattle.tcertify.specs.declared.stored.Words.{Words}
@@ -71,29 +71,28 @@ module _ (w v : Words) (a k : ℕ) (at : k ≡ word_number a) (t : IsTouched w k
       (subst (λ (n : ℕ). Runs (change (WordAt v.number n) (Put (IsWord (record { cells = cells; used = Free })))) v
       (Ok tt) u) at changed))
 
--- the three words below a workspace
+-- the upper two words below a workspace, and all three
 module _ (w v : Words) (a : ℕ) where
-  abbrev next_two : Doing
-  next_two = unsave_word (site_of w) (word_below a 2) >> unsave_word (site_of w) (word_below a 1)
+  pub unsaves_none : (why : Reason) → Runs (unsave_word (site_of w) (word_below a 2)) w (Err why) v
+      → Runs (unsave_upper (site_of w) a) w (Err why) v
+  unsaves_none why h =
+      runs_stop (unsave_word (site_of w) (word_below a 2)) (λ _. unsave_word (site_of w) (word_below a 1)) w v why h
 
-  pub unsaves_none : (why : Reason) → Runs (unsave_word (site_of w) (word_below a 3)) w (Err why) v
+  pub unsaves_both : (u : Words) (r : Result (Unit {0}) Reason)
+      → Runs (unsave_word (site_of w) (word_below a 2)) w (Ok tt) v → site_of v ≡ site_of w
+      → Runs (unsave_word (site_of v) (word_below a 1)) v r u → Runs (unsave_upper (site_of w) a) w r u
+  unsaves_both u r first same second =
+      runs_on (unsave_word (site_of w) (word_below a 2)) (λ _. unsave_word (site_of w) (word_below a 1)) w v u tt r
+      first (subst (λ (s : Site). Runs (unsave_word s (word_below a 1)) v r u) same second)
+
+  pub unsaves_lowest_not : (why : Reason) → Runs (unsave_word (site_of w) (word_below a 3)) w (Err why) v
       → Runs (unsave (site_of w) a) w (Err why) v
-  unsaves_none why h = runs_stop (unsave_word (site_of w) (word_below a 3)) (λ _. next_two) w v why h
+  unsaves_lowest_not why h =
+      runs_stop (unsave_word (site_of w) (word_below a 3)) (λ _. unsave_upper (site_of w) a) w v why h
 
-  pub unsaves_one : (u : Words) (why : Reason) → Runs (unsave_word (site_of w) (word_below a 3)) w (Ok tt) v
-      → site_of v ≡ site_of w → Runs (unsave_word (site_of v) (word_below a 2)) v (Err why) u
-      → Runs (unsave (site_of w) a) w (Err why) u
-  unsaves_one u why first same second =
-      runs_on (unsave_word (site_of w) (word_below a 3)) (λ _. next_two) w v u tt (Err why) first
-      (runs_stop (unsave_word (site_of w) (word_below a 2)) (λ _. unsave_word (site_of w) (word_below a 1)) v u why
-      (subst (λ (s : Site). Runs (unsave_word s (word_below a 2)) v (Err why) u) same second))
-
-  pub unsaves_all : (u t : Words) (r : Result (Unit {0}) Reason)
+  pub unsaves_all : (u : Words) (r : Result (Unit {0}) Reason)
       → Runs (unsave_word (site_of w) (word_below a 3)) w (Ok tt) v → site_of v ≡ site_of w
-      → Runs (unsave_word (site_of v) (word_below a 2)) v (Ok tt) u → site_of u ≡ site_of v
-      → Runs (unsave_word (site_of u) (word_below a 1)) u r t → Runs (unsave (site_of w) a) w r t
-  unsaves_all u t r first same second alike third =
-      runs_on (unsave_word (site_of w) (word_below a 3)) (λ _. next_two) w v t tt r first
-      (runs_on (unsave_word (site_of w) (word_below a 2)) (λ _. unsave_word (site_of w) (word_below a 1)) v u t tt r
-      (subst (λ (s : Site). Runs (unsave_word s (word_below a 2)) v (Ok tt) u) same second)
-      (subst (λ (s : Site). Runs (unsave_word s (word_below a 1)) u r t) (alike ∙ same) third))
+      → Runs (unsave_upper (site_of v) a) v r u → Runs (unsave (site_of w) a) w r u
+  unsaves_all u r first same second =
+      runs_on (unsave_word (site_of w) (word_below a 3)) (λ _. unsave_upper (site_of w) a) w v u tt r first
+      (subst (λ (s : Site). Runs (unsave_upper s a) v r u) same second)

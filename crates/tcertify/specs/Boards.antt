@@ -1,16 +1,17 @@
 -- What a node has at its places except for its words, as functions of names, addresses and numbers.
 -- Source: own choice.
-use Rattle.std.specs.Prelude.{ℕ, zero, suc, ◌==◌, ℤ, pos, Bool, false, Option, if◌then◌else◌}
+use Rattle.std.specs.Prelude.{ℕ, zero, suc, ◌==◌, ℤ, pos, Bool, false, List, if◌then◌else◌}
 use Rattle.tproc.specs.declared.channels.Side.{Side}
-use Rattle.tprocesses.specs.Places.{Name, Standing, Half, LinkHalf, Error, HaltOnError, Life}
+use Rattle.tprocesses.specs.Places.{Name, Standing, Ports, Half, LinkHalf, Error, HaltOnError, Life}
 use Rattle.tprocesses.specs.Places.{Successions, Population, HasRun, FlagChanged}
-use Rattle.tprocesses.specs.Values.{Stand, Request, Link, IsStand, IsHalf, IsLink, IsFlag, IsAmount, IsCount}
+use Rattle.tprocesses.specs.Values.{Stand, Holder, Link, IsStand, ArePorts, IsHalf, IsLink, IsFlag, IsAmount, IsCount}
 use Rattle.tcertify.specs.Running.{State}
 
 pub record Board : Type 0 where
   pub node : ℕ
   pub stand : Name → Stand
-  pub half : ℕ → Side → Option Request
+  pub ports : Name → List ℕ
+  pub half : ℕ → Side → Holder
   pub link : ℕ → Side → Link
   pub error : Bool
   pub halt_on_error : Bool
@@ -29,6 +30,7 @@ has_run_at high low (suc (suc p)) = false
 -- a state in which the places of a node have this, except for its words
 abbrev pub board_at : Board → State → State
 board_at b s (Standing x) = if b.node == x.node then IsStand (b.stand x) else s (Standing x)
+board_at b s (Ports x) = if b.node == x.node then ArePorts (b.ports x) else s (Ports x)
 board_at b s (Half n c side) = if b.node == n then IsHalf (b.half c side) else s (Half n c side)
 board_at b s (LinkHalf e side) = if b.node == e.node then IsLink (b.link e.link side) else s (LinkHalf e side)
 board_at b s (Error n) = if b.node == n then IsFlag b.error else s (Error n)

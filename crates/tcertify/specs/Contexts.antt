@@ -3,6 +3,7 @@
 use Rattle.std.specs.Prelude.{false, List, Option, Some, None}
 use Rattle.tprocesses.specs.Values as value
 use Rattle.tprocesses.specs.Uses as uses
+use Rattle.tcertify.specs.declared.context.Choice.{Choice}
 use Rattle.tcertify.specs.declared.context.Context.{Context}
 use Rattle.tcertify.specs.declared.context.Lent.{Lent}
 use Rattle.tcertify.specs.declared.uses.Need.{Need}
@@ -17,6 +18,15 @@ abbrev pub lent_of : Option Lent → Option value.Lent
 lent_of None = None
 lent_of (Some l) = Some (record { link = l.link; buffer = l.buffer })
 
+-- an alternative that is under way
+abbrev pub choice_of : Choice → value.Choice
+choice_of c = record { skips = c.skips }
+
+-- an alternative, if there is one
+abbrev pub choice_in : Option Choice → Option value.Choice
+choice_in None = None
+choice_in (Some c) = Some (choice_of c)
+
 -- the context of a process
 abbrev pub context_of : Context → value.Context
 context_of c =
@@ -29,6 +39,7 @@ context_of c =
       c = c.c;
       children = c.children;
       lent = lent_of c.lent;
+      choice = choice_in c.choice;
     }
 
 -- how many registers an instruction needs

@@ -1,9 +1,9 @@
 -- What stands at only one place, as the messages of a source or of a sink do.
 -- Source: own choice.
-use Rattle.std.specs.Prelude.{ℕ, ◌≡◌, drop, map, Result, Ok, Err, if◌then◌else◌}
+use Rattle.std.specs.Prelude.{ℕ, ◌≡◌, map, Result, Ok, Err, if◌then◌else◌}
 use Rattle.tprocesses.specs.Parts.{Part, Reason}
 use Rattle.tprocesses.specs.Places.{Place, same_place}
-use Rattle.tprocesses.specs.Values.{Value, AreKept, AreMessages}
+use Rattle.tprocesses.specs.Values.{Value, AreKept}
 use Rattle.tcertify.specs.declared.fault.Fault.{Fault}
 use Rattle.tcertify.specs.declared.fault.Fault.TheVariants as fault
 use Rattle.tcertify.specs.declared.notes.Notes.{Notes}

@@ -42,8 +42,9 @@ pub mod Nodes
 -- parts of operations of the scheduler, and of steps
 pub mod Scheduling
 pub mod Steps
--- parts of messages
+-- parts of messages, and of alternatives
 pub mod Messages
+pub mod Choosing
 -- nodes before the first step
 pub mod Opened
 pub mod NodeOpened

@@ -17,7 +17,8 @@ use Rattle.tprocesses.specs.Touching.{Site, forgotten, kept, put, replaced, save
 use Rattle.tprocesses.specs.Touching.{word_number}
 use Rattle.tprocesses.specs.Touching.{word_place, words_for}
 use Rattle.tprocesses.specs.Values as value
-use Rattle.tprocesses.specs.Values.{Context, Free, Receiving, Request, Waits, IsCount, IsHalf, IsLink, IsWord, count_in}
+use Rattle.tprocesses.specs.Values.{Context, Free, Nobody, Receiving, Request, Waits, IsCount, IsHalf, IsLink, IsWord}
+use Rattle.tprocesses.specs.Values.{count_in}
 
 -- a process waits, with a buffer that may be touched as the message will
 abbrev pub awaits : Site → Name → Context → Side → Span → Doing
@@ -38,8 +39,8 @@ abbrev pub leave : Site → (channel : ℕ) → (input output : Name) → Doing
 leave s channel input output = do
   wakes input None
   wakes output None
-  change (Half s.number channel Input) (Put (IsHalf None))
-  change (Half s.number channel Output) (Put (IsHalf None))
+  change (Half s.number channel Input) (Put (IsHalf Nobody))
+  change (Half s.number channel Output) (Put (IsHalf Nobody))
 
 -- a message passes at a channel
 abbrev pub passes : Site → (channel : ℕ) → (input output : Request) → Doing

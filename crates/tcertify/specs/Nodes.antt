@@ -1,7 +1,7 @@
 -- A node as places, and what a call on it does.
 -- Source: own choice.
 use Rattle.std.specs.Prelude.{ℕ, ◌≡◌, ◌<◌, ◌≤◌, ◌+◌, length, Bool, false, List, map, Some, Result, Ok, Err, slice_get}
-use Rattle.std.specs.Prelude.{[], Contains, is_some, unwrap_or, ◌⊎◌}
+use Rattle.std.specs.Prelude.{[], Contains, unwrap_or, ◌⊎◌}
 use Rattle.tagents.specs.Walks.{Sight}
 use Rattle.tproc.specs.declared.channels.Side as machine
 use Rattle.tproc.specs.declared.channels.Side.TheVariants.{Input, Output}
@@ -12,7 +12,7 @@ use Rattle.tprocesses.specs.Values.{Value, stand_in, half_in, link_in}
 use Rattle.tprocesses.specs.Changes.{Decrement}
 use Rattle.tprocesses.specs.Parts.{Reason, Part, Changed}
 use Rattle.tprocesses.specs.Touching.{Site}
-use Rattle.tprocesses.specs.Machine.{is_offered, is_ready}
+use Rattle.tprocesses.specs.Machine.{is_met_at, is_offered, is_ready}
 use Rattle.tcertify.specs.declared.channel.Channel.{Channel}
 use Rattle.tcertify.specs.declared.fault.Fault.{Fault}
 use Rattle.tcertify.specs.declared.fault.Fault.TheVariants as fault
@@ -28,7 +28,7 @@ use Rattle.tcertify.specs.Boards.{Board, board_at, has_run_at}
 use Rattle.tcertify.specs.Channels.{half_among, link_among}
 use Rattle.tcertify.specs.Lives.{lives_at, successors_at}
 use Rattle.tcertify.specs.Notes.{AreNoted, Keeps, Numbering, NumbersWords}
-use Rattle.tcertify.specs.Processes.{name_in, name_of, stand_among}
+use Rattle.tcertify.specs.Processes.{name_in, name_of, ports_among, ports_or_none, stand_among}
 use Rattle.tcertify.specs.Running.{State, run_part}
 use Rattle.tcertify.specs.Seeing.{sights}
 use Rattle.tcertify.specs.Sides.{side_of}
@@ -41,6 +41,10 @@ names n = map (name_of n.words.number) n.processes.items.items
 
 abbrev pub name_at : Node → ℕ → Name
 name_at n k = name_in (names n) k
+
+-- the channels that the process of a number has enabled
+abbrev pub ports_at : Node → ℕ → List ℕ
+ports_at n k = ports_or_none (slice_get n.processes.items.items k)
 
 -- the addresses of its channels, by their numbers, and those of its workspaces
 abbrev pub addresses : Node → List ℕ
@@ -65,6 +69,7 @@ board_of n =
     record {
       node = n.words.number;
       stand = stand_among n.words.number n.processes.items.items;
+      ports = ports_among n.words.number n.processes.items.items;
       half = half_among (names n) n.channels.items.items;
       link = link_among (names n) n.links;
       error = n.error;
@@ -85,6 +90,8 @@ pub record NumbersNode (numbering : Numbering) (n : Node) : Type 0 where
   pub words : NumbersWords numbering n.words.number n.words.first_place
   pub stand : (k : ℕ) (p : Process) → slice_get n.processes.items.items k ≡ Some p
       → numbering (place.Standing (name_of n.words.number p)) ≡ p.place
+  pub ports : (k : ℕ) (p : Process) → slice_get n.processes.items.items k ≡ Some p
+      → numbering (place.Ports (name_of n.words.number p)) ≡ p.place
   pub input : (k : ℕ) (c : Channel) → slice_get n.channels.items.items k ≡ Some c
       → numbering (place.Half n.words.number c.address Input) ≡ c.input.place
   pub output : (k : ℕ) (c : Channel) → slice_get n.channels.items.items k ≡ Some c
@@ -126,7 +133,8 @@ IsLed n seen changed (lead.Process k) =
     (x : Name) × (slice_get (names n) k ≡ Some x) × IsSeenShut seen (place.Standing x) (λ v. is_ready (stand_in v))
 IsLed n seen changed (lead.Channel k) =
     (c : ℕ) × (slice_get (addresses n) k ≡ Some c)
-    × ((side : machine.Side) × IsSeenShut seen (place.Half n.words.number c side) (λ v. is_some (half_in v)))
+    × ((side : machine.Side) × IsSeenShut seen (place.Half n.words.number c side)
+    (λ v. is_met_at (place.Half n.words.number c side) (half_in v)))
 IsLed n seen changed (lead.Link l side) =
     IsSeenShut seen (place.LinkHalf (end_at n.words.number l) (side_of side)) (λ v. is_offered (link_in v))
 IsLed n seen changed (lead.Count k) =

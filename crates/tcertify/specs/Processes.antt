@@ -36,6 +36,26 @@ stand_or_absent None = value.Absent
 abbrev pub stand_among : ℕ → List Process → Name → value.Stand
 stand_among node processes x = stand_or_absent (find (λ p. same_name (name_of node p) x) processes)
 
+-- the channels that a process has enabled, if there is one
+abbrev pub ports_or_none : Option Process → List ℕ
+ports_or_none (Some p) = p.ports.items
+ports_or_none None = []
+
+-- the channels that the process of this name among those of a node has enabled
+abbrev pub ports_among : ℕ → List Process → Name → List ℕ
+ports_among node processes x = ports_or_none (find (λ p. same_name (name_of node p) x) processes)
+
+-- processes of which the one of this number has other channels enabled now, and the number of its place
+pub record HasPortsIn (old : List Process) (k : ℕ) (next : List ℕ → List ℕ) (at : ℕ) (new : List Process)
+    : Type 0 where
+  pub process : Process
+  pub now : Process
+  pub there : slice_get old k ≡ Some process
+  pub set : new ≡ slice_set old k now
+  pub same : now ≡ record process { ports = now.ports }
+  pub ports : now.ports.items ≡ next process.ports.items
+  pub place : process.place ≡ at
+
 -- processes of which the one of this number stands so now, and the number of its place
 pub record IsStoodIn (old : List Process) (k : ℕ) (stand : Stand) (at : ℕ) (new : List Process) : Type 0 where
   pub process : Process

@@ -16,6 +16,8 @@ stand_of stand.Absent = value.Absent
 stand_of (stand.Rests c) = value.Rests (context_of c)
 stand_of (stand.Runs c) = value.Runs (context_of c)
 stand_of (stand.Waits c) = value.Waits (context_of c)
+stand_of (stand.Chooses c) = value.Chooses (context_of c)
+stand_of (stand.Chosen c) = value.Chosen (context_of c)
 stand_of stand.Ended = value.Ended
 
 -- the put of where the process stands

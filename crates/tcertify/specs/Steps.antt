@@ -1,6 +1,6 @@
 -- A step of a process, and an instruction up to what follows it.
 -- Source: own choice, parts of the steps of `tprocesses`.
-use Rattle.std.specs.Prelude.{not, ◌||◌, unwrap_or}
+use Rattle.std.specs.Prelude.{not, ◌||◌, ◌==◌, is_none, unwrap_or}
 use Rattle.tword.specs.Words.{plus}
 use Rattle.tcode.specs.declared.instruction.Instruction.{Instruction}
 use Rattle.tcpu.specs.declared.registers.Registers.{Registers}
@@ -8,7 +8,7 @@ use Rattle.tcpu.specs.Effects.{effect}
 use Rattle.tcpu.specs.Outcomes.{Outcome}
 use Rattle.tprocesses.specs.Instructions.{context_after, flags_after, flags_before, followed, has_flags, registers}
 use Rattle.tprocesses.specs.Machine.{process_step}
-use Rattle.tprocesses.specs.Parts.{Part, Doing, gives, require, see, SawTheScheduler, ◌>>=◌, ◌>>◌}
+use Rattle.tprocesses.specs.Parts.{Part, Doing, gives, require, see, SawTheScheduler, WordInUse, ◌>>=◌, ◌>>◌}
 use Rattle.tprocesses.specs.Performing.{Performed, perform}
 use Rattle.tprocesses.specs.Places.{Name, Standing}
 use Rattle.tprocesses.specs.Standing.{moves}
@@ -41,8 +41,10 @@ instructed_by s c i u = do
 abbrev pub instructed : Site → Context → Instruction → Part Followed
 instructed s c i = instructed_by s c i (uses_of s.kind i (unwrap_or c.a 0))
 
--- the end of an instruction, with what follows it and the context behind it
+-- the end of an instruction, with what follows it and the context behind it. While an alternative is under way the
+-- workspace stays
 abbrev pub ended : Context → Instruction → Site → Name → Followed → Doing
 ended c i s x k = do
+  require (is_none c.choice || (c.wptr == k.1.wptr)) WordInUse
   moves s c.wptr k.1.wptr
   followed k.0 s x (record c { iptr = plus c.iptr i.length }) k.1

@@ -1,7 +1,7 @@
 -- The words of a node as places, and what a call on them does.
 -- Source: own choice.
 use Rattle.std.specs.Prelude.{ℕ, ◌≡◌, ◌+◌, ◌*◌, ◌==◌, pos, List, Option, Some, None, Result, Ok, Err, length}
-use Rattle.std.specs.Prelude.{option_map, slice_get, slice_set, false, []}
+use Rattle.std.specs.Prelude.{option_map, slice_get, slice_set}
 use Rattle.std.specs.Prelude.{if◌then◌else◌}
 use Rattle.tword.specs.Stores.{Store}
 use Rattle.tprocesses.specs.Places.{WordAt, Sending}
@@ -31,6 +31,7 @@ reason_of (stop.Breaks b) = reason.Breaks b
 reason_of stop.Halts = reason.Halts
 reason_of stop.SawTheScheduler = reason.SawTheScheduler
 reason_of stop.HasAlternatives = reason.HasAlternatives
+reason_of stop.SeveralReady = reason.SeveralReady
 reason_of stop.WordInUse = reason.WordInUse
 reason_of stop.FullSink = reason.FullSink
 reason_of stop.HasNoStep = reason.HasNoStep
@@ -41,6 +42,8 @@ use_of uses.Free = value.Free
 use_of uses.Saved = value.Saved
 use_of uses.Receiving = value.Receiving
 use_of uses.Engaged = value.Engaged
+use_of uses.Choosing = value.Choosing
+use_of uses.Awaiting = value.Awaiting
 use_of (uses.Last p) = value.Last (number_of p)
 use_of uses.Spoilt = value.Spoilt
 

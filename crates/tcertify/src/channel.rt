@@ -20,11 +20,23 @@ pub enum LinkHalf {
     Copied,
 }
 
+/// Who has a half of an internal channel.
+#[derive(Clone, Copy)]
+pub enum Holder {
+    Nobody,
+    /// A process that waits for a message to pass.
+    Taken(Request),
+    /// A process, by its number, whose alternative the channel may make go on once it waits.
+    Enabled(u32),
+    /// Such a process that waits.
+    Awaited(u32),
+}
+
 /// A half of an internal channel.
 #[derive(Clone, Copy)]
 pub struct Half {
-    /// Who has taken it.
-    pub request: Option<Request>,
+    /// Who has it.
+    pub holder: Holder,
     /// The number of its place.
     pub place: u32,
 }

@@ -4,7 +4,7 @@ ghost use Rattle.std.specs.Prelude.{ℕ, ◌≡◌, ◌<◌, ◌++◌, ◌∷◌
 ghost use Rattle.tcertify.specs.Channels.{AreEmpty, IsHalfSet, IsLinkSet, address_of, free_channel, half_of, halves_of};
 ghost use Rattle.tcertify.specs.Finding.{IsFound};
 
-use crate::channel::{Channel, Half, LinkHalf, Links, Request};
+use crate::channel::{Channel, Half, Holder, LinkHalf, Links};
 use crate::channel_table::Channels;
 use crate::side::Side;
 use std::alloc::{AllocError, Global};
@@ -81,7 +81,7 @@ impl Channels {
         found
     }
 
-    /// One more channel, of which no half is taken. Its halves have these places.
+    /// One more channel, of which nobody has a half. Its halves have these places.
     ///
     /// # Errors
     /// Where the allocator refuses; nothing is changed then.
@@ -97,11 +97,11 @@ impl Channels {
         ensures err { OnErr result (self.new.items.items ≡ self.old.items.items) }
     {
         let input = Half {
-            request: None,
+            holder: Holder::Nobody,
             place: input_place,
         };
         let output = Half {
-            request: None,
+            holder: Holder::Nobody,
             place: output_place,
         };
         self.items.push(Channel {
@@ -112,20 +112,20 @@ impl Channels {
         Ok(())
     }
 
-    /// A half of a channel is taken, or free. Answers the number of its place.
+    /// Somebody has a half of a channel, or nobody. Answers the number of its place.
     #[inline(always)]
-    pub fn set_half(&mut self, number: usize, side: Side, request: Option<Request>) -> u32
+    pub fn set_half(&mut self, number: usize, side: Side, holder: Holder) -> u32
         requires { number < length self.old.items.items }
-        ensures { IsHalfSet self.old.items.items number side request result self.new.items.items }
+        ensures { IsHalfSet self.old.items.items number side holder result self.new.items.items }
     {
         let channel = &mut self.items[number];
         match side {
             Side::Input => {
-                channel.input.request = request;
+                channel.input.holder = holder;
                 channel.input.place
             }
             Side::Output => {
-                channel.output.request = request;
+                channel.output.holder = holder;
                 channel.output.place
             }
         }

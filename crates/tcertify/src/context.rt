@@ -21,11 +21,19 @@ pub struct Lent {
     pub buffer: Span,
 }
 
-/// The registers of a process, of which A, B and C may not be known, how many processes it has started, and its output
-/// of a link that is not over.
+/// An alternative that is under way.
+#[derive(Clone, Copy)]
+pub struct Choice {
+    /// One of its guards without a channel was true.
+    pub skips: bool,
+}
+
+/// The registers of a process, of which A, B and C may not be known, how many processes it has started, its output of a
+/// link that is not over, and its alternative.
 #[derive(Clone, Copy)]
 pub struct Context {
     pub priority: Priority,
+    pub choice: Option<Choice>,
     pub wptr: Word,
     pub iptr: Word,
     pub a: Option<Word>,
@@ -87,6 +95,7 @@ impl Context {
     {
         Context {
             priority: self.priority,
+            choice: self.choice,
             wptr: self.wptr,
             iptr: self.iptr,
             a: None,
@@ -105,6 +114,7 @@ impl Context {
     {
         Context {
             priority: self.priority,
+            choice: self.choice,
             wptr: registers.wptr,
             iptr: registers.iptr,
             a: known_value(self.is_known(uses.a, read), registers.a),

@@ -1,22 +1,22 @@
 //! The halves of a node's channels and links.
 
-ghost use Rattle.std.specs.Prelude.{◌≡◌, ◌<◌, Ok, IfOk, List, None, length};
+ghost use Rattle.std.specs.Prelude.{ℕ, ◌≡◌, ◌<◌, Ok, IfOk, List, None, length};
 ghost use Rattle.tplan.specs.Wires.{end_at};
 ghost use Rattle.tprocesses.specs.Changes.{Put};
-ghost use Rattle.tprocesses.specs.Machine.{is_offered};
+ghost use Rattle.tprocesses.specs.Machine.{is_met_at, is_offered};
 ghost use Rattle.tprocesses.specs.Places.{Name};
 ghost use Rattle.tprocesses.specs.Parts.{change, done, see};
 ghost use Rattle.tprocesses.specs.Places as place;
 ghost use Rattle.tprocesses.specs.Standing as spec;
 ghost use Rattle.tprocesses.specs.Values.{IsHalf, IsLink};
-ghost use Rattle.tcertify.specs.Channels.{IsKnownHalf, address_of, IsKnownRequest, link_of, request_of};
+ghost use Rattle.tcertify.specs.Channels.{IsKnownHalf, IsKnownHolder, address_of, holder_of, link_of};
 ghost use Rattle.tcertify.specs.Finding.{IsFound};
 ghost use Rattle.tcertify.specs.Contexts.{lent_of};
 ghost use Rattle.tcertify.specs.Nodes.{Does, RunsAt, address_at, link_place, names, node_site, nothing};
 ghost use Rattle.tcertify.specs.Sides.{side_of};
 ghost use Rattle.tcertify.specs.Words.{told};
 
-use crate::channel::{LinkHalf, Request};
+use crate::channel::{Holder, LinkHalf};
 use crate::context::Lent;
 use crate::fault::Fault;
 use crate::lead::Lead;
@@ -38,6 +38,20 @@ fn is_offered(half: &LinkHalf) -> bool
     }
 }
 
+/// Whether a channel may go on at a half with this holder: a process waits there for a message, or at the input for
+/// several channels.
+#[inline(always)]
+fn is_met(side: Side, holder: &Holder) -> bool
+    ensures { (node channel : ℕ) (names : List Name) → result
+        ≡ is_met_at (place.Half node channel (side_of side)) (holder_of names holder.now) }
+{
+    match holder {
+        Holder::Taken(_) => true,
+        Holder::Awaited(_) => matches!(side, Side::Input),
+        Holder::Nobody | Holder::Enabled(_) => false,
+    }
+}
+
 impl Node {
     /// The number of the channel at an address, which is added if it was not there.
     ///
@@ -47,6 +61,7 @@ impl Node {
         ensures done { Does done (λ _. tt) self.old result self.new }
         ensures there { IfOk result (λ k. (k < length self.new.channels.items.items)
             × (address_at self.new k ≡ address)) }
+        ensures processes { self.new.processes.items.items ≡ self.old.processes.items.items }
     {
         if let Some(number) = self.channels.find(address) {
             let Ok(found) = u32::try_from(number) else {
@@ -66,6 +81,7 @@ impl Node {
         ensures done { Does done (λ _. tt) self.old result self.new }
         ensures there { IfOk result (λ k. (k < length self.new.channels.items.items)
             × (address_at self.new k ≡ address)) }
+        ensures processes { self.new.processes.items.items ≡ self.old.processes.items.items }
     {
         let Ok(number) = u32::try_from(self.channels.items.len()) else {
             return Err(Fault::OutOfMemory);
@@ -80,32 +96,34 @@ impl Node {
         Ok(number)
     }
 
-    /// Who has taken a half of a channel.
+    /// Who has a half of a channel.
     #[inline(always)]
-    pub fn half(&mut self, channel: u32, side: Side) -> Option<Request>
+    pub fn half(&mut self, channel: u32, side: Side) -> Holder
         requires { channel < length self.old.channels.items.items }
         ensures looks { RunsAt (see (place.Half self.old.words.number (address_at self.old channel) (side_of side)))
             self.old
-            (Ok (IsHalf (request_of (names self.old) result))) self.new }
-        ensures known { IsKnownRequest (length self.old.processes.items.items) result }
+            (Ok (IsHalf (holder_of (names self.old) result))) self.new }
+        ensures known { IsKnownHolder (length self.old.processes.items.items) result }
+        ensures processes { self.new.processes.items.items ≡ self.old.processes.items.items }
     {
         let half = self.channels.items[channel as usize].half(side);
         self.words.notes.add(half.place, Mode::Looks);
-        if half.request.is_none() {
+        if !is_met(side, &half.holder) {
             self.note_lead(Lead::Channel(channel));
         }
-        half.request
+        half.holder
     }
 
-    /// A half of a channel is taken, or free.
+    /// Somebody has a half of a channel now, or nobody.
     #[inline(always)]
-    pub fn set_half(&mut self, channel: u32, side: Side, request: Option<Request>)
+    pub fn set_half(&mut self, channel: u32, side: Side, holder: Holder)
         requires there { channel < length self.old.channels.items.items }
-        requires known { IsKnownRequest (length self.old.processes.items.items) request }
-        ensures { RunsAt (change (place.Half self.old.words.number (address_at self.old channel) (side_of side))
-            (Put (IsHalf (request_of (names self.old) request)))) self.old (Ok tt) self.new }
+        requires known { IsKnownHolder (length self.old.processes.items.items) holder }
+        ensures sets { RunsAt (change (place.Half self.old.words.number (address_at self.old channel) (side_of side))
+            (Put (IsHalf (holder_of (names self.old) holder)))) self.old (Ok tt) self.new }
+        ensures processes { self.new.processes.items.items ≡ self.old.processes.items.items }
     {
-        let place = self.channels.set_half(channel as usize, side, request);
+        let place = self.channels.set_half(channel as usize, side, holder);
         self.words.notes.add(place, Mode::Puts);
     }
 

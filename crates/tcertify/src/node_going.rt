@@ -49,7 +49,7 @@ impl Node {
 
     /// Whether the memory has the word at an address from its lowest one on.
     #[inline(always)]
-    fn has_word(&self, address: Word) -> bool
+    pub(crate) fn has_word(&self, address: Word) -> bool
         ensures { result ≡ true → word_number address < length self.now.words.items.items }
     {
         word_number(address) < self.words.items.len()

@@ -11,6 +11,7 @@ ghost use Rattle.tcertify.specs.Words.{told};
 
 use crate::alone::IdleMemory;
 use crate::carrying::{Carried, has_flags};
+use crate::choosing::may_move;
 use crate::context::Context;
 use crate::decoding::decode;
 use crate::fault::Fault;
@@ -129,7 +130,8 @@ impl Node {
     /// The end of an instruction of a process that had this context.
     ///
     /// # Errors
-    /// Those of `follows`; `OutOfMemory`.
+    /// `WordInUse` where it has another workspace now and an alternative is under way, those of `follows`;
+    /// `OutOfMemory`.
     #[inline(always)]
     fn completes(
         &mut self,
@@ -144,6 +146,7 @@ impl Node {
             (followed carried.now)) nothing self.old result self.new }
     {
         let after = carried.context;
+        may_move(context.choice, context.wptr, after.wptr)?;
         self.moves(context.wptr, after.wptr)?;
         let scheduled = context.past(instruction);
         self.follows(alloc, process, carried.next, &scheduled, &after)
@@ -196,11 +199,12 @@ impl Node {
         self.executes(alloc, idle, process, context, instruction)
     }
 
-    /// A step of a process: its next instruction, or that it goes on where it rests. idle: a memory of the node's kind
-    /// that is not touched.
+    /// A step of a process: its next instruction, or that it goes on where it rests or was chosen. idle: a memory of
+    /// the node's kind that is not touched.
     ///
     /// # Errors
-    /// `HasNoStep` where it is not ready; those of the instruction, those of `resumes`; `OutOfMemory`.
+    /// `HasNoStep` where it is not ready; those of the instruction, those of `resumes` and of `goes_on_chosen`;
+    /// `OutOfMemory`.
     pub fn process_step(
         &mut self,
         alloc: Global,
@@ -216,7 +220,10 @@ impl Node {
         match self.stand(process) {
             Stand::Rests(context) => self.resumes(process, &context),
             Stand::Runs(context) => self.runs(alloc, idle, process, &context),
-            Stand::Absent | Stand::Waits(_) | Stand::Ended => Err(Fault::Stops(Stop::HasNoStep)),
+            Stand::Chosen(context) => self.goes_on_chosen(process, &context),
+            Stand::Absent | Stand::Waits(_) | Stand::Chooses(_) | Stand::Ended => {
+                Err(Fault::Stops(Stop::HasNoStep))
+            }
         }
     }
 }

@@ -1,10 +1,11 @@
 //! Messages on the internal channels of a node.
 
-ghost use Rattle.std.specs.Prelude.{◌≡◌, ◌<◌, Some, length};
+ghost use Rattle.std.specs.Prelude.{◌≡◌, ◌<◌, length};
 ghost use Rattle.tprocesses.specs.ChannelMessages as spec;
 ghost use Rattle.tproc.specs.Channels.{mode_of};
 ghost use Rattle.tprocesses.specs.Touching.{touch, word_number};
-ghost use Rattle.tcertify.specs.Channels.{request_of};
+ghost use Rattle.tcertify.specs.Channels.{holder_of};
+ghost use Rattle.tcertify.specs.declared.channel.Holder.TheVariants as holder;
 ghost use Rattle.tcertify.specs.Contexts.{context_of};
 ghost use Rattle.tcertify.specs.Messages.{awaits, leave, marks, passes};
 ghost use Rattle.tcertify.specs.Nodes.{Does, RunsAt, address_at, name_at, names, node_site, nothing};
@@ -13,7 +14,7 @@ ghost use Rattle.tcertify.specs.Spans.{span_cells};
 ghost use Rattle.tcertify.specs.Words.{told};
 
 use crate::cells::Cells;
-use crate::channel::Request;
+use crate::channel::{Holder, Request};
 use crate::context::Context;
 use crate::fault::Fault;
 use crate::node::Node;
@@ -30,7 +31,7 @@ impl Node {
     /// A process takes its half of a channel, and waits.
     ///
     /// # Errors
-    /// Those of the channel word, `ChannelMisuse` where the half is taken, those of `marks_channel`; `OutOfMemory`.
+    /// Those of the channel word, `ChannelMisuse` where somebody has the half, those of `marks_channel`; `OutOfMemory`.
     pub fn takes_half(
         &mut self,
         process: u32,
@@ -48,10 +49,10 @@ impl Node {
             Err(broken) => return Err(Fault::Stops(Stop::Breaks(broken))),
         };
         let number = self.channel_at(channel)?;
-        if self.half(number, side).is_some() {
+        let Holder::Nobody = self.half(number, side) else {
             return Err(Fault::Stops(Stop::Breaks(Break::ChannelMisuse)));
-        }
-        self.set_half(number, side, Some(Request { process, buffer }));
+        };
+        self.set_half(number, side, Holder::Taken(Request { process, buffer }));
         self.marks_channel(process, context, side, channel, word, &buffer)?;
         Ok(())
     }
@@ -117,10 +118,11 @@ impl Node {
         }
     }
 
-    /// A channel copies the message, where both of its halves are taken.
+    /// A channel copies the message where both of its halves are taken, or makes the process go on that waits for it
+    /// and for others.
     ///
     /// # Errors
-    /// `HasNoStep` where a half is free, else those of `meets`.
+    /// `HasNoStep` where no message is sent or awaited, else those of `meets` and of `lets_go_on`.
     pub fn channel_step(&mut self, channel: u32) -> Result<(), Fault>
         requires { channel < length self.old.channels.items.items }
         ensures { Does (spec.channel_step (address_at self.old channel) (node_site self.old)) nothing self.old
@@ -128,13 +130,17 @@ impl Node {
     {
         let input = self.half(channel, Side::Input);
         let output = self.half(channel, Side::Output);
-        let Some(receiver) = input else {
+        let Holder::Taken(sender) = output else {
             return Err(Fault::Stops(Stop::HasNoStep));
         };
-        let Some(sender) = output else {
-            return Err(Fault::Stops(Stop::HasNoStep));
-        };
-        self.meets(channel, &receiver, &sender)
+        match input {
+            Holder::Taken(receiver) => self.meets(channel, &receiver, &sender),
+            Holder::Awaited(process) => {
+                let address = self.channels.items[channel as usize].address;
+                self.lets_go_on(channel, address, process)
+            }
+            Holder::Nobody | Holder::Enabled(_) => Err(Fault::Stops(Stop::HasNoStep)),
+        }
     }
 
     /// The two processes at a channel meet: the message is copied, and both are ready.
@@ -147,7 +153,8 @@ impl Node {
         requires input { input.now.process < length self.old.processes.items.items }
         requires output { output.now.process < length self.old.processes.items.items }
         ensures { Does (spec.meet_if (node_site self.old) (address_at self.old channel)
-            (request_of (names self.old) (Some input.now)) (request_of (names self.old) (Some output.now))) nothing
+            (holder_of (names self.old) (holder.Taken input.now))
+            (holder_of (names self.old) (holder.Taken output.now))) nothing
             self.old result self.new }
     {
         if input.buffer.size != output.buffer.size {
@@ -194,8 +201,8 @@ impl Node {
     {
         self.wakes(input, None)?;
         self.wakes(output, None)?;
-        self.set_half(channel, Side::Input, None);
-        self.set_half(channel, Side::Output, None);
+        self.set_half(channel, Side::Input, Holder::Nobody);
+        self.set_half(channel, Side::Output, Holder::Nobody);
         Ok(())
     }
 }

@@ -42,6 +42,7 @@ fn first_context(process: &Process) -> Context
     };
     Context {
         priority,
+        choice: None,
         wptr: workspace_of(process.wdesc),
         iptr: process.iptr,
         a: Some(Word::new(0)),
@@ -107,7 +108,13 @@ impl Node {
             return Err(Fault::OutOfMemory);
         };
         let context = first_context(process);
-        self.comes(Root::Image(number), Vec::new(alloc), &context, Start::Rests)
+        self.comes(
+            alloc,
+            Root::Image(number),
+            Vec::new(alloc),
+            &context,
+            Start::Rests,
+        )
     }
 
     /// A node of a plan before the first step, by its number in the plan. first_place: the number of the place of its

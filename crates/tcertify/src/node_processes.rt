@@ -1,6 +1,6 @@
 //! Where the processes of a node stand, and how they come, wait and end.
 
-ghost use Rattle.std.specs.Prelude.{◌≡◌, ◌<◌, ◌∷◌, None, Ok, length};
+ghost use Rattle.std.specs.Prelude.{◌≡◌, ◌<◌, ◌∷◌, [], None, Ok, length};
 ghost use Rattle.tprocesses.specs.Machine.{is_ready};
 ghost use Rattle.tprocesses.specs.Parts.{see};
 ghost use Rattle.tprocesses.specs.Places.{Standing, child_of};
@@ -14,6 +14,7 @@ ghost use Rattle.tcertify.specs.Standing.{stand_of};
 ghost use Rattle.tcertify.specs.Starts.{joins, start_of};
 ghost use Rattle.tcertify.specs.Words.{told};
 
+use crate::choosing::no_choice;
 use crate::context::{Context, Lent};
 use crate::fault::Fault;
 use crate::lead::Lead;
@@ -46,8 +47,8 @@ fn is_ready(stand: &Stand) -> bool
     ensures { result ≡ is_ready (stand_of stand.now) }
 {
     match stand {
-        Stand::Rests(_) | Stand::Runs(_) => true,
-        Stand::Absent | Stand::Waits(_) | Stand::Ended => false,
+        Stand::Rests(_) | Stand::Runs(_) | Stand::Chosen(_) => true,
+        Stand::Absent | Stand::Waits(_) | Stand::Chooses(_) | Stand::Ended => false,
     }
 }
 
@@ -58,6 +59,7 @@ fn with_lent(context: &Context, lent: Option<Lent>) -> Context
 {
     Context {
         priority: context.priority,
+        choice: context.choice,
         wptr: context.wptr,
         iptr: context.iptr,
         a: context.a,
@@ -117,6 +119,7 @@ impl Node {
     /// # Errors
     /// `HasNoStep` where there ever was one of this name; `OutOfMemory`.
     fn joins(&mut self, process: Process) -> Result<(), Fault>
+        requires { process.ports.items ≡ [] }
         ensures { Does (joins (name_of self.old.words.number process) (stand_of process.stand)) nothing self.old
             result self.new }
     {
@@ -135,7 +138,8 @@ impl Node {
     /// # Errors
     /// `OutOfMemory`.
     fn joins_newly(&mut self, process: Process) -> Result<(), Fault>
-        requires { IsFound (name_of 0) (name_of 0 process) self.old.processes.items.items None }
+        requires new { IsFound (name_of 0) (name_of 0 process) self.old.processes.items.items None }
+        requires none { process.ports.items ≡ [] }
         ensures { Does (joins (name_of self.old.words.number process) (stand_of process.stand)) nothing self.old
             result self.new }
     {
@@ -174,6 +178,7 @@ impl Node {
     /// `AlreadyLive` where another one has it, `HasNoStep` where there ever was one of this name; `OutOfMemory`.
     pub fn comes(
         &mut self,
+        alloc: Global,
         root: Root,
         path: Vec<u32>,
         context: &Context,
@@ -192,6 +197,7 @@ impl Node {
             root,
             path,
             stand,
+            ports: Vec::new(alloc),
             place,
         })?;
         self.counts_process()?;
@@ -216,18 +222,19 @@ impl Node {
     {
         let path = self.processes.child_path(alloc, parent as usize, child)?;
         let root = self.processes.items[parent as usize].root;
-        self.comes(root, path, context, Start::Rests)
+        self.comes(alloc, root, path, context, Start::Rests)
     }
 
     /// A process ends.
     ///
     /// # Errors
-    /// `OutOfMemory`.
+    /// `WordInUse` where it has an alternative under way; `OutOfMemory`.
     pub fn ends(&mut self, process: u32, context: &Context) -> Result<(), Fault>
         requires { process < length self.old.processes.items.items }
         ensures { Does (spec.ends (node_site self.old) (name_at self.old process) (context_of context.now)) nothing
             self.old result self.new }
     {
+        no_choice(context.choice)?;
         self.adds_life(context.wptr, -1)?;
         self.stands(process, Stand::Ended);
         Ok(())

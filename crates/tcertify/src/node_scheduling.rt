@@ -59,7 +59,7 @@ fn priority_word(priority: Priority) -> Word
 
 /// Whether a channel is a link: those have the eight lowest words.
 #[inline(always)]
-fn is_link(channel: Word) -> bool
+pub(crate) fn is_link(channel: Word) -> bool
     ensures { result ≡ links.is_link channel }
 {
     MOST_NEG <= channel.get() && channel.get() < MOST_NEG + 32
@@ -295,8 +295,7 @@ impl Node {
     /// Does an operation of the scheduler.
     ///
     /// # Errors
-    /// Those of the operation; `HasAlternatives` where it belongs to alternatives, `NoSuchOperation` where it is none
-    /// of the scheduler.
+    /// Those of the operation; `NoSuchOperation` where it is none of the scheduler.
     pub(crate) fn schedules(
         &mut self,
         alloc: Global,
@@ -322,13 +321,13 @@ impl Node {
             Operation::Out => self.sends_or_receives(process, context, Side::Output),
             Operation::Outbyte => self.sends_from_workspace(process, context, 1),
             Operation::Outword => self.sends_from_workspace(process, context, 4),
-            Operation::Alt
-            | Operation::Enbc
-            | Operation::Enbs
-            | Operation::Altwt
-            | Operation::Disc
-            | Operation::Diss
-            | Operation::Altend => Err(Fault::Stops(Stop::HasAlternatives)),
+            Operation::Alt => self.begins_choice(process, context),
+            Operation::Enbc => self.enables_channel(process, context),
+            Operation::Enbs => self.enables_skip(process, context),
+            Operation::Altwt => self.awaits_choice(process, context),
+            Operation::Disc => self.disables_channel(process, context),
+            Operation::Diss => self.disables_skip(process, context),
+            Operation::Altend => self.ends_choice(process, context),
             _ => Err(Fault::Stops(Stop::Breaks(Break::NoSuchOperation))),
         }
     }

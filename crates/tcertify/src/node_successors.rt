@@ -94,6 +94,7 @@ impl Node {
         let context = Context::fresh(priority, workspace, iptr);
         let path = Vec::new(alloc);
         self.comes(
+            alloc,
             Root::After { workspace, earlier },
             path,
             &context,

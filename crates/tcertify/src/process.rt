@@ -20,6 +20,8 @@ pub struct Process {
     pub path: Vec<u32>,
     /// Where it stands.
     pub stand: Stand,
-    /// The number of the place of where it stands.
+    /// The channels that it has enabled, by their addresses, the newest one first.
+    pub ports: Vec<u32>,
+    /// The number of the places of where it stands and of its channels.
     pub place: u32,
 }

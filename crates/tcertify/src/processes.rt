@@ -3,9 +3,10 @@
 ghost use Rattle.std.specs.Prelude.{◌≡◌, ◌<◌, ◌++◌, ◌∷◌, [], IfOk, OnOk, OnErr, length, map, option_map, reverse};
 ghost use Rattle.std.specs.Prelude.{slice_get, slice_set};
 ghost use Rattle.std.specs.Prelude.{Some, None, true};
+ghost use Rattle.tprocesses.specs.Choosing.{with_port, without_port};
 ghost use Rattle.tprocesses.specs.Places.{same_path, same_root};
 ghost use Rattle.tcertify.specs.Finding.{IsFound};
-ghost use Rattle.tcertify.specs.Processes.{IsStoodIn, name_of, root_of};
+ghost use Rattle.tcertify.specs.Processes.{HasPortsIn, IsStoodIn, name_of, root_of};
 
 use crate::process::{Process, Root};
 use crate::process_table::Processes;
@@ -37,6 +38,27 @@ fn is_same_path(one: &[u32], other: &[u32]) -> bool
     ensures { result ≡ same_path one.now other.now }
 {
     one == other
+}
+
+/// A channel is put in front of the others, if it is not there.
+///
+/// # Errors
+/// Where the allocator refuses.
+fn add_port(ports: &mut Vec<u32>, channel: u32) -> Result<(), AllocError>
+    ensures { OnOk result (ports.new.items ≡ with_port channel ports.old.items) }
+{
+    if ports.as_slice().contains(&channel) {
+        return Ok(());
+    }
+    ports.insert(0, channel)?;
+    Ok(())
+}
+
+/// A channel is dropped from others.
+fn drop_port(ports: &mut Vec<u32>, channel: u32)
+    ensures { ports.new.items ≡ without_port channel ports.old.items }
+{
+    ports.retain(|port| *port != channel);
 }
 
 impl Process {
@@ -80,6 +102,31 @@ impl Processes {
     {
         let process = &mut self.items[number];
         process.stand = stand;
+        process.place
+    }
+
+    /// A process has enabled one more channel, by its address, if it had not. Answers the number of its place.
+    ///
+    /// # Errors
+    /// Where the allocator refuses.
+    pub fn enable(&mut self, number: usize, channel: u32) -> Result<u32, AllocError>
+        requires { number < length self.old.items.items }
+        ensures ok { IfOk result (λ place. HasPortsIn self.old.items.items number (with_port channel) place
+            self.new.items.items) }
+        ensures err { OnErr result (length self.new.items.items ≡ length self.old.items.items) }
+    {
+        let process = &mut self.items[number];
+        add_port(&mut process.ports, channel)?;
+        Ok(process.place)
+    }
+
+    /// A process has a channel enabled no more, by its address. Answers the number of its place.
+    pub fn disable(&mut self, number: usize, channel: u32) -> u32
+        requires { number < length self.old.items.items }
+        ensures { HasPortsIn self.old.items.items number (without_port channel) result self.new.items.items }
+    {
+        let process = &mut self.items[number];
+        drop_port(&mut process.ports, channel);
         process.place
     }
 

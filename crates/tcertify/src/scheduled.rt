@@ -2,12 +2,13 @@
 
 ghost use Rattle.std.specs.Prelude.{◌≡◌, ◌+◌, ◌^◌, IfSome, None};
 ghost use Rattle.tprocesses.specs.Standing as standing;
+ghost use Rattle.tprocesses.specs.Choosing as choosing;
 ghost use Rattle.tprocesses.specs.Scheduling as scheduling;
 ghost use Rattle.tword.specs.Words.{plus};
 ghost use Rattle.tcertify.specs.Contexts.{context_of};
 ghost use Rattle.tcertify.specs.Words.{number_of};
 
-use crate::context::Context;
+use crate::context::{Choice, Context};
 use crate::priority::Priority;
 use tcode::Instruction;
 use tword::Word;
@@ -19,6 +20,7 @@ impl Context {
     {
         Context {
             priority,
+            choice: None,
             wptr: workspace,
             iptr,
             a: Some(Word::new(0)),
@@ -38,6 +40,7 @@ impl Context {
         let iptr = self.iptr.plus(Word::new(u32::from(instruction.length)));
         Context {
             priority: self.priority,
+            choice: self.choice,
             wptr: self.wptr,
             iptr,
             a: self.a,
@@ -55,6 +58,7 @@ impl Context {
     {
         Context {
             priority: self.priority,
+            choice: self.choice,
             wptr: self.wptr,
             iptr: self.iptr,
             a: value,
@@ -72,6 +76,7 @@ impl Context {
     {
         Context {
             priority: self.priority,
+            choice: self.choice,
             wptr: self.wptr,
             iptr: self.iptr,
             a: self.b,
@@ -91,6 +96,7 @@ impl Context {
         let children = self.children.checked_add(1)?;
         Some(Context {
             priority: self.priority,
+            choice: self.choice,
             wptr: self.wptr,
             iptr: self.iptr,
             a: self.a,
@@ -108,6 +114,7 @@ impl Context {
     {
         Context {
             priority: self.priority,
+            choice: self.choice,
             wptr: self.wptr,
             iptr: self.iptr,
             a: self.a,
@@ -116,5 +123,48 @@ impl Context {
             children: self.children,
             lent: None,
         }
+    }
+
+    /// The context with an alternative that is under way. skips: whether it need not wait.
+    #[cold]
+    pub(crate) fn with_choice(&self, skips: bool) -> Context
+        ensures { context_of result ≡ choosing.with_choice skips (context_of self.now) }
+    {
+        let mut left = *self;
+        left.choice = Some(Choice { skips });
+        left
+    }
+
+    /// The context where the channel below a guard is dropped.
+    #[cold]
+    pub(crate) fn drop_channel(&self) -> Context
+        ensures { context_of result ≡ choosing.drop_channel (context_of self.now) }
+    {
+        let mut left = *self;
+        left.b = self.c;
+        left
+    }
+
+    /// The context where two registers are dropped, and whether a guard is chosen is left.
+    #[cold]
+    pub(crate) fn answers(&self, chosen: bool) -> Context
+        ensures { context_of result ≡ choosing.answers chosen (context_of self.now) }
+    {
+        let mut left = *self;
+        left.a = Some(Word::new(u32::from(chosen)));
+        left.b = self.c;
+        left
+    }
+
+    /// The context at an offset, with no alternative under way.
+    #[cold]
+    pub(crate) fn without_choice(&self, offset: Word) -> Context
+        ensures { context_of result
+            ≡ record (context_of self.now) { iptr = plus self.now.iptr offset; choice = None } }
+    {
+        let mut left = *self;
+        left.iptr = self.iptr.plus(offset);
+        left.choice = None;
+        left
     }
 }

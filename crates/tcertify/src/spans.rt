@@ -75,6 +75,8 @@ fn is_same(used: WordUse, other: WordUse) -> bool
         | (WordUse::Saved, WordUse::Saved)
         | (WordUse::Receiving, WordUse::Receiving)
         | (WordUse::Engaged, WordUse::Engaged)
+        | (WordUse::Choosing, WordUse::Choosing)
+        | (WordUse::Awaiting, WordUse::Awaiting)
         | (WordUse::Spoilt, WordUse::Spoilt)
         | (WordUse::Last(Priority::High), WordUse::Last(Priority::High))
         | (WordUse::Last(Priority::Low), WordUse::Last(Priority::Low)) => true,

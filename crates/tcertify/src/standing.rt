@@ -13,5 +13,9 @@ pub enum Stand {
     Runs(Context),
     /// It waits for a message to pass.
     Waits(Context),
+    /// It waits for one of the channels that it has enabled.
+    Chooses(Context),
+    /// It is ready, since one of them was.
+    Chosen(Context),
     Ended,
 }

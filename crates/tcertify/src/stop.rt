@@ -14,9 +14,11 @@ pub enum Stop {
     Halts,
     /// A register or a byte decides that the scheduler may have changed.
     SawTheScheduler,
-    /// The instruction belongs to alternatives, which this machine does not have.
+    /// An alternative over a link, which this machine does not have.
     HasAlternatives,
-    /// A word is touched that is in use as a channel or as a count.
+    /// The scheduler decides which of several channels an alternative chooses.
+    SeveralReady,
+    /// A word is touched that is in use as a channel, as a count or for an alternative.
     WordInUse,
     /// A sink has no room for the message.
     FullSink,

@@ -13,6 +13,10 @@ pub enum WordUse {
     Receiving,
     /// It is an internal channel on which a process waits.
     Engaged,
+    /// It is the state of an alternative that is under way.
+    Choosing,
+    /// It is the state of an alternative whose process waits, or was made to go on.
+    Awaiting,
     /// It is the count of processes that end together: the last of them has ended, with this priority.
     Last(Priority),
     /// It has two uses that exclude each other: whoever looks at it stops.

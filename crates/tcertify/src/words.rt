@@ -7,14 +7,14 @@ ghost use Rattle.tword.specs.Stores.{Store};
 ghost use Rattle.tword.specs.Actions.{or_break};
 ghost use Rattle.tword.specs.Touches.{Reads, Writes, byte_span, place_break, word_place_break};
 ghost use Rattle.tword.specs.Words.{most_neg, word_below};
-ghost use Rattle.tprocesses.specs.Standing.{unsave, unsave_word};
+ghost use Rattle.tprocesses.specs.Standing.{unsave, unsave_upper, unsave_word};
 ghost use Rattle.tprocesses.specs.Values.{Saved};
 ghost use Rattle.tprocesses.specs.Places.{WordAt};
 ghost use Rattle.tprocesses.specs.Values.{IsWord};
 ghost use Rattle.tprocesses.specs.Changes.{Decrement, Engage, Put, decremented, engaged, used_word};
 ghost use Rattle.tprocesses.specs.Parts.{change};
-ghost use Rattle.tprocesses.specs.Touching.{forgotten, free_cells, kept, same_use, save, save_word, write};
-ghost use Rattle.tprocesses.specs.Touching.{touch_word, touch_word_at, word_number, word_place, write_word_at};
+ghost use Rattle.tprocesses.specs.Touching.{forgotten, free_cells, kept, same_use, save, save_upper, save_word};
+ghost use Rattle.tprocesses.specs.Touching.{touch_word, touch_word_at, word_number, word_place, write, write_word_at};
 ghost use Rattle.tprocesses.specs.Performing.{bytes_if};
 ghost use Rattle.tcertify.specs.Cells.{cells_of};
 ghost use Rattle.tcertify.specs.Instructions.{touch_byte};
@@ -299,6 +299,18 @@ impl Words {
         ensures site { site_of self.new ≡ site_of self.old }
     {
         self.save_word(workspace.below(3), keeps)?;
+        self.save_upper(workspace)
+    }
+
+    /// The upper two words below a workspace become saved words.
+    ///
+    /// # Errors
+    /// Those of `take_word` of the first of them, from the lower up, that may not be written.
+    #[inline(always)]
+    pub fn save_upper(&mut self, workspace: Word) -> Result<(), Stop>
+        ensures change { Runs (save_upper (site_of self.old) workspace) self.old (told (λ _. tt) result) self.new }
+        ensures site { site_of self.new ≡ site_of self.old }
+    {
         self.save_word(workspace.below(2), false)?;
         self.save_word(workspace.below(1), false)
     }
@@ -354,6 +366,20 @@ impl Words {
         ensures site { site_of self.new ≡ site_of self.old }
     {
         self.unsave_word(workspace.below(3))?;
+        self.unsave_upper(workspace)
+    }
+
+    /// The upper two words below a workspace are for programs again.
+    ///
+    /// # Errors
+    /// `WordInUse` where one of them is no saved word.
+    #[inline(always)]
+    pub fn unsave_upper(&mut self, workspace: Word) -> Result<(), Stop>
+        requires lower { word_number (word_below workspace 2) < length self.old.items.items }
+        requires upper { word_number (word_below workspace 1) < length self.old.items.items }
+        ensures change { Runs (unsave_upper (site_of self.old) workspace) self.old (told (λ _. tt) result) self.new }
+        ensures site { site_of self.new ≡ site_of self.old }
+    {
         self.unsave_word(workspace.below(2))?;
         self.unsave_word(workspace.below(1))
     }
@@ -403,7 +429,11 @@ fn free_for_programs(used: WordUse) -> Result<(), Stop>
         WordUse::Free => Ok(()),
         WordUse::Saved => Err(Stop::Breaks(Break::SavedWord)),
         WordUse::Receiving => Err(Stop::Breaks(Break::InTransit)),
-        WordUse::Engaged | WordUse::Last(_) | WordUse::Spoilt => Err(Stop::WordInUse),
+        WordUse::Engaged
+        | WordUse::Choosing
+        | WordUse::Awaiting
+        | WordUse::Last(_)
+        | WordUse::Spoilt => Err(Stop::WordInUse),
     }
 }
 
@@ -417,6 +447,8 @@ fn is_saved(used: WordUse) -> bool
         WordUse::Free
         | WordUse::Receiving
         | WordUse::Engaged
+        | WordUse::Choosing
+        | WordUse::Awaiting
         | WordUse::Last(_)
         | WordUse::Spoilt => false,
     }
@@ -438,9 +470,12 @@ fn taken(used: WordUse, cells: &Cells) -> WordUse
             }
         }
         WordUse::Engaged => WordUse::Engaged,
-        WordUse::Saved | WordUse::Receiving | WordUse::Last(_) | WordUse::Spoilt => {
-            WordUse::Spoilt
-        }
+        WordUse::Saved
+        | WordUse::Receiving
+        | WordUse::Choosing
+        | WordUse::Awaiting
+        | WordUse::Last(_)
+        | WordUse::Spoilt => WordUse::Spoilt,
     }
 }
 
@@ -464,6 +499,8 @@ fn counted_down(used: WordUse, cells: &Cells, priority: Priority) -> (Cells, Wor
         WordUse::Saved
         | WordUse::Receiving
         | WordUse::Engaged
+        | WordUse::Choosing
+        | WordUse::Awaiting
         | WordUse::Last(_)
         | WordUse::Spoilt => (Cells::unknown(), WordUse::Spoilt),
     }

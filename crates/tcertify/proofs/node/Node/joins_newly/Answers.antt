@@ -57,8 +57,9 @@ returns c =
       channels = kept_all channel_key a.channels.items.items;
       lives = kept_all life_key a.lives.items.items;
     }) (told_stays _ b (lead.Process j) told))
-    (λ rest. ap (λ (m : Node). node_at m rest) told.same ∙ joined_state a p c.requires qs pushed rest)
-    (λ rest. absent_seen a p c.requires rest)
+    (λ rest. ap (λ (m : Node). node_at m rest) told.same ∙ joined_state a p c.requires.new c.requires.none qs pushed
+    rest)
+    (λ rest. absent_seen a p c.requires.new c.requires.none rest)
     (keeps_on a.words.notes _ b.words.notes c.add.ensures.keeps told.keeps)
     (tells_still _ b (lead.Process j) p.place Puts told c.add.ensures.tells)
     (λ numbering h. (numbers_before _ b (told_stays _ b (lead.Process j) told) numbering h).stand (length ps) p there)

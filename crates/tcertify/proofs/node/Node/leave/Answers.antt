@@ -21,4 +21,4 @@ pub returns : goal.returns
 returns c =
     leaves_so c.args.self.now c.wakes.new.self c.args.channel c.args.input c.args.output c.in_ok-wakes.ensures
     c.requires.output c.wakes-2.new.self c.set_half.new.self _ c.requires.there c.in_ok-wakes-2.ensures
-    c.set_half.ensures c.set_half-2.ensures
+    c.set_half.ensures.sets c.set_half-2.ensures.sets

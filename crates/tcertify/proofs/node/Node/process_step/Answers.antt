@@ -19,6 +19,11 @@ returns-in-Runs-clause-done c =
     steps c.args.self.now c.stand.new.self c.args.process (stand_of c.stand.result) c.stand.ensures c.requires.there
     (value.Runs (context_of c.in-Runs.context)) _ _ (ap stand_of c.in-Runs.is) c.runs.ensures.done
 
+pub returns-in-Chosen-clause-done : goal.returns-in-Chosen-clause-done
+returns-in-Chosen-clause-done c =
+    steps c.args.self.now c.stand.new.self c.args.process (stand_of c.stand.result) c.stand.ensures c.requires.there
+    (value.Chosen (context_of c.in-Chosen.context)) _ _ (ap stand_of c.in-Chosen.is) c.goes_on_chosen.ensures
+
 pub returns-in-Absent : goal.returns-in-Absent
 returns-in-Absent c =
     let a = c.args.self.now in let b = c.stand.new.self in
@@ -30,8 +35,13 @@ returns-in-Absent c =
           | inl e ↦ steps a b c.args.process (stand_of c.stand.result) c.stand.ensures c.requires.there
               (value.Waits (context_of e.0)) b (Err (Stops stop.HasNoStep)) (ap stand_of e.1)
               (runs_at_stopped HasNoStep b)
-          | inr e ↦ steps a b c.args.process (stand_of c.stand.result) c.stand.ensures c.requires.there value.Ended b
-              (Err (Stops stop.HasNoStep)) (ap stand_of e) (runs_at_stopped HasNoStep b)
+          | inr rest ↦ elim rest [
+            | inl e ↦ steps a b c.args.process (stand_of c.stand.result) c.stand.ensures c.requires.there
+                (value.Chooses (context_of e.0)) b (Err (Stops stop.HasNoStep)) (ap stand_of e.1)
+                (runs_at_stopped HasNoStep b)
+            | inr e ↦ steps a b c.args.process (stand_of c.stand.result) c.stand.ensures c.requires.there value.Ended b
+                (Err (Stops stop.HasNoStep)) (ap stand_of e) (runs_at_stopped HasNoStep b)
+          ]
         ]
       ];
       idle = refl;

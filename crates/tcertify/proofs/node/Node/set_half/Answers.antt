@@ -4,7 +4,7 @@ use Rattle.tprocesses.specs.Places as place
 use Rattle.tprocesses.specs.Values.{IsHalf}
 use Rattle.tcertify.specs.declared.channel.Channel.{Channel}
 use Rattle.tcertify.specs.declared.notes.Mode.TheVariants.{Puts}
-use Rattle.tcertify.specs.Channels.{request_of, with_request}
+use Rattle.tcertify.specs.Channels.{holder_of, with_holder}
 use Rattle.tcertify.specs.Nodes.{address_at, names, node_at}
 use Rattle.tcertify.specs.Running.{changed}
 use Rattle.tcertify.specs.Sides.{side_of}
@@ -25,16 +25,16 @@ invariant_of-self c =
         (
           known_set (length a.processes.items.items) a.channels.items.items c.set_half-place.new.self.items.items
               a.links
-              c.args.channel e.channel c.args.side c.args.request a.known e.there e.set c.requires.known,
+              c.args.channel e.channel c.args.side c.args.holder a.known e.there e.set c.requires.known,
           tt,
         ),
       ),
     )
 
-pub returns : goal.returns
-returns c =
+pub returns-clause-sets : goal.returns-clause-sets
+returns-clause-sets c =
     let a = c.args.self.now in let e = c.set_half-place.ensures in let k = c.args.channel in
-    let side = c.args.side in let r = c.args.request in let d = e.channel in
+    let side = c.args.side in let r = c.args.holder in let d = e.channel in
     let cs = a.channels.items.items in let ds = c.set_half-place.new.self.items.items in
     let now = channel_now a ds k d side r e.there e.set c.set_half-place.new.self.apart in
     changes_at a _ (place.Half a.words.number (address_at a k) (side_of side)) c.set_half-place.result Puts
@@ -44,14 +44,14 @@ returns c =
       fixed = refl;
       processes = kept_all process_key a.processes.items.items;
       channels = subst (λ (es : List Channel). IsKept channel_key cs es) (sym e.set)
-          (kept_set channel_key cs k d (with_request side r d) e.there (same_places side r d));
+          (kept_set channel_key cs k d (with_holder side r d) e.there (same_places side r d));
       lives = kept_all life_key a.lives.items.items;
     })
     c.add.ensures.keeps c.add.ensures.tells
     (λ numbering n. ap (λ (w : ℕ). numbering (place.Half a.words.number w (side_of side)))
     (address_is a k d e.there ∙ sym (same_address side r d))
-    ∙ half_number_in _ k (with_request side r d) side now numbering n ∙ same_half_place side side r d ∙ e.place)
-    (Put (IsHalf (request_of (names a) r))) refl
+    ∙ half_number_in _ k (with_holder side r d) side now numbering n ∙ same_half_place side side r d ∙ e.place)
+    (Put (IsHalf (holder_of (names a) r))) refl
     (λ rest. half_state a ds k d side r e.there e.set c.set_half-place.new.self.apart rest
-    ∙ ap (λ (w : ℕ). changed (place.Half a.words.number w (side_of side)) (Put (IsHalf (request_of (names a) r)))
+    ∙ ap (λ (w : ℕ). changed (place.Half a.words.number w (side_of side)) (Put (IsHalf (holder_of (names a) r)))
     (node_at a rest)) (sym (address_is a k d e.there))) refl

@@ -1,4 +1,4 @@
-use Rattle.std.proofs.Common.{◌∙◌, ℕ, sym, Ok, Err}
+use Rattle.std.proofs.Common.{ℕ, sym, Ok, Err}
 use Rattle.std.proofs.lemmas.Result.{err_from_is_err_and}
 use Rattle.tprocesses.specs.ChannelMessages.{takes_half}
 use Rattle.tcertify.specs.declared.fault.Fault.TheVariants as fault
@@ -22,13 +22,13 @@ returns-in_err-number c =
     c.args.self.now
     c.channel_at.new.self c.in_err-number.field-0.0 c.in_err-number.ensures.done)
 
-pub returns-then-is_some : goal.returns-then-is_some
-returns-then-is_some c =
+pub returns-in_default : goal.returns-in_default
+returns-in_default c =
     let b = c.channel_at.new.self in
     takes_taken c.args.self.now c.args.process (context_of c.args.context.now) (side_of c.args.side) c.args.channel
     c.args.buffer _ _ (sym c.in-Ok.ensures.checks) c.requires b c.in_ok-number.ensures.done c.in_ok-number.number
     c.in_ok-number.ensures.there.1 _ c.half.new.self c.half.ensures.looks
-    (asks_some (names b) c.half.result (sym c.is_some.ensures ∙ c.if-is_some.true))
+    (asks_some (names b) c.half.result c.in_default.not-Nobody)
 
 pub returns-in_err-marks_channel : goal.returns-in_err-marks_channel
 returns-in_err-marks_channel c =
@@ -40,8 +40,8 @@ returns-in_err-marks_channel c =
     c.args.buffer _ _ (sym c.in-Ok.ensures.checks) c.requires b c.in_ok-number.ensures.done c.in_ok-number.number
     c.in_ok-number.ensures.there.1 _ c.half.new.self c.half.ensures.looks c.set_half.new.self c.marks_channel.new.self
     (Err (fault.Stops c.in_err-marks_channel.field-0.0))
-    (asks_none (names b) c.half.result (sym c.is_some.ensures ∙ c.if-is_some.false)) c.in_ok-number.ensures.there.0
-    c.set_half.ensures c.in_err-marks_channel.ensures)
+    (asks_none (names b) c.half.result c.in-Nobody.is) c.in_ok-number.ensures.there.0
+    c.set_half.ensures.sets c.in_err-marks_channel.ensures)
 
 pub returns : goal.returns
 returns c =
@@ -50,5 +50,5 @@ returns c =
     c.args.buffer _ _ (sym c.in-Ok.ensures.checks) c.requires b c.in_ok-number.ensures.done c.in_ok-number.number
     c.in_ok-number.ensures.there.1 _ c.half.new.self c.half.ensures.looks c.set_half.new.self c.marks_channel.new.self
     (Ok tt)
-    (asks_none (names b) c.half.result (sym c.is_some.ensures ∙ c.if-is_some.false)) c.in_ok-number.ensures.there.0
-    c.set_half.ensures c.in_ok-marks_channel.ensures
+    (asks_none (names b) c.half.result c.in-Nobody.is) c.in_ok-number.ensures.there.0
+    c.set_half.ensures.sets c.in_ok-marks_channel.ensures

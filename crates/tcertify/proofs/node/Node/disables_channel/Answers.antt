@@ -1,0 +1,74 @@
+use Rattle.std.proofs.Common.{◌<◌, ℕ, sym, ◌∙◌, length, false, Err}
+use Rattle.std.specs.Prelude.{◌==◌, if◌then◌else◌}
+use Rattle.std.proofs.lemmas.Result.{err_from_is_err_and}
+use Rattle.tprocesses.specs.Choosing as spec
+use Rattle.tprocesses.specs.Parts.{Doing, ◌>>=◌}
+use Rattle.tprocesses.specs.Places.{Name}
+use Rattle.tprocesses.specs.Standing.{known}
+use Rattle.tprocesses.specs.Touching.{Site}
+use Rattle.tprocesses.specs.Values.{Choice, Context}
+use Rattle.tcertify.specs.Contexts.{choice_of, context_of}
+use Rattle.tcertify.specs.Nodes.{name_at, node_site, nothing}
+use Rattle.tcertify.specs.Words.{reason_of}
+use Rattle.tcertify.proofs.Choices.{does_first, does_second}
+use Rattle.tcertify.proofs.Following.{does_then, runs_then}
+use Rattle.tcertify.proofs.NodeRunning.{runs_at_stop}
+use Rattle.tcertify.proofs.node.Node.disables_channel.Goals as goal
+
+-- what follows each part
+abbrev disables : Context → Choice → Site → Name → ℕ → Doing
+disables ctx choice s x guard =
+    if guard == 0 then spec.selects s x ctx false else spec.disables_port s x ctx choice
+
+abbrev asks : Context → Site → Name → Choice → Doing
+asks ctx s x choice = known ctx.b >>= disables ctx choice s x
+
+pub returns-in_err-choice : goal.returns-in_err-choice
+returns-in_err-choice c =
+    let a = c.args.self.now in let k = c.args.process in
+    let ctx = context_of c.args.context.now in
+    let in_a : k < length a.processes.items.items = c.requires in
+    let p = err_from_is_err_and c.from_residual.result c.from_residual.ensures.1 in
+    rw (p.1, p.2)
+    (runs_at_stop (spec.choice_of ctx.choice) ((asks ctx) (node_site a) (name_at a k)) a a
+    (reason_of c.in_err-choice.field-0.0) (c.in_err-choice.ensures a))
+
+pub returns-in_err-guard : goal.returns-in_err-guard
+returns-in_err-guard c =
+    let a = c.args.self.now in let k = c.args.process in
+    let ctx = context_of c.args.context.now in
+    let in_a : k < length a.processes.items.items = c.requires in
+    let p = err_from_is_err_and c.from_residual-in_err-guard.result c.from_residual-in_err-guard.ensures.1 in
+    rw (p.1, p.2)
+    (runs_then a a a k (spec.choice_of ctx.choice) (asks ctx) (choice_of c.in_ok-choice.choice)
+    (c.in_ok-choice.ensures a) in_a (Err (reason_of c.in_err-guard.field-0.0))
+    (runs_at_stop (known ctx.b) ((disables ctx (choice_of c.in_ok-choice.choice)) (node_site a) (name_at a k)) a a
+    (reason_of c.in_err-guard.field-0.0) (c.in_err-guard.ensures a)))
+
+pub returns-then-is_clear : goal.returns-then-is_clear
+returns-then-is_clear c =
+    let a = c.args.self.now in let k = c.args.process in
+    let ctx = context_of c.args.context.now in
+    let in_a : k < length a.processes.items.items = c.requires in
+    let b = c.selects.new.self in
+    (does_then a a b k (spec.choice_of ctx.choice) (asks ctx) (choice_of c.in_ok-choice.choice)
+    (c.in_ok-choice.ensures a) in_a nothing (c.selects.result)
+    (does_then a a b k (known ctx.b) (disables ctx (choice_of c.in_ok-choice.choice)) (c.in_ok-guard.guard)
+    (c.in_ok-guard.ensures a) in_a nothing (c.selects.result)
+    (does_first (spec.selects (node_site a) (name_at a k) ctx false)
+    (spec.disables_port (node_site a) (name_at a k) ctx (choice_of c.in_ok-choice.choice)) (c.in_ok-guard.guard == 0) a
+    b c.selects.result (sym c.is_clear.ensures ∙ c.if-is_clear.true) c.selects.ensures)))
+
+pub returns : goal.returns
+returns c =
+    let a = c.args.self.now in let k = c.args.process in
+    let ctx = context_of c.args.context.now in
+    let in_a : k < length a.processes.items.items = c.requires in
+    let b = c.disables_port.new.self in
+    (does_then a a b k (spec.choice_of ctx.choice) (asks ctx) (choice_of c.in_ok-choice.choice)
+    (c.in_ok-choice.ensures a) in_a nothing (c.disables_port.result)
+    (does_then a a b k (known ctx.b) (disables ctx (choice_of c.in_ok-choice.choice)) (c.in_ok-guard.guard)
+    (c.in_ok-guard.ensures a) in_a nothing (c.disables_port.result)
+    (does_second (spec.selects (node_site a) (name_at a k) ctx false)
+    (spec.disables_port (node_site a) (name_at a k) ctx (choice_of c.in_ok-choice.choice)) (c.in_ok-guard.guard == 0) a
+    b c.disables_port.result (sym c.is_clear.ensures ∙ c.if-is_clear.false) c.disables_port.ensures)))

@@ -1,0 +1,6 @@
+use Rattle.std.proofs.Common.{rules}
+use Rattle.tcertify.proofs.NodeWords.{on_words}
+use Rattle.tcertify.proofs.node.Node.takes_word.Goals as goal
+
+pub returns : goal.returns
+returns c = on_words _ _ _ _ (search rules) c.take_word.ensures.site c.take_word.ensures.change

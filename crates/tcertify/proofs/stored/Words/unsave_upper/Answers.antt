@@ -1,0 +1,16 @@
+use Rattle.std.proofs.lemmas.Result.{err_from_is_err_and}
+use Rattle.tcertify.specs.Words.{reason_of}
+use Rattle.tcertify.proofs.Unsaving.{unsaves_both, unsaves_none}
+use Rattle.tcertify.proofs.stored.Words.unsave_upper.Goals as goal
+
+pub returns-in_err-unsave_word-clause-change : goal.returns-in_err-unsave_word-clause-change
+returns-in_err-unsave_word-clause-change c =
+    let p = err_from_is_err_and c.from_residual.result c.from_residual.ensures.1 in
+    rw (p.1, p.2)
+    (unsaves_none c.args.self.now _ c.args.workspace (reason_of c.in_err-unsave_word.field-0.0)
+    (rw c.below.ensures at c.in_err-unsave_word.ensures.change))
+
+pub returns-clause-change : goal.returns-clause-change
+returns-clause-change c =
+    unsaves_both c.args.self.now _ c.args.workspace _ _ (rw c.below.ensures at c.in_ok-unsave_word.ensures.change)
+    c.in_ok-unsave_word.ensures.site (rw c.below-2.ensures at c.unsave_word-2.ensures.change)
