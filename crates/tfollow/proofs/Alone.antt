@@ -1,7 +1,7 @@
 -- A step in which a count falls changes that word in no other way.
 use Rattle.std.proofs.Common.{◌≡◌, ℕ, suc, zero, ℤ, inl, inr, ◌⊎◌, refl, sym, ap, ◌∙◌, subst, Bool, true, false, cond}
 use Rattle.std.proofs.Common.{List, [], ◌∷◌, Option, Some, None, true≢false, map, slice_get}
-use Rattle.std.specs.Prelude.{filter, IfSome, if◌then◌else◌, ◌||◌, not, unwrap_or, pos, negsuc, ◌==◌}
+use Rattle.std.specs.Prelude.{filter, is_none, IfSome, if◌then◌else◌, ◌||◌, not, unwrap_or, pos, negsuc, ◌==◌}
 use Rattle.tword.specs.declared.kind.Kind.{Kind}
 use Rattle.tword.specs.declared.breaks.Break.TheVariants.{NoSuchOperation}
 use Rattle.tword.specs.Stores.{Store, shown}
@@ -31,10 +31,11 @@ use Rattle.tplan.specs.declared.plan.NodePlan.{NodePlan}
 use Rattle.tplan.specs.declared.plan.Plan.{Plan}
 use Rattle.tagents.specs.Tidy.{IsOneOf}
 use Rattle.tprocesses.specs.Places.{Place, Name, WordAt, Standing, Life, Error, HaltOnError, FlagChanged, same_place}
-use Rattle.tprocesses.specs.Values.{Context, Stand, Absent, Rests, Runs, Waits, Ended, Value, IsStand, IsFlag, stand_in}
+use Rattle.tprocesses.specs.Values.{Context, Stand, Absent, Rests, Runs, Waits, Chooses, Chosen, Ended, Value}
+use Rattle.tprocesses.specs.Values.{IsStand, IsFlag, stand_in}
 use Rattle.tprocesses.specs.Changes.{Change, Put, Engage, Decrement, Add, Raise, are_known}
 use Rattle.tprocesses.specs.Parts.{Part, gives, stopping, seeing, changing, telling, Changed, change, Breaks}
-use Rattle.tprocesses.specs.Parts.{HasAlternatives, HasNoStep, SawTheScheduler, ◌>>=◌}
+use Rattle.tprocesses.specs.Parts.{HasNoStep, SawTheScheduler, WordInUse, ◌>>=◌}
 use Rattle.tprocesses.specs.Touching.{Site, word_number, word_place, part_of}
 use Rattle.tprocesses.specs.Performing.{Performed, noted, perform}
 use Rattle.tprocesses.specs.Uses.{Uses, uses_of, has_needed, known_writes}
@@ -61,6 +62,8 @@ use Rattle.tfollow.proofs.Even.{perform_even, goes_on_even, resumes_even, channe
 use Rattle.tfollow.proofs.Even.{source_sends_even, node_receives_even, sink_receives_even, starts_child_even}
 use Rattle.tfollow.proofs.Even.{runs_child_even, stops_itself_even, stops_by_error_even, sends_or_receives_even}
 use Rattle.tfollow.proofs.Even.{sends_from_workspace_even, successor_step_even, jumped_even, sets_error_even}
+use Rattle.tfollow.proofs.Even.{begins_choice_even, enables_channel_even, enables_skip_even, awaits_choice_even}
+use Rattle.tfollow.proofs.Even.{goes_on_chosen_even, disables_channel_even, disables_skip_even, ends_choice_even}
 
 -- a change counts nothing down
 abbrev CountsNothing : Change → Type 0
@@ -287,8 +290,9 @@ moves_aside s old new =
 
 ends_aside : (s : Site) (x : Name) (c : Context) → Each Aside Any (ends s x c)
 ends_aside s x c =
-    andthen Aside (changes Aside (Life s.number c.wptr) (Add (negsuc 0)) (refl, tt))
-    (λ y. changes Aside (Standing x) (Put (IsStand Ended)) (refl, tt))
+    andthen Aside (requires Aside (is_none c.choice) WordInUse)
+    (λ y. andthen Aside (changes Aside (Life s.number c.wptr) (Add (negsuc 0)) (refl, tt))
+    (λ z. changes Aside (Standing x) (Put (IsStand Ended)) (refl, tt)))
 
 -- the one count that falls
 count_falls : (s : Site) (q : ℕ) (p : ℕ) (x : Name) (c : Context)
@@ -332,13 +336,13 @@ schedules_alone op.Outbyte s x c =
     even (sends_from_workspace_even Even some_put some_engage some_add some_raise 1 s x c)
 schedules_alone op.Outword s x c =
     even (sends_from_workspace_even Even some_put some_engage some_add some_raise 4 s x c)
-schedules_alone op.Alt s x c = even (stops Even HasAlternatives)
-schedules_alone op.Enbc s x c = even (stops Even HasAlternatives)
-schedules_alone op.Enbs s x c = even (stops Even HasAlternatives)
-schedules_alone op.Altwt s x c = even (stops Even HasAlternatives)
-schedules_alone op.Disc s x c = even (stops Even HasAlternatives)
-schedules_alone op.Diss s x c = even (stops Even HasAlternatives)
-schedules_alone op.Altend s x c = even (stops Even HasAlternatives)
+schedules_alone op.Alt s x c = even (begins_choice_even Even some_put some_engage some_add some_raise s x c)
+schedules_alone op.Enbc s x c = even (enables_channel_even Even some_put some_engage some_add some_raise s x c)
+schedules_alone op.Enbs s x c = even (enables_skip_even Even some_put some_engage some_add some_raise s x c)
+schedules_alone op.Altwt s x c = even (awaits_choice_even Even some_put some_engage some_add some_raise s x c)
+schedules_alone op.Disc s x c = even (disables_channel_even Even some_put some_engage some_add some_raise s x c)
+schedules_alone op.Diss s x c = even (disables_skip_even Even some_put some_engage some_add some_raise s x c)
+schedules_alone op.Altend s x c = even (ends_choice_even Even some_put some_engage some_add some_raise s x c)
 schedules_alone _ s x c = even (stops Even (Breaks NoSuchOperation))
 
 -- one instruction
@@ -355,17 +359,19 @@ completed_even : (s : Site) (x : Name) (c : Context) (i : Instruction) (f : Flag
 completed_even s x c i f u d h =
     andthen Even (requires Even (d.known || not u.reads_known) SawTheScheduler)
     (λ y. andthen Even (light (flags_after_aside s (has_flags s.kind i) f d.value.0))
-    (λ z. andthen Even (light (moves_aside s c.wptr d.value.0.wptr))
+    (λ z. andthen Even (requires Even (is_none c.choice || (c.wptr == d.value.0.wptr)) WordInUse)
+    (λ v. andthen Even (light (moves_aside s c.wptr d.value.0.wptr))
     (λ w. followed_even d.value.1 s x (record c { iptr = plus c.iptr i.length })
-    (context_after c u d.known d.value.0) h)))
+    (context_after c u d.known d.value.0) h))))
 
 completed_alone : (s : Site) (x : Name) (c : Context) (i : Instruction) (f : Flags) (u : Uses) (r : Registers)
     (o : Operation) → Alone (completed s x c i f u (record { value = (r, Schedule o); known = true }))
 completed_alone s x c i f u r o =
     aside (requires Aside true SawTheScheduler)
     (λ y. aside (flags_after_aside s (has_flags s.kind i) f r)
-    (λ z. aside (moves_aside s c.wptr r.wptr)
-    (λ w. schedules_alone o s x (record c { iptr = plus c.iptr i.length }))))
+    (λ z. aside (requires Aside (is_none c.choice || (c.wptr == r.wptr)) WordInUse)
+    (λ v. aside (moves_aside s c.wptr r.wptr)
+    (λ w. schedules_alone o s x (record c { iptr = plus c.iptr i.length })))))
 
 -- an effect, and what follows it
 done_alone : (s : Site) (x : Name) (c : Context) (i : Instruction) (f : Flags) (u : Uses) (r : Registers)
@@ -395,7 +401,9 @@ process_step_alone : (x : Name) (stand : Stand) (s : Site) → Alone (process_st
 process_step_alone x (Rests c) s = even (resumes_even Even some_put some_engage some_add some_raise s x c)
 process_step_alone x (Runs c) s = runs_alone s x c
 process_step_alone x Absent s = even (stops Even HasNoStep)
+process_step_alone x (Chosen c) s = even (goes_on_chosen_even Even some_put some_engage some_add some_raise s x c)
 process_step_alone x (Waits c) s = even (stops Even HasNoStep)
+process_step_alone x (Chooses c) s = even (stops Even HasNoStep)
 process_step_alone x Ended s = even (stops Even HasNoStep)
 
 at_site_alone : {A : Type 0} (plan : Plan) (n : ℕ) (step : Site → Part A)

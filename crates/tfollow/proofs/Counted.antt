@@ -34,6 +34,6 @@ module _ (plan : Plan) (a b : Agent) (s : State) (h : CountsDown plan a s b) whe
       counted
 
 pub runs_tell_leads : RunsTellLeads
-runs_tell_leads plan a b s u run other (inl seen) =
-    or_left _ _ (seen_shut plan a b s u run other seen)
-runs_tell_leads plan a b s u run other (inr counted) = or_right _ _ (counted_down plan a b s counted)
+runs_tell_leads plan a b s u opened run other (inl seen) =
+    or_left _ _ (seen_shut plan a b s u opened run other seen)
+runs_tell_leads plan a b s u opened run other (inr counted) = or_right _ _ (counted_down plan a b s counted)

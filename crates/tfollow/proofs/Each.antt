@@ -1,18 +1,24 @@
 -- What holds of each change of a part, whatever the part sees; and parts that only look.
-use Rattle.std.proofs.Common.{ℕ, zero, suc, Bool, true, false, [], ◌++◌, Option, Some, None}
-use Rattle.std.specs.Prelude.{if◌then◌else◌}
+use Rattle.std.proofs.Common.{ℕ, zero, suc, Bool, true, false, List, [], ◌∷◌, ◌++◌, Option, Some, None}
+use Rattle.std.specs.Prelude.{◌==◌, not, if◌then◌else◌}
 use Rattle.tword.specs.declared.breaks.Break.{Break}
 use Rattle.tword.specs.declared.span.Span.{Span}
 use Rattle.tword.specs.Stores.{Store}
 use Rattle.tword.specs.Touches.{Mode, Reads, Writes, place_break, word_place_break}
-use Rattle.tprocesses.specs.Places.{Place, WordAt, Sending, Error, HaltOnError}
-use Rattle.tprocesses.specs.Values.{Value, Use, Free, Saved, Receiving, Engaged, Last, Spoilt, word_in, amount_in}
+use Rattle.tproc.specs.declared.channels.Side.TheVariants.{Output}
+use Rattle.tproc.specs.Alternatives.{none_selected}
+use Rattle.tprocesses.specs.Places.{Place, Name, WordAt, Sending, Half, Error, HaltOnError, same_name}
+use Rattle.tprocesses.specs.Values.{Value, Use, Free, Saved, Receiving, Engaged, Choosing, Awaiting, Last, Spoilt}
+use Rattle.tprocesses.specs.Values.{Choice, Context, Stand, Chooses, Holder, Nobody, TakenBy, EnabledBy, AwaitedBy}
+use Rattle.tprocesses.specs.Values.{word_in, amount_in, half_in}
 use Rattle.tprocesses.specs.Changes.{Change}
 use Rattle.tprocesses.specs.Parts.{Reason, Part, gives, stopping, seeing, changing, telling, Changed, done, see}
 use Rattle.tprocesses.specs.Parts.{change, require, unless, ◌>>=◌}
 use Rattle.tprocesses.specs.Touching.{Site, word_number, word_count, is_zero, free_cells, same_use, word_for, words_for}
 use Rattle.tprocesses.specs.Touching.{unsent, settled, touch_word, touch_words, touch, touch_word_at}
 use Rattle.tprocesses.specs.Standing.{known}
+use Rattle.tprocesses.specs.Choosing.{choice_of, under_way, state_address, is_taken, readiness, is_first, waiting}
+use Rattle.tprocesses.specs.Choosing.{requires_silence, requires_no_other}
 use Rattle.tprocesses.specs.Instructions.{flags_before}
 
 -- nothing is said of an answer
@@ -90,6 +96,8 @@ module _ (P : Changed → Type 0) where
   free_each Saved cells = stops _
   free_each Receiving cells = stops _
   free_each Engaged cells = stops _
+  free_each Choosing cells = stops _
+  free_each Awaiting cells = stops _
   free_each (Last r) cells = stops _
   free_each Spoilt cells = stops _
 
@@ -133,3 +141,41 @@ module _ (P : Changed → Type 0) where
   flags_before_each s true =
       andthen (sees (Error s.number)) (λ error. andthen (sees (HaltOnError s.number)) (λ halting. nothing _))
   flags_before_each s false = nothing _
+
+  -- alternatives
+  pub choice_of_each : (choice : Option Choice) → Each Any (choice_of choice)
+  choice_of_each (Some choice) = nothing choice
+  choice_of_each None = stops _
+
+  pub under_way_each : (s : Site) (c : Context) → Each Any (under_way s c)
+  under_way_each s c =
+      andthen (choice_of_each c.choice)
+      (λ choice. andthen (unless_each (word_place_break s.size (state_address c)))
+      (λ x. andthen (word_for_each s Choosing (word_number (state_address c)))
+      (λ cells. andthen (unsent_each s (word_number (state_address c))) (λ y. nothing choice))))
+
+  pub readiness_each : (x : Name) (sent : Bool) (h : Holder) → Each Any (readiness x sent h)
+  readiness_each x sent (EnabledBy y) = andthen (requires (same_name y x) _) (λ z. nothing sent)
+  readiness_each x sent (AwaitedBy y) =
+      andthen (requires (same_name y x) _) (λ z. andthen (requires (not sent) _) (λ u. nothing false))
+  readiness_each x sent Nobody = stops _
+  readiness_each x sent (TakenBy request) = stops _
+
+  pub is_first_each : (ready : Bool) (selected : Option ℕ) → Each Any (is_first ready selected)
+  is_first_each true selected = andthen (known_each selected) (λ v. nothing (v == none_selected))
+  is_first_each false selected = nothing false
+
+  pub waiting_each : (stand : Stand) → Each Any (waiting stand)
+  waiting_each (Chooses c) = nothing c
+  waiting_each _ = stops _
+
+  requires_silence_each : (s : Site) (channel : ℕ) → Each Any (requires_silence s channel)
+  requires_silence_each s channel =
+      andthen (sees (Half s.number channel Output)) (λ output. requires (not (is_taken (half_in output))) _)
+
+  pub requires_no_other_each : (s : Site) (channel : ℕ) (ports : List ℕ)
+      → Each Any (requires_no_other s channel ports)
+  requires_no_other_each s channel [] = nothing tt
+  requires_no_other_each s channel (d ∷ rest) =
+      andthen (chooses (d == channel) (nothing tt) (requires_silence_each s d))
+      (λ x. requires_no_other_each s channel rest)

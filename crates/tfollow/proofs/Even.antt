@@ -1,7 +1,7 @@
 -- All parts but one count nothing down: what holds of each other change holds of each of theirs.
-use Rattle.std.proofs.Common.{ℕ, zero, suc, ℤ, Bool, [], ◌∷◌, ◌++◌, List, length, replicate, Option, Some}
+use Rattle.std.proofs.Common.{ℕ, zero, suc, ℤ, Bool, true, false, [], ◌∷◌, ◌++◌, List, length, replicate, Option, Some}
 use Rattle.std.proofs.Common.{None}
-use Rattle.std.specs.Prelude.{◌==◌, ◌-◌, ◌%◌, nat_le, not, pos, negsuc, is_none, take, drop}
+use Rattle.std.specs.Prelude.{◌==◌, ◌-◌, ◌%◌, ◌||◌, nat_le, not, pos, negsuc, is_none, take, drop}
 use Rattle.std.specs.Int.{w32, from_le_bytes, to_le_bytes}
 use Rattle.tword.specs.declared.breaks.Break.TheVariants.{LengthMismatch, ChannelMisuse, Unaligned, WrongEnd}
 use Rattle.tword.specs.declared.breaks.Break.TheVariants.{ZeroLength, LinkBusy, AlreadyLive}
@@ -16,25 +16,35 @@ use Rattle.tproc.specs.Machine.{workspace_of, priority_of}
 use Rattle.tproc.specs.declared.channels.Side.{Side}
 use Rattle.tproc.specs.declared.channels.Side.TheVariants.{Input, Output}
 use Rattle.tproc.specs.Channels.{mode_of}
+use Rattle.tproc.specs.Alternatives.{none_selected}
 use Rattle.tproc.specs.Queues.{not_process}
 use Rattle.tproc.specs.LinkChannels.{link_of, is_right_end, is_link}
 use Rattle.tplan.specs.declared.plan.End.{End}
 use Rattle.tplan.specs.Wires.{end_at}
-use Rattle.tprocesses.specs.Places.{Place, Name, WordAt, Sending, Standing, Half, LinkHalf, Messages, Kept, Life}
-use Rattle.tprocesses.specs.Places.{Population, HasRun, Error, HaltOnError, FlagChanged, Successions, After, child_of}
-use Rattle.tprocesses.specs.Values.{Use, Free, Saved, Receiving, Engaged, Last, Spoilt, Context, Lent, Stand, Absent}
-use Rattle.tprocesses.specs.Values.{Rests, Runs, Waits, Ended, Request, Link, Empty, Offered, Copied, Value, IsWord}
-use Rattle.tprocesses.specs.Values.{IsStand, IsHalf, IsLink, IsFlag, IsCount, AreMessages, AreKept, stand_in, half_in}
-use Rattle.tprocesses.specs.Values.{link_in, flag_in, amount_in, word_in, count_in}
-use Rattle.tprocesses.specs.Changes.{Put, Engage, Add, Raise, are_known, free_word, known_word}
-use Rattle.tprocesses.specs.Parts.{Part, Changed, change, Breaks, FullSink, Halts, HasNoStep, WordInUse}
+use Rattle.tprocesses.specs.Places.{Place, Name, WordAt, Sending, Standing, Ports, Half, LinkHalf, Messages, Kept}
+use Rattle.tprocesses.specs.Places.{Life, Population, HasRun, Error, HaltOnError, FlagChanged, Successions, After}
+use Rattle.tprocesses.specs.Places.{child_of, same_name}
+use Rattle.tprocesses.specs.Values.{Use, Free, Saved, Receiving, Engaged, Choosing, Awaiting, Last, Spoilt, Choice}
+use Rattle.tprocesses.specs.Values.{Context, Lent, Stand, Absent, Rests, Runs, Waits, Chooses, Chosen, Ended, Request}
+use Rattle.tprocesses.specs.Values.{Holder, Nobody, TakenBy, EnabledBy, AwaitedBy, Link, Empty, Offered, Copied, Value}
+use Rattle.tprocesses.specs.Values.{IsWord, IsStand, IsHalf, IsLink, IsFlag, IsCount, ArePorts, AreMessages, AreKept}
+use Rattle.tprocesses.specs.Values.{stand_in, half_in, link_in, flag_in, amount_in, word_in, count_in, ports_in}
+use Rattle.tprocesses.specs.Changes.{Put, Engage, Add, Raise, are_known, free_word, used_word, known_word}
+use Rattle.tprocesses.specs.Parts.{Part, Changed, change, Breaks, FullSink, Halts, HasAlternatives, HasNoStep}
+use Rattle.tprocesses.specs.Parts.{WordInUse}
 use Rattle.tprocesses.specs.Touching.{Site, word_number, word_count, word_place, is_zero, part_of, replaced, kept}
 use Rattle.tprocesses.specs.Touching.{forgotten, put_words, put, write, count_words, count_outputs, write_word_at}
-use Rattle.tprocesses.specs.Touching.{save_word, save}
+use Rattle.tprocesses.specs.Touching.{save_word, save_upper, save}
 use Rattle.tprocesses.specs.Performing.{Performed, noted, copied, perform, is_next_known, after_next, bytes_if}
 use Rattle.tprocesses.specs.Standing.{stands, goes_on, is_absent, comes, starts, ends, moves, ready, wakes, unsave_word}
-use Rattle.tprocesses.specs.Standing.{unsave, is_copied, takes_back, resumes, forget, fresh, pop}
-use Rattle.tprocesses.specs.ChannelMessages.{takes_half, meet, meet_if, channel_step}
+use Rattle.tprocesses.specs.Standing.{unsave_upper, unsave, is_copied, takes_back, resumes, forget, fresh, pop}
+use Rattle.tprocesses.specs.Choosing.{state_address, with_choice, with_port, without_port, has_none, changes_ports}
+use Rattle.tprocesses.specs.Choosing.{begins_choice, enables_held, enables, drop_channel, enables_port, enables_channel}
+use Rattle.tprocesses.specs.Choosing.{enables_skip, is_enabled_by, awaits_ports, changes_use, waits_for_ports}
+use Rattle.tprocesses.specs.Choosing.{awaits_choice}
+use Rattle.tprocesses.specs.Choosing.{goes_on_chosen, is_taken, frees_word, disables, sets_offset, answers, selects}
+use Rattle.tprocesses.specs.Choosing.{disables_port, disables_channel, disables_skip, ends_choice, lets_go_on}
+use Rattle.tprocesses.specs.ChannelMessages.{is_nobody, takes_half, meet, meet_if, channel_step}
 use Rattle.tprocesses.specs.LinkMessages.{is_empty, lends, takes_link, sent_by, node_sends, first_message}
 use Rattle.tprocesses.specs.LinkMessages.{source_sends, received_by, node_receives, keeps, sink_receives}
 use Rattle.tprocesses.specs.Scheduling.{starts_child, runs_child, stops_itself, stops_by_error, with_child}
@@ -43,7 +53,8 @@ use Rattle.tprocesses.specs.Scheduling.{successor_workspace, successor_step}
 use Rattle.tprocesses.specs.Instructions.{is_same_flag, sets_flag, jumped, sets_error}
 use Rattle.tfollow.proofs.Each.{Any, Each, andwith, andthen, nothing, stops, sees, changes, requires, unless_each}
 use Rattle.tfollow.proofs.Each.{chooses, unsent_each, touch_each, touch_word_at_each, word_for_each, words_for_each}
-use Rattle.tfollow.proofs.Each.{known_each}
+use Rattle.tfollow.proofs.Each.{known_each, choice_of_each, under_way_each, readiness_each, is_first_each}
+use Rattle.tfollow.proofs.Each.{waiting_each, requires_no_other_each}
 
 module _ (P : Changed → Type 0) (some_put : (q : Place) (v : Value) → P (record { place = q; change = Put v }))
     (some_engage : (q : Place) → P (record { place = q; change = Engage }))
@@ -94,10 +105,12 @@ module _ (P : Changed → Type 0) (some_put : (q : Place) (v : Value) → P (rec
       andthen P (touch_word_at_each P s Writes address)
       (λ cells. puts (word_place s address) (IsWord (record { cells = new cells; used = Saved })))
 
+  save_upper_even : (s : Site) (w : ℕ) → Each P Any (save_upper s w)
+  save_upper_even s w =
+      andthen P (save_word_even s (word_below w 2) forgotten) (λ x. save_word_even s (word_below w 1) forgotten)
+
   save_even : (s : Site) (w : ℕ) (lowest : Store → Store) → Each P Any (save s w lowest)
-  save_even s w lowest =
-      andthen P (save_word_even s (word_below w 3) lowest)
-      (λ x. andthen P (save_word_even s (word_below w 2) forgotten) (λ y. save_word_even s (word_below w 1) forgotten))
+  save_even s w lowest = andthen P (save_word_even s (word_below w 3) lowest) (λ x. save_upper_even s w)
 
   copied_even : (s : Site) (from to : Span) → Each P Any (copied s from to)
   copied_even s from to =
@@ -165,7 +178,9 @@ module _ (P : Changed → Type 0) (some_put : (q : Place) (v : Value) → P (rec
       (λ y. andthen P (comes_even s x c Rests) (λ z. save_even s c.wptr kept))
 
   ends_even : (s : Site) (x : Name) (c : Context) → Each P Any (ends s x c)
-  ends_even s x c = andthen P (adds (Life s.number c.wptr) (negsuc 0)) (λ y. stands_even x Ended)
+  ends_even s x c =
+      andthen P (requires P (is_none c.choice) WordInUse)
+      (λ y. andthen P (adds (Life s.number c.wptr) (negsuc 0)) (λ z. stands_even x Ended))
 
   pub moves_even : (s : Site) (old new : ℕ) → Each P Any (moves s old new)
   moves_even s old new =
@@ -177,6 +192,8 @@ module _ (P : Changed → Type 0) (some_put : (q : Place) (v : Value) → P (rec
   ready_even Absent x lent = stops P _
   ready_even (Rests c) x lent = stops P _
   ready_even (Runs c) x lent = stops P _
+  ready_even (Chooses c) x lent = stops P _
+  ready_even (Chosen c) x lent = stops P _
   ready_even Ended x lent = stops P _
 
   wakes_even : (x : Name) (lent : Option Lent) → Each P Any (wakes x lent)
@@ -187,10 +204,12 @@ module _ (P : Changed → Type 0) (some_put : (q : Place) (v : Value) → P (rec
       andthen P (word_for_each P s Saved (word_number address))
       (λ cells. puts (word_place s address) (IsWord (record { cells = cells; used = Free })))
 
+  unsave_upper_even : (s : Site) (w : ℕ) → Each P Any (unsave_upper s w)
+  unsave_upper_even s w =
+      andthen P (unsave_word_even s (word_below w 2)) (λ x. unsave_word_even s (word_below w 1))
+
   unsave_even : (s : Site) (w : ℕ) → Each P Any (unsave s w)
-  unsave_even s w =
-      andthen P (unsave_word_even s (word_below w 3))
-      (λ x. andthen P (unsave_word_even s (word_below w 2)) (λ y. unsave_word_even s (word_below w 1)))
+  unsave_even s w = andthen P (unsave_word_even s (word_below w 3)) (λ x. unsave_upper_even s w)
 
   takes_back_even : (s : Site) (lent : Option Lent) → Each P Any (takes_back s lent)
   takes_back_even s None = nothing P tt
@@ -205,14 +224,154 @@ module _ (P : Changed → Type 0) (some_put : (q : Place) (v : Value) → P (rec
       andthen P (unsave_even s c.wptr)
       (λ y. andthen P (takes_back_even s c.lent) (λ z. goes_on_even x (record c { lent = None })))
 
+  -- alternatives
+  changes_ports_even : (x : Name) (next : List ℕ → List ℕ) → Each P Any (changes_ports x next)
+  changes_ports_even x next =
+      andthen P (sees P (Ports x)) (λ ports. puts (Ports x) (ArePorts (next (ports_in ports))))
+
+  pub begins_choice_even : (s : Site) (x : Name) (c : Context) → Each P Any (begins_choice s x c)
+  begins_choice_even s x c =
+      andthen P (touch_word_at_each P s Writes (state_address c))
+      (λ cells. andthen P (puts (word_place s (state_address c)) (IsWord (used_word Choosing)))
+      (λ y. goes_on_even x (with_choice false c)))
+
+  enables_held_even : (s : Site) (x : Name) (channel : ℕ) (h : Holder) → Each P Any (enables_held s x channel h)
+  enables_held_even s x channel Nobody =
+      andthen P (puts (Half s.number channel Input) (IsHalf (EnabledBy x)))
+      (λ y. andthen P (unsent_each P s (word_number channel)) (λ z. engages (word_place s channel)))
+  enables_held_even s x channel (EnabledBy y) =
+      andthen P (requires P (same_name y x) (Breaks ChannelMisuse)) (λ z. unsent_each P s (word_number channel))
+  enables_held_even s x channel (TakenBy request) = stops P _
+  enables_held_even s x channel (AwaitedBy y) = stops P _
+
+  enables_even : (s : Site) (x : Name) (channel : ℕ) → Each P Any (enables s x channel)
+  enables_even s x channel =
+      andthen P (unless_each P (word_place_break s.size channel))
+      (λ y. andthen P (sees P (Half s.number channel Input))
+      (λ half. andthen P (enables_held_even s x channel (half_in half))
+      (λ z. changes_ports_even x (with_port channel))))
+
+  enables_port_even : (s : Site) (x : Name) (c : Context) → Each P Any (enables_port s x c)
+  enables_port_even s x c =
+      andthen P (known_each P c.b)
+      (λ channel. andthen P (requires P (not (is_link channel)) HasAlternatives)
+      (λ y. andthen P (enables_even s x channel) (λ z. goes_on_even x (drop_channel c))))
+
+  pub enables_channel_even : (s : Site) (x : Name) (c : Context) → Each P Any (enables_channel s x c)
+  enables_channel_even s x c =
+      andthen P (under_way_each P s c)
+      (λ choice. andthen P (known_each P c.a)
+      (λ guard. chooses P (guard == 0) (goes_on_even x (drop_channel c)) (enables_port_even s x c)))
+
+  pub enables_skip_even : (s : Site) (x : Name) (c : Context) → Each P Any (enables_skip s x c)
+  enables_skip_even s x c =
+      andthen P (under_way_each P s c)
+      (λ choice. andthen P (known_each P c.a)
+      (λ guard. goes_on_even x (with_choice (choice.skips || not (guard == 0)) c)))
+
+  awaits_ports_even : (s : Site) (x : Name) (ports : List ℕ) → Each P Any (awaits_ports s x ports)
+  awaits_ports_even s x [] = nothing P tt
+  awaits_ports_even s x (channel ∷ rest) =
+      andthen P (sees P (Half s.number channel Input))
+      (λ half. andthen P (requires P (is_enabled_by x (half_in half)) (Breaks ChannelMisuse))
+      (λ y. andthen P (puts (Half s.number channel Input) (IsHalf (AwaitedBy x)))
+      (λ z. awaits_ports_even s x rest)))
+
+  changes_use_even : (s : Site) (c : Context) (old new : Use) → Each P Any (changes_use s c old new)
+  changes_use_even s c old new =
+      andthen P (word_for_each P s old (word_number (state_address c)))
+      (λ cells. puts (word_place s (state_address c)) (IsWord (used_word new)))
+
+  waits_for_ports_even : (s : Site) (x : Name) (c : Context) → Each P Any (waits_for_ports s x c)
+  waits_for_ports_even s x c =
+      andthen P (sees P (Ports x))
+      (λ ports. andthen P (awaits_ports_even s x (ports_in ports))
+      (λ y. andthen P (changes_use_even s c Choosing Awaiting)
+      (λ z. andthen P (save_upper_even s c.wptr) (λ u. stands_even x (Chooses (forget c))))))
+
+  pub awaits_choice_even : (s : Site) (x : Name) (c : Context) → Each P Any (awaits_choice s x c)
+  awaits_choice_even s x c =
+      andthen P (write_word_at_even s c.wptr (as_cells (to_le_bytes w32 none_selected)))
+      (λ y. andthen P (under_way_each P s c)
+      (λ choice. chooses P choice.skips (goes_on_even x c) (waits_for_ports_even s x c)))
+
+  pub goes_on_chosen_even : (s : Site) (x : Name) (c : Context) → Each P Any (goes_on_chosen s x c)
+  goes_on_chosen_even s x c =
+      andthen P (changes_use_even s c Awaiting Choosing)
+      (λ y. andthen P (unsave_upper_even s c.wptr) (λ z. goes_on_even x c))
+
+  frees_word_even : (s : Site) (channel : ℕ) (ready : Bool) → Each P Any (frees_word s channel ready)
+  frees_word_even s channel true = nothing P tt
+  frees_word_even s channel false = puts (word_place s channel) (IsWord (free_word not_process))
+
+  disables_even : (s : Site) (x : Name) (channel : ℕ) → Each P Any (disables s x channel)
+  disables_even s x channel =
+      andthen P (unless_each P (word_place_break s.size channel))
+      (λ y. andthen P (sees P (Half s.number channel Input))
+      (λ input. andthen P (sees P (Half s.number channel Output))
+      (λ output. andthen P (readiness_each P x (is_taken (half_in output)) (half_in input))
+      (λ ready. andthen P (puts (Half s.number channel Input) (IsHalf Nobody))
+      (λ z. andthen P (word_for_each P s Engaged (word_number channel))
+      (λ cells. andthen P (unsent_each P s (word_number channel))
+      (λ u. andthen P (frees_word_even s channel ready)
+      (λ v. andthen P (changes_ports_even x (without_port channel)) (λ w. nothing P ready)))))))))
+
+  sets_offset_even : (s : Site) (c : Context) (chosen : Bool) → Each P Any (sets_offset s c chosen)
+  sets_offset_even s c true =
+      andthen P (known_each P c.a) (λ v. puts (word_place s c.wptr) (IsWord (free_word v)))
+  sets_offset_even s c false = nothing P tt
+
+  selects_even : (s : Site) (x : Name) (c : Context) (ready : Bool) → Each P Any (selects s x c ready)
+  selects_even s x c ready =
+      andthen P (touch_word_at_each P s Writes c.wptr)
+      (λ cells. andthen P (is_first_each P ready (known_word cells))
+      (λ chosen. andthen P (sets_offset_even s c chosen) (λ y. goes_on_even x (answers chosen c))))
+
+  disables_port_even : (s : Site) (x : Name) (c : Context) (choice : Choice) → Each P Any (disables_port s x c choice)
+  disables_port_even s x c choice =
+      andthen P (requires P choice.skips WordInUse)
+      (λ y. andthen P (known_each P c.c)
+      (λ channel. andthen P (requires P (not (is_link channel)) HasAlternatives)
+      (λ z. andthen P (disables_even s x channel) (λ ready. selects_even s x c ready))))
+
+  pub disables_channel_even : (s : Site) (x : Name) (c : Context) → Each P Any (disables_channel s x c)
+  disables_channel_even s x c =
+      andthen P (choice_of_each P c.choice)
+      (λ choice. andthen P (known_each P c.b)
+      (λ guard. chooses P (guard == 0) (selects_even s x c false) (disables_port_even s x c choice)))
+
+  pub disables_skip_even : (s : Site) (x : Name) (c : Context) → Each P Any (disables_skip s x c)
+  disables_skip_even s x c =
+      andthen P (choice_of_each P c.choice)
+      (λ choice. andthen P (known_each P c.b) (λ guard. selects_even s x c (not (guard == 0))))
+
+  pub ends_choice_even : (s : Site) (x : Name) (c : Context) → Each P Any (ends_choice s x c)
+  ends_choice_even s x c =
+      andthen P (under_way_each P s c)
+      (λ choice. andthen P (sees P (Ports x))
+      (λ ports. andthen P (requires P (has_none (ports_in ports)) WordInUse)
+      (λ y. andthen P (touch_word_at_each P s Reads c.wptr)
+      (λ cells. andthen P (known_each P (known_word cells))
+      (λ offset. andthen P (puts (word_place s (state_address c)) (IsWord (used_word Free)))
+      (λ z. goes_on_even x (record c { iptr = plus c.iptr offset; choice = None })))))))
+
+  lets_go_on_even : (s : Site) (channel : ℕ) (x : Name) → Each P Any (lets_go_on s channel x)
+  lets_go_on_even s channel x =
+      andthen P (sees P (Standing x))
+      (λ stood. andthen P (waiting_each P (stand_in stood))
+      (λ c. andthen P (sees P (Ports x))
+      (λ ports. andthen P (requires_no_other_each P s channel (ports_in ports))
+      (λ y. andthen P (puts (Half s.number channel Input) (IsHalf (EnabledBy x)))
+      (λ z. stands_even x (Chosen (with_choice true c)))))))
+
   -- messages
   takes_half_even : (s : Site) (x : Name) (c : Context) (side : Side) (channel : ℕ) (buffer : Span)
       → Each P Any (takes_half s x c side channel buffer)
   takes_half_even s x c side channel buffer = let q = Half s.number channel side in
       andthen P (unless_each P (word_place_break s.size channel))
       (λ y. andthen P (sees P q)
-      (λ half. andthen P (requires P (is_none (half_in half)) (Breaks ChannelMisuse))
-      (λ z. andthen P (puts q (IsHalf (Some (record { process = x; buffer = buffer }))))
+      (λ half. andthen P (requires P (is_nobody (half_in half)) (Breaks ChannelMisuse))
+      (λ z. andthen P (puts q (IsHalf (TakenBy (record { process = x; buffer = buffer }))))
       (λ u. andthen P (unsent_each P s (word_number channel))
       (λ v. andthen P (save_even s c.wptr forgotten)
       (λ w. andthen P (engages (word_place s channel))
@@ -227,13 +386,13 @@ module _ (P : Changed → Type 0) (some_put : (q : Place) (v : Value) → P (rec
       (λ u. andthen P (copied_even s output.buffer input.buffer)
       (λ v. andthen P (wakes_even input.process None)
       (λ w. andthen P (wakes_even output.process None)
-      (λ r. andthen P (puts (Half s.number channel Input) (IsHalf None))
-      (λ k. puts (Half s.number channel Output) (IsHalf None))))))))
+      (λ r. andthen P (puts (Half s.number channel Input) (IsHalf Nobody))
+      (λ k. puts (Half s.number channel Output) (IsHalf Nobody))))))))
 
-  meet_if_even : (s : Site) (channel : ℕ) (input output : Option Request) → Each P Any (meet_if s channel input output)
-  meet_if_even s channel (Some input) (Some output) = meet_even s channel input output
-  meet_if_even s channel (Some input) None = stops P HasNoStep
-  meet_if_even s channel None output = stops P HasNoStep
+  meet_if_even : (s : Site) (channel : ℕ) (input output : Holder) → Each P Any (meet_if s channel input output)
+  meet_if_even s channel (TakenBy input) (TakenBy output) = meet_even s channel input output
+  meet_if_even s channel (AwaitedBy x) (TakenBy output) = lets_go_on_even s channel x
+  meet_if_even s channel _ _ = stops P HasNoStep
 
   pub channel_step_even : (channel : ℕ) (s : Site) → Each P Any (channel_step channel s)
   channel_step_even channel s =
@@ -366,6 +525,8 @@ module _ (P : Changed → Type 0) (some_put : (q : Place) (v : Value) → P (rec
   goes_on_after_even s k Saved = stops P WordInUse
   goes_on_after_even s k Receiving = stops P WordInUse
   goes_on_after_even s k Engaged = stops P WordInUse
+  goes_on_after_even s k Choosing = stops P WordInUse
+  goes_on_after_even s k Awaiting = stops P WordInUse
   goes_on_after_even s k Spoilt = stops P WordInUse
 
   pub successor_step_even : (k : ℕ) (s : Site) → Each P Any (successor_step k s)

@@ -10,11 +10,11 @@ use Rattle.tplan.specs.declared.plan.Plan.{Plan}
 use Rattle.tagents.specs.Walks.{are_open}
 use Rattle.tagents.specs.Tidy.{IsOneOf, IsGate}
 use Rattle.tprocesses.specs.Places.{Place, Name, WordAt, Standing, Half, LinkHalf}
-use Rattle.tprocesses.specs.Values.{Value, IsStand, IsHalf, IsLink}
+use Rattle.tprocesses.specs.Values.{Value, Nobody, IsStand, IsHalf, IsLink}
 use Rattle.tprocesses.specs.Values.{stand_in, half_in, link_in}
 use Rattle.tprocesses.specs.Machine.{Process, Channel, Wire, Successor, Role, Processor, role_at, offer_place}
 use Rattle.tprocesses.specs.Machine.{take_place, sender_to, gates_between, is_ready, is_offered, is_passable, is_open}
-use Rattle.tprocesses.specs.Machine.{process_machine}
+use Rattle.tprocesses.specs.Machine.{is_met_at, process_machine}
 use Rattle.tcertify.specs.Running.{State}
 use Rattle.tfollow.specs.Opening.{AgentsAreOpenBy, StepsLeadBy}
 
@@ -22,9 +22,15 @@ process-open : (plan : Plan) (x : Name) (q : Place) (v : Value) → is_open plan
 process-open plan x q (IsStand s) = refl
 process-open plan x q _ = refl
 
-channel-open : (plan : Plan) (n c : ℕ) (q : Place) (v : Value) → is_open plan (Channel n c) q v ≡ is_some (half_in v)
+-- no channel may go on where nobody is
+not-met : (q : Place) → is_met_at q Nobody ≡ false
+not-met (Half n c Input) = refl
+not-met _ = refl
+
+channel-open : (plan : Plan) (n c : ℕ) (q : Place) (v : Value)
+    → is_open plan (Channel n c) q v ≡ is_met_at q (half_in v)
 channel-open plan n c q (IsHalf h) = refl
-channel-open plan n c q _ = refl
+channel-open plan n c q _ = sym (not-met q)
 
 link-passable : (e : End) (side : Side) (v : Value) → is_passable (LinkHalf e side) v ≡ is_offered (link_in v)
 link-passable e side (IsLink l) = refl

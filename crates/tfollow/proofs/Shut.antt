@@ -1,13 +1,13 @@
--- A step whose run sees a gate of another agent shut has it among its sights: where its own changes shut the gate, it
--- has seen it shut before.
+-- A step whose run sees a gate of another agent shut has a gate of it among its sights, shut: where its own changes
+-- shut the gate, it has seen one shut before.
 use Rattle.std.proofs.Common.{◌≡◌, ◌≢◌, ◌⊎◌, inl, inr, refl, sym, ap, ◌∙◌, subst, Bool, true, false, List, [], ◌∷◌}
 use Rattle.std.proofs.Common.{◌++◌, Some, None, append_assoc, append-nil, true≢false, not, ◌&&◌, map, Ok}
 use Rattle.std.specs.Prelude.{if◌then◌else◌}
 use Rattle.std.specs.List.{list_any}
-use Rattle.std.proofs.lemmas.Bool.{or_left, or_right, and_from}
+use Rattle.std.proofs.lemmas.Bool.{or_cases, or_left, or_right, and_from}
 use Rattle.tplan.specs.declared.plan.Plan.{Plan}
-use Rattle.tagents.specs.Walks.{Walk, looking, doing, Sight, sight, sights_of, deed_of, label_of, was_shut}
-use Rattle.tagents.specs.Tidy.{IsOneOf, HoldsOfEach, IsGate, WasShut, Spares, IsCareful}
+use Rattle.tagents.specs.Walks.{Walk, looking, doing, Sight, sight, sights_of, deed_of, label_of, was_shut, are_open}
+use Rattle.tagents.specs.Tidy.{IsOneOf, HoldsOfEach, IsGate, WasShut, OneWasShut, Spares, IsCareful}
 use Rattle.tclocks.proofs.Lists.{test}
 use Rattle.tprocesses.specs.Places.{Place, same_place}
 use Rattle.tprocesses.specs.Values.{Value}
@@ -32,45 +32,69 @@ any-second : {X : Type 0} (f : X → Bool) (xs ys : List X) → list_any f ys �
 any-second f [] ys h = h
 any-second f (x ∷ xs) ys h = or_right (f x) (list_any f (xs ++ ys)) (any-second f xs ys h)
 
-module _ (plan : Plan) (a b : Agent) (q : Place) (other : b ≢ a) (gate : IsGate (process_machine plan) b q)
-    (s : State) where
-  -- a sight of the gate, shut
-  abbrev is_shut : Sight Place Value → Bool
-  is_shut x = same_place x.place q && not (is_open plan b q x.value)
+any-first : {X : Type 0} (f : X → Bool) (xs ys : List X) → list_any f xs ≡ true → list_any f (xs ++ ys) ≡ true
+any-first f [] ys h = absurd (true≢false (sym h))
+any-first f (x ∷ xs) ys h =
+    elim (or_cases (f x) (list_any f xs) h) as (λ _. list_any f (x ∷ xs ++ ys) ≡ true) [
+      | inl here ↦ or_left (f x) (list_any f (xs ++ ys)) here
+      | inr there ↦ or_right (f x) (list_any f (xs ++ ys)) (any-first f xs ys there)
+    ]
 
+module _ (plan : Plan) (b : Agent) (s : State) where
   -- what was seen at the end of a walk, the last sight first
   abbrev seen_after : Walk Place Value Deed → List (Sight Place Value) → List (Sight Place Value)
   seen_after (looking p next) seen = seen_after (next (s p)) (record { place = p; value = s p } ∷ seen)
   seen_after (doing d) seen = seen
 
-  sparing : (walk : Walk Place Value Deed) (seen : List (Sight Place Value))
+  sparing : (a : Agent) (walk : Walk Place Value Deed) (seen : List (Sight Place Value))
       → IsCareful (process_machine plan) a seen walk
       → (process_machine plan).stops (deed_of walk s) ≡ false
       → HoldsOfEach (Spares (process_machine plan) a (seen_after walk seen)) (deed_of walk s).changes
-  sparing (looking p next) seen careful goes =
-      sparing (next (s p)) (record { place = p; value = s p } ∷ seen) (careful (s p)) goes
-  sparing (doing d) seen careful goes = careful goes
+  sparing a (looking p next) seen careful goes =
+      sparing a (next (s p)) (record { place = p; value = s p } ∷ seen) (careful (s p)) goes
+  sparing a (doing d) seen careful goes = careful goes
 
-  shut-sight : (x : Sight Place Value) → x.place ≡ q → is_open plan b q x.value ≡ false → is_shut x ≡ true
-  shut-sight x here shut =
-      and_from _ _ (ap (λ (p : Place). same_place p q) here ∙ place-same plan q) (ap not shut)
+  module _ (q : Place) where
+    -- a sight of the place, shut to the agent
+    abbrev is_shut : Sight Place Value → Bool
+    is_shut x = same_place x.place q && not (is_open plan b q x.value)
 
-  -- what was shut by then was seen shut on the way
-  on-the-way : (walk : Walk Place Value Deed) (seen : List (Sight Place Value))
-      → WasShut (process_machine plan) b q (seen_after walk seen)
-      → WasShut (process_machine plan) b q seen ⊎ (list_any is_shut (sights_of walk s) ≡ true)
-  on-the-way (looking p next) seen was =
-      elim (on-the-way (next (s p)) (record { place = p; value = s p } ∷ seen) was) as
-      (λ _. WasShut (process_machine plan) b q seen ⊎ (list_any is_shut (sights_of (looking p next) s) ≡ true)) [
-        | inl (inl now) ↦ inr (or_left _ _ (shut-sight (sight s p) now.0 now.1))
-        | inl (inr before) ↦ inl before
-        | inr later ↦ inr (or_right _ _ later)
-      ]
-  on-the-way (doing d) seen was = inl was
+    shut-sight : (x : Sight Place Value) → x.place ≡ q → is_open plan b q x.value ≡ false → is_shut x ≡ true
+    shut-sight x here shut =
+        and_from _ _ (ap (λ (p : Place). same_place p q) here ∙ place-same plan q) (ap not shut)
 
-  -- where the gate is open, each change leaves it open, or it was seen shut
+    any-was : (seen : List (Sight Place Value)) → WasShut (process_machine plan) b q seen
+        → list_any is_shut seen ≡ true
+    any-was [] was = absurd was
+    any-was (x ∷ seen) (inl now) = or_left _ _ (shut-sight x now.0 now.1)
+    any-was (x ∷ seen) (inr before) = or_right _ _ (any-was seen before)
+
+    -- what was shut by then was seen shut on the way
+    on-the-way : (walk : Walk Place Value Deed) (seen : List (Sight Place Value))
+        → WasShut (process_machine plan) b q (seen_after walk seen)
+        → WasShut (process_machine plan) b q seen ⊎ (list_any is_shut (sights_of walk s) ≡ true)
+    on-the-way (looking p next) seen was =
+        elim (on-the-way (next (s p)) (record { place = p; value = s p } ∷ seen) was) as
+        (λ _. WasShut (process_machine plan) b q seen ⊎ (list_any is_shut (sights_of (looking p next) s) ≡ true)) [
+          | inl (inl now) ↦ inr (or_left _ _ (shut-sight (sight s p) now.0 now.1))
+          | inl (inr before) ↦ inl before
+          | inr later ↦ inr (or_right _ _ later)
+        ]
+    on-the-way (doing d) seen was = inl was
+
+    by-then : (walk : Walk Place Value Deed) (seen : List (Sight Place Value))
+        → WasShut (process_machine plan) b q (seen_after walk seen)
+        → list_any is_shut (seen ++ sights_of walk s) ≡ true
+    by-then walk seen was =
+        elim (on-the-way walk seen was) as (λ _. list_any is_shut (seen ++ sights_of walk s) ≡ true) [
+          | inl before ↦ any-first is_shut seen (sights_of walk s) (any-was seen before)
+          | inr later ↦ any-second is_shut seen (sights_of walk s) later
+        ]
+
+module _ (plan : Plan) (a b : Agent) (q : Place) (other : b ≢ a) (gate : IsGate (process_machine plan) b q) where
+  -- where the gate is open, each change leaves it open, or a gate of the agent was seen shut
   abbrev IsStill : List (Sight Place Value) → Value → Type 0
-  IsStill seen v = (is_open plan b q v ≡ true) ⊎ WasShut (process_machine plan) b q seen
+  IsStill seen v = (is_open plan b q v ≡ true) ⊎ OneWasShut (process_machine plan) b seen
 
   still-step : (seen : List (Sight Place Value)) (c : Changed) → Spares (process_machine plan) a seen c
       → (after : Value → Value) → ((v : Value) → is_open plan b q v ≡ true → IsStill seen (after v)) → (v : Value)
@@ -80,8 +104,7 @@ module _ (plan : Plan) (a b : Agent) (q : Place) (other : b ≢ a) (gate : IsGat
   still-step seen c (inl never) after rest v opened true e = rest (apply c.change v) (never b q v gate opened)
   still-step seen c (inr shut) after rest v opened true e =
       let there : c.place ≡ q = (process_machine_is_tidy plan).told.is_same_place c.place q e in
-      inr (subst (λ (p : Place). WasShut (process_machine plan) b p seen) there
-      (shut b other (subst (λ (p : Place). IsGate (process_machine plan) b p) (sym there) gate)))
+      inr (shut b other (subst (λ (p : Place). IsGate (process_machine plan) b p) (sym there) gate))
 
   still : (seen : List (Sight Place Value)) (cs : List Changed) → HoldsOfEach (Spares (process_machine plan) a seen) cs
       → (v : Value) → is_open plan b q v ≡ true → IsStill seen (made cs q v)
@@ -152,45 +175,44 @@ module _ (q : Place) (v : Value) (s : State) where
       (sym (so_far-more d.changes p c s)) one)
   is-made d (telling m next) one = is-made (record d { message = Some m }) next one
 
-module _ (plan : Plan) (a b : Agent) (s u : State) (run : run_part (step_of plan a) s ≡ (Ok tt, u)) (other : b ≢ a)
-    (h : SeesShut plan a s b) where
+module _ (plan : Plan) (a b : Agent) (s u : State) (all_open : are_open (process_machine plan) a s ≡ true)
+    (run : run_part (step_of plan a) s ≡ (Ok tt, u)) (other : b ≢ a) (h : SeesShut plan a s b) where
   abbrev walk : Walk Place Value Deed
   walk = walk_of (step_of plan a)
+
+  -- what the step has seen before its walk
+  abbrev first : List (Sight Place Value)
+  first = map (sight s) (gates plan a)
 
   met : IsMade h.place h.value s walk
   met = is-made h.place h.value s (record { changes = []; message = None; stops = None }) (step_of plan a)
       (one-of (record { place = h.place; value = h.value }) (sights (step_of plan a) s) h.seen)
 
-  abbrev shut : Sight Place Value → Bool
-  shut = is_shut plan a b h.place other h.gate s
+  -- the changes up to there spare the gates of others
+  spare-early : HoldsOfEach (Spares (process_machine plan) a (seen_after plan b s walk first)) met.early
+  spare-early =
+      first-of (Spares (process_machine plan) a (seen_after plan b s walk first)) met.early met.late
+      (subst (λ (cs : List Changed). HoldsOfEach
+      (Spares (process_machine plan) a (seen_after plan b s walk first)) cs) met.all
+      (sparing plan b s a walk first (all_are_careful plan a s all_open) (goes plan a s u run)))
 
-  -- the walk sees the gate shut
-  any-shut : list_any shut (sights_of walk s) ≡ true
-  any-shut = elim (test (is_open plan b h.place (s h.place))) as (λ _. list_any shut (sights_of walk s) ≡ true) [
-    | inl opened ↦ elim (still plan a b h.place other h.gate s (seen_after plan a b h.place other h.gate s walk [])
-        met.early (spare-early opened) (s h.place) opened) as (λ _. list_any shut (sights_of walk s) ≡ true) [
-          | inl stays ↦ absurd (true≢false (sym stays ∙ ap (is_open plan b h.place) (sym met.value) ∙ h.shut))
-          | inr was ↦ elim (on-the-way plan a b h.place other h.gate s walk [] was) as
-              (λ _. list_any shut (sights_of walk s) ≡ true) [
-                | inl never ↦ absurd never
-                | inr any ↦ any
-              ]
-        ]
-    | inr closed ↦ any-one shut (sight s h.place) (sights_of walk s) met.looked
-        (shut-sight plan a b h.place other h.gate s (sight s h.place) refl closed)
-  ]
-    where
-      spare-early : is_open plan b h.place (s h.place) ≡ true
-          → HoldsOfEach (Spares (process_machine plan) a (seen_after plan a b h.place other h.gate s walk [])) met.early
-      spare-early opened =
-          first-of (Spares (process_machine plan) a (seen_after plan a b h.place other h.gate s walk [])) met.early
-          met.late
-          (subst (λ (cs : List Changed). HoldsOfEach
-          (Spares (process_machine plan) a (seen_after plan a b h.place other h.gate s walk [])) cs) met.all
-          (sparing plan a b h.place other h.gate s walk [] (all_are_careful plan a) (goes plan a s u run)))
+  -- a gate at which a sight was shut
+  by-gate : (q : Place) → IsGate (process_machine plan) b q
+      → list_any (is_shut plan b s q) (first ++ sights_of walk s) ≡ true
+      → has_seen_shut plan (label_of (process_machine plan) a s) b ≡ true
+  by-gate q gate any =
+      any-one (λ p. was_shut (process_machine plan) b p (label_of (process_machine plan) a s).seen) q (gates plan b)
+      gate any
 
   pub seen_shut : has_seen_shut plan (label_of (process_machine plan) a s) b ≡ true
-  seen_shut =
-      any-one (λ p. was_shut (process_machine plan) b p (label_of (process_machine plan) a s).seen) h.place
-      (gates plan b)
-      h.gate (any-second shut (map (sight s) (gates plan a)) (sights_of walk s) any-shut)
+  seen_shut = elim (test (is_open plan b h.place (s h.place))) as
+      (λ _. has_seen_shut plan (label_of (process_machine plan) a s) b ≡ true) [
+        | inl opened ↦ elim (still plan a b h.place other h.gate (seen_after plan b s walk first) met.early spare-early
+            (s h.place) opened) as (λ _. has_seen_shut plan (label_of (process_machine plan) a s) b ≡ true) [
+              | inl stays ↦ absurd (true≢false (sym stays ∙ ap (is_open plan b h.place) (sym met.value) ∙ h.shut))
+              | inr one ↦ by-gate one.0 one.1 (by-then plan b s one.0 walk first one.2)
+            ]
+        | inr closed ↦ by-gate h.place h.gate (any-second (is_shut plan b s h.place) first (sights_of walk s)
+            (any-one (is_shut plan b s h.place) (sight s h.place) (sights_of walk s) met.looked
+            (shut-sight plan b s h.place (sight s h.place) refl closed)))
+      ]

@@ -31,7 +31,8 @@ LeadsAreLeads =
 -- what a run tells of leads is known to lead
 abbrev pub RunsTellLeads : Type 0
 RunsTellLeads =
-    (plan : Plan) (a b : Agent) (state state' : State) → run_part (step_of plan a) state ≡ (Ok tt, state') → b ≢ a
+    (plan : Plan) (a b : Agent) (state state' : State) → are_open (process_machine plan) a state ≡ true
+    → run_part (step_of plan a) state ≡ (Ok tt, state') → b ≢ a
     → RunLeads plan a state b → leads_on plan (label_of (process_machine plan) a state) b ≡ true
 
 -- it begins with no steps, no agents and no places

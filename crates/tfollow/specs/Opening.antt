@@ -1,6 +1,6 @@
 -- When an agent has a step, and to whose steps a step leads, by what stands at places of each kind.
 -- Source: own choice.
-use Rattle.std.specs.Prelude.{ℕ, ◌≡◌, ◌&&◌, false, Contains, Some, None, is_some}
+use Rattle.std.specs.Prelude.{ℕ, ◌≡◌, ◌&&◌, false, Contains, Some, None}
 use Rattle.tproc.specs.declared.channels.Side.{Side}
 use Rattle.tproc.specs.declared.channels.Side.TheVariants.{Input, Output}
 use Rattle.tplan.specs.declared.plan.End.{End}
@@ -11,7 +11,7 @@ use Rattle.tprocesses.specs.Values.{Value, Word, IsWord, stand_in, half_in, link
 use Rattle.tprocesses.specs.Changes.{Decrement}
 use Rattle.tprocesses.specs.Machine.{Agent, Process, Channel, Wire, Successor, Processor, role_at, offer_place}
 use Rattle.tprocesses.specs.Machine.{take_place}
-use Rattle.tprocesses.specs.Machine.{sender_to, is_ready, is_offered, is_passable, awaits_successor, step_of}
+use Rattle.tprocesses.specs.Machine.{sender_to, is_ready, is_offered, is_met_at, is_passable, awaits_successor, step_of}
 use Rattle.tprocesses.specs.Machine.{process_machine}
 use Rattle.tcertify.specs.Running.{State}
 use Rattle.tcertify.specs.Seeing.{sights}
@@ -22,9 +22,10 @@ use Rattle.tfollow.specs.Leading.{RunLeads}
 pub record AreOpenBy (plan : Plan) (s : State) : Type 0 where
   -- a process: it is ready
   pub process : (x : Name) → are_open (process_machine plan) (Process x) s ≡ is_ready (stand_in (s (Standing x)))
-  -- a channel: both halves are taken
+  -- a channel: its output is taken, and its input is taken or awaited
   pub channel : (n c : ℕ) → are_open (process_machine plan) (Channel n c) s
-      ≡ (is_some (half_in (s (Half n c Input))) && is_some (half_in (s (Half n c Output))))
+      ≡ (is_met_at (Half n c Input) (half_in (s (Half n c Input)))
+      && is_met_at (Half n c Output) (half_in (s (Half n c Output))))
   -- a wire: there is a message at the one end, and it is asked for at the other
   pub wire : (e f : End) → sender_to plan e ≡ Some f → are_open (process_machine plan) (Wire e) s
       ≡ (is_passable (offer_place (role_at plan f.node) f) (s (offer_place (role_at plan f.node) f))
@@ -45,10 +46,10 @@ pub record LeadsBy (plan : Plan) (a : Agent) (s : State) : Type 0 where
   pub process : (x : Name) (v : Value)
       → Contains (sights (step_of plan a) s) (record { place = Standing x; value = v })
       → is_ready (stand_in v) ≡ false → RunLeads plan a s (Process x)
-  -- a channel of which a half is seen that nobody has taken
+  -- a channel of which a half is seen at which it may not go on
   pub channel : (n c : ℕ) (side : Side) (v : Value)
       → Contains (sights (step_of plan a) s) (record { place = Half n c side; value = v })
-      → is_some (half_in v) ≡ false → RunLeads plan a s (Channel n c)
+      → is_met_at (Half n c side) (half_in v) ≡ false → RunLeads plan a s (Channel n c)
   -- a wire of which an end is seen at which nobody asks for a message
   pub input : (e : End) (v : Value) → role_at plan e.node ≡ Processor
       → Contains (sights (step_of plan a) s) (record { place = LinkHalf e Input; value = v })

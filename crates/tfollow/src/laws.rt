@@ -24,14 +24,15 @@ pub fn leads_are_leads()
     ensures { LeadsAreLeads }
 {}
 
-/// A step that, as it runs, sees a gate of another agent shut, or counts down the word at which a successor waits,
-/// is known to lead to the next step of that agent.
+/// A step of an agent whose gates are open that, as it runs, sees a gate of another agent shut, or counts down the word
+/// at which a successor waits, is known to lead to the next step of that agent.
 pub fn runs_tell_leads()
     ensures { RunsTellLeads }
 {}
 
 /// Who leads to whom, by what the run of a step sees and counts down: it leads to processes that it sees not ready, to
-/// channels and wires of which it sees a free end, and to successors for which it counts down.
+/// channels of which it sees a half at which they may not go on, to wires of which it sees a free end, and to
+/// successors for which it counts down.
 pub fn steps_lead_by()
     ensures { StepsLeadBy }
 {}
@@ -82,8 +83,9 @@ pub fn places_may_come()
     ensures { PlacesMayCome }
 {}
 
-/// Which agents have a step in a state: processes that are ready, channels of which both halves are taken, wires with
-/// a message at one end and a taker at the other, and successors of which the last one ended.
+/// Which agents have a step in a state: processes that are ready, channels of which the output is taken and the input
+/// is taken or awaited, wires with a message at one end and a taker at the other, and successors of which the last one
+/// ended.
 pub fn agents_are_open_by()
     ensures { AgentsAreOpenBy }
 {}

@@ -61,6 +61,7 @@ numbers_afresh old new is numbering nn =
     record {
       words = x.words;
       stand = x.stand;
+      ports = x.ports;
       input = x.input;
       output = x.output;
       life = x.life;

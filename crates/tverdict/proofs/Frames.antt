@@ -4,9 +4,9 @@ use Rattle.std.specs.Prelude.{◌==◌, pos, slice_get, slice_set, if◌then◌e
 use Rattle.std.proofs.lemmas.Bool.{eq-eqb, eqb-true, false≢true}
 use Rattle.tplan.specs.declared.plan.Plan.{Plan}
 use Rattle.tprocesses.specs.Opening.{opening_state}
-use Rattle.tprocesses.specs.Places.{Place, WordAt, Sending, Standing, Half, LinkHalf, Error, HaltOnError, Life}
+use Rattle.tprocesses.specs.Places.{Place, WordAt, Sending, Standing, Ports, Half, LinkHalf, Error, HaltOnError, Life}
 use Rattle.tprocesses.specs.Places.{Successions, Messages, Kept, Population, HasRun, FlagChanged}
-use Rattle.tprocesses.specs.Values.{Value, IsStand, IsHalf, IsLink, IsFlag, IsAmount, IsCount}
+use Rattle.tprocesses.specs.Values.{Value, IsStand, IsHalf, IsLink, IsFlag, IsAmount, IsCount, ArePorts}
 use Rattle.tcertify.specs.declared.node.Node.{Node}
 use Rattle.tcertify.specs.Nodes.{board_of, node_at}
 use Rattle.tcertify.specs.Running.{State, run_part}
@@ -32,6 +32,9 @@ elsewhere n s (Sending m k) ne =
     (λ e. ne (eqb-true n.words.number m e))
 elsewhere n s (Standing x) ne =
     same_if (n.words.number == x.node) (IsStand ((board_of n).stand x)) (s (Standing x))
+    (λ e. ne (eqb-true n.words.number x.node e))
+elsewhere n s (Ports x) ne =
+    same_if (n.words.number == x.node) (ArePorts ((board_of n).ports x)) (s (Ports x))
     (λ e. ne (eqb-true n.words.number x.node e))
 elsewhere n s (Half m c side) ne =
     same_if (n.words.number == m) (IsHalf ((board_of n).half c side)) (s (Half m c side))
@@ -70,6 +73,8 @@ locally n r s (Sending m k) e =
     ap (λ (v : Value). if n.words.number == m then sending_or (slice_get n.words.items.items k) v else v) e
 locally n r s (Standing x) e =
     ap (λ (v : Value). if n.words.number == x.node then IsStand ((board_of n).stand x) else v) e
+locally n r s (Ports x) e =
+    ap (λ (v : Value). if n.words.number == x.node then ArePorts ((board_of n).ports x) else v) e
 locally n r s (Half m c side) e =
     ap (λ (v : Value). if n.words.number == m then IsHalf ((board_of n).half c side) else v) e
 locally n r s (LinkHalf f side) e =
@@ -122,6 +127,7 @@ over_scripts : (plan : Plan) (sent : List ℕ) (sinks : List Sink) (n : Node) (r
 over_scripts plan sent sinks n r (WordAt m k) = refl
 over_scripts plan sent sinks n r (Sending m k) = refl
 over_scripts plan sent sinks n r (Standing x) = refl
+over_scripts plan sent sinks n r (Ports x) = refl
 over_scripts plan sent sinks n r (Half m c side) = refl
 over_scripts plan sent sinks n r (LinkHalf f side) = refl
 over_scripts plan sent sinks n r (Error m) = refl

@@ -121,6 +121,8 @@ ended_so stand.Absent e = cc
 ended_so (stand.Rests c) e = cc
 ended_so (stand.Runs c) e = cc
 ended_so (stand.Waits c) e = cc
+ended_so (stand.Chooses c) e = cc
+ended_so (stand.Chosen c) e = cc
 ended_so stand.Ended e = refl
 
 -- the node of a number has berths for all

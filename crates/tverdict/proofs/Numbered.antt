@@ -15,7 +15,7 @@ use Rattle.tcertify.specs.Processes.{name_of}
 use Rattle.tcertify.proofs.Found.{find_apart}
 use Rattle.tcertify.proofs.Telling.{same_name-self, same_name-true}
 use Rattle.tverdict.specs.Numbers.{PlacesAreNumbered, half_place, node_in, number_among, number_at, numbering}
-use Rattle.tverdict.specs.Numbers.{or_beyond}
+use Rattle.tverdict.specs.Numbers.{or_beyond, process_number}
 
 module _ (nodes : List Node) (first k : ℕ) (node : Node) (there : slice_get nodes k ≡ Some node)
     (numbered : node.words.number ≡ k) where
@@ -28,11 +28,10 @@ module _ (nodes : List Node) (first k : ℕ) (node : Node) (there : slice_get no
       ap (or_beyond (λ (x : Node). number_at x p))
       (ap (λ (j : ℕ). slice_get nodes j) (e ∙ numbered) ∙ there)
 
-  stand_number : (j : ℕ) (p : Process) → slice_get node.processes.items.items j ≡ Some p
-      → numbering nodes first (place.Standing (name_of n p)) ≡ p.place
-  stand_number j p at =
-      own (place.Standing (name_of n p)) refl
-      ∙ ap (or_beyond (λ (q : Process). q.place))
+  process_found : (j : ℕ) (p : Process) → slice_get node.processes.items.items j ≡ Some p
+      → process_number node (name_of n p) ≡ p.place
+  process_found j p at =
+      ap (or_beyond (λ (q : Process). q.place))
       (find_apart (name_of 0) (λ q. same_name (name_of n q) (name_of n p)) node.processes.items.items j p
       node.processes.apart at (same_name-self (name_of n p))
       (λ y e. ap (λ (x : Name). record x { node = 0 }) (same_name-true (name_of n y) (name_of n p) e)))
@@ -56,7 +55,8 @@ module _ (nodes : List Node) (first k : ℕ) (node : Node) (there : slice_get no
           word = λ j. own (place.WordAt n j) refl;
           sending = λ j. own (place.Sending n j) refl;
         };
-        stand = stand_number;
+        stand = λ j p at. own (place.Standing (name_of n p)) refl ∙ process_found j p at;
+        ports = λ j p at. own (place.Ports (name_of n p)) refl ∙ process_found j p at;
         input = λ j c at. own (place.Half n c.address Input) refl
             ∙ ap (or_beyond (half_place Input)) (channel_found j c at);
         output = λ j c at. own (place.Half n c.address Output) refl

@@ -1,24 +1,24 @@
 -- Who has a step, by what the nodes have.
 use Rattle.std.proofs.Common.{◌≡◌, ◌<◌, ℕ, refl, sym, ap, ◌∙◌, subst, Bool, true, false, List, [], Option, Some}
-use Rattle.std.proofs.Common.{None, IsTrue, length}
+use Rattle.std.proofs.Common.{IsTrue, length}
 use Rattle.std.proofs.lemmas.List.{length-map}
 use Rattle.std.proofs.lemmas.Option.{same_Some, slice_get-map, slice_get_within}
-use Rattle.std.specs.Prelude.{◌==◌, ◌&&◌, ◌↔◌, find, is_some, slice_get, unwrap_or, option_map}
+use Rattle.std.specs.Prelude.{◌==◌, ◌&&◌, ◌↔◌, find, slice_get, unwrap_or, option_map}
 use Rattle.std.proofs.lemmas.Bool.{eq-eqb, eqb-true, false≢true}
 use Rattle.tagents.specs.Walks.{are_open}
 use Rattle.tplan.specs.declared.plan.Plan.{Plan}
-use Rattle.tproc.specs.declared.channels.Side.TheVariants as machineside
+use Rattle.tproc.specs.declared.channels.Side.TheVariants.{Input, Output}
 use Rattle.tprocesses.specs.Machine as machine
-use Rattle.tprocesses.specs.Machine.{Process, Channel, Successor, process_machine, is_ready, awaits_successor}
+use Rattle.tprocesses.specs.Machine.{Process, Channel, Successor, process_machine, is_ready, is_met_at}
+use Rattle.tprocesses.specs.Machine.{awaits_successor}
 use Rattle.tprocesses.specs.Places.{Name, Image, Standing, Half, WordAt}
-use Rattle.tprocesses.specs.Values.{Value, half_in, stand_in}
+use Rattle.tprocesses.specs.Values.{Value, Holder, half_in, stand_in}
 use Rattle.tcertify.specs.declared.channel.Channel as stored
-use Rattle.tcertify.specs.declared.channel.Request.{Request}
 use Rattle.tcertify.specs.declared.node.Node.{Node}
 use Rattle.tcertify.specs.declared.process.Process as kept
 use Rattle.tcertify.specs.declared.side.Side.TheVariants as side
 use Rattle.tcertify.specs.declared.stored.StoredWord.{StoredWord}
-use Rattle.tcertify.specs.Channels.{request_of, taken_half}
+use Rattle.tcertify.specs.Channels.{holder_of, held_half}
 use Rattle.tcertify.specs.Nodes.{name_at, names, address_at}
 use Rattle.tcertify.specs.Running.{State}
 use Rattle.tcertify.specs.Standing.{stand_of}
@@ -78,36 +78,31 @@ module _ (plan : Plan) (nodes : List Node) (sent : List ℕ) (sinks : List Sink)
       find_apart (λ h. h.address) (λ h. h.address == c.address) node.channels.items.items k c node.channels.apart at
       (eq-eqb c.address c.address refl) (λ y e. eqb-true y.address c.address e)
 
-  someone : (ns : List Name) (o : Option Request) → is_some (request_of ns o) ≡ is_some o
-  someone ns (Some r) = refl
-  someone ns None = refl
-
   input_now : (k : ℕ) (c : stored.Channel) → slice_get node.channels.items.items k ≡ Some c
-      → is_some (half_in (now (Half n c.address machineside.Input))) ≡ is_some c.input.request
+      → half_in (now (Half n c.address Input)) ≡ holder_of (names node) c.input.holder
   input_now k c at =
-      ap (λ (s : State). is_some (half_in (s (Half n c.address machineside.Input)))) (sym apart.before)
-      ∙ ap (λ (v : Value). is_some (half_in v))
-      (chosen (node.words.number == n) _ _ (eq-eqb node.words.number n numbered))
-      ∙ ap (λ (o : Option stored.Channel). is_some (taken_half (names node) side.Input o)) (found k c at)
-      ∙ someone (names node) c.input.request
+      ap (λ (s : State). half_in (s (Half n c.address Input))) (sym apart.before)
+      ∙ ap half_in (chosen (node.words.number == n) _ _ (eq-eqb node.words.number n numbered))
+      ∙ ap (held_half (names node) side.Input) (found k c at)
 
   output_now : (k : ℕ) (c : stored.Channel) → slice_get node.channels.items.items k ≡ Some c
-      → is_some (half_in (now (Half n c.address machineside.Output))) ≡ is_some c.output.request
+      → half_in (now (Half n c.address Output)) ≡ holder_of (names node) c.output.holder
   output_now k c at =
-      ap (λ (s : State). is_some (half_in (s (Half n c.address machineside.Output)))) (sym apart.before)
-      ∙ ap (λ (v : Value). is_some (half_in v))
-      (chosen (node.words.number == n) _ _ (eq-eqb node.words.number n numbered))
-      ∙ ap (λ (o : Option stored.Channel). is_some (taken_half (names node) side.Output o)) (found k c at)
-      ∙ someone (names node) c.output.request
+      ap (λ (s : State). half_in (s (Half n c.address Output))) (sym apart.before)
+      ∙ ap half_in (chosen (node.words.number == n) _ _ (eq-eqb node.words.number n numbered))
+      ∙ ap (held_half (names node) side.Output) (found k c at)
 
   pub channel_open : (k : ℕ) (c : stored.Channel) → slice_get node.channels.items.items k ≡ Some c
       → are_open (process_machine plan) (Channel n (address_there nodes n k)) now
-      ≡ (is_some c.input.request && is_some c.output.request)
+      ≡ (is_met_at (Half n c.address Input) (holder_of (names node) c.input.holder)
+      && is_met_at (Half n c.address Output) (holder_of (names node) c.output.holder))
   channel_open k c at =
       ap (λ (a : ℕ). are_open (process_machine plan) (Channel n a) now) (address_known k c at)
       ∙ (agents_are_open_by plan now).channel n c.address
-      ∙ ap (λ (b : Bool). b && is_some (half_in (now (Half n c.address machineside.Output)))) (input_now k c at)
-      ∙ ap (λ (b : Bool). is_some c.input.request && b) (output_now k c at)
+      ∙ ap (λ (h : Holder). is_met_at (Half n c.address Input) h
+      && is_met_at (Half n c.address Output) (half_in (now (Half n c.address Output)))) (input_now k c at)
+      ∙ ap (λ (h : Holder). is_met_at (Half n c.address Input) (holder_of (names node) c.input.holder)
+      && is_met_at (Half n c.address Output) h) (output_now k c at)
 
 -- what is false is false with anything
 pub first_false : (b c : Bool) → b ≡ false → b ≡ (b && c)

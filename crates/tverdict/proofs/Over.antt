@@ -231,7 +231,7 @@ module _ (plan : Plan) (number : ℕ) (m : Machine) (done : IsAnswered plan numb
         followed = steps_are_followed plan (places m) (agents m) done.steps number a told m.check c s
             (machine_at plan m) done.followed step;
         leads = λ n l x among has named other.
-            runs_tell_leads plan a (agent_of m.nodes.items x) s (machine_at plan m) done.runs other
+            runs_tell_leads plan a (agent_of m.nodes.items x) s (machine_at plan m) done.opened done.runs other
             (by_lead plan m fits a s n has.0 has.1 l x (led n l has.0 among has.1 has.2) named);
         fits = record {
           nodes = fits.nodes;

@@ -18,7 +18,7 @@ use Rattle.tprocesses.specs.LinkMessages.{sink_receives, source_sends}
 use Rattle.tprocesses.specs.Machine.{Role, Processor, Source, Sink, Nothing, role_at}
 use Rattle.tprocesses.specs.Opening.{messages_of, source_at, sink_at}
 use Rattle.tprocesses.specs.Parts.{HasNoStep, Part, Reason}
-use Rattle.tprocesses.specs.Places.{Place, WordAt, Sending, Standing, Half, LinkHalf, Error, HaltOnError, Life}
+use Rattle.tprocesses.specs.Places.{Place, WordAt, Sending, Standing, Ports, Half, LinkHalf, Error, HaltOnError, Life}
 use Rattle.tprocesses.specs.Places.{Successions, Messages, Kept, Population, HasRun, FlagChanged, same_place}
 use Rattle.tprocesses.specs.Values.{AreMessages, Value}
 use Rattle.tcertify.specs.declared.node.Node.{Node}
@@ -185,6 +185,7 @@ module _ (plan : Plan) (old : Machine) (e : End) (past : length plan.nodes ≤ e
   sent_else (WordAt m k) h = refl
   sent_else (Sending m k) h = refl
   sent_else (Standing x) h = refl
+  sent_else (Ports x) h = refl
   sent_else (Half m c side) h = refl
   sent_else (LinkHalf f side) h = refl
   sent_else (Error m) h = refl
@@ -361,6 +362,7 @@ module _ (plan : Plan) (old : Machine) (fits : Fits plan old) (e : End) (role : 
   sinks_else (WordAt m k) h = refl
   sinks_else (Sending m k) h = refl
   sinks_else (Standing x) h = refl
+  sinks_else (Ports x) h = refl
   sinks_else (Half m c side) h = refl
   sinks_else (LinkHalf f side) h = refl
   sinks_else (Error m) h = refl

@@ -24,7 +24,7 @@ use Rattle.tverdict.specs.declared.agent.Agent.{Agent}
 use Rattle.tverdict.specs.declared.agent.Agent.TheVariants as agent
 use Rattle.tverdict.specs.Agents.{HasChannel, HasProcess, IsThere, address_there, agent_of, name_there}
 use Rattle.tverdict.specs.Numbers.{beyond, half_place, link_number, node_in, number_among, number_at, numbering}
-use Rattle.tverdict.specs.Numbers.{or_beyond}
+use Rattle.tverdict.specs.Numbers.{or_beyond, process_number}
 use Rattle.tverdict.specs.Passing.{NodesGrow}
 use Rattle.tverdict.proofs.Numbered.{places_are_numbered}
 
@@ -167,11 +167,11 @@ module _ (nodes others : List Node) (g : NodesGrow nodes others) where
     fixed_stays = sym (among_new (place.Error o) numbered) ∙ on.error
 
     -- a place that had a number has it still
-    stand_at : (x : Name) → x.node ≡ n → (f : Option Process)
+    process_at : (x : Name) → x.node ≡ n → (f : Option Process)
         → find (λ p. same_name (name_of old.words.number p) x) old.processes.items.items ≡ f
-        → or_beyond (λ p. p.place) f < beyond → number_at new (place.Standing x) ≡ or_beyond (λ p. p.place) f
-    stand_at x e None is low = absurd (omega (arith, low))
-    stand_at x e (Some p) is low =
+        → or_beyond (λ p. p.place) f < beyond → process_number new x ≡ or_beyond (λ p. p.place) f
+    process_at x e None is low = absurd (omega (arith, low))
+    process_at x e (Some p) is low =
         let (k, at, same) = found_in _ old.processes.items.items p is in
         let name : name_of o p ≡ x = same_name-true (name_of o p) x same in
         sym (among_new (place.Standing x) e)
@@ -224,7 +224,8 @@ module _ (nodes others : List Node) (g : NodesGrow nodes others) where
     number_stays : (p : Place) → node_in p ≡ n → number_at old p < beyond → number_at new p ≡ number_at old p
     number_stays (place.WordAt m k) e low = ap (λ (f : ℕ). f + k) first_stays
     number_stays (place.Sending m k) e low = ap (λ (f : ℕ). f + k) first_stays
-    number_stays (place.Standing x) e low = stand_at x e _ refl low
+    number_stays (place.Standing x) e low = process_at x e _ refl low
+    number_stays (place.Ports x) e low = process_at x e _ refl low
     number_stays (place.Half m c Input) e low = input_at m c e _ refl low
     number_stays (place.Half m c Output) e low = output_at m c e _ refl low
     number_stays (place.LinkHalf f side) e low = ap (λ (b : ℕ). link_number b side f.link) fixed_stays
@@ -262,6 +263,7 @@ module _ (nodes others : List Node) (g : NodesGrow nodes others) where
     places_stay (place.WordAt m k) low = place_stays (place.WordAt m k) low
     places_stay (place.Sending m k) low = place_stays (place.Sending m k) low
     places_stay (place.Standing x) low = place_stays (place.Standing x) low
+    places_stay (place.Ports x) low = place_stays (place.Ports x) low
     places_stay (place.Half m c side) low = place_stays (place.Half m c side) low
     places_stay (place.LinkHalf f side) low = place_stays (place.LinkHalf f side) low
     places_stay (place.Error m) low = place_stays (place.Error m) low

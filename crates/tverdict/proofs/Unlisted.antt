@@ -2,7 +2,7 @@
 use Rattle.std.proofs.Common.{◌≡◌, ◌<◌, ◌≤◌, ◌+◌, ◌*◌, ℕ, suc, refl, sym, ap, ◌∙◌, subst, Bool, true, false, List, []}
 use Rattle.std.proofs.Common.{◌∷◌, Option, Some, None, All, cond, length, ◌⊎◌, inl, inr}
 use Rattle.std.proofs.Math.ListN.{get_or}
-use Rattle.std.specs.Prelude.{◌==◌, ◌&&◌, find, is_some, slice_get, option_map, Contains, if◌then◌else◌}
+use Rattle.std.specs.Prelude.{◌==◌, ◌&&◌, find, slice_get, option_map, Contains, if◌then◌else◌}
 use Rattle.std.proofs.lemmas.Bool.{eq-eqb, eqb-true}
 use Rattle.std.proofs.lemmas.Option.{get_or_from_slice_get, slice_get_cases, slice_get-get_or, slice_get-map}
 use Rattle.std.proofs.lemmas.Option.{slice_get_past, slice_get_within}
@@ -12,7 +12,7 @@ use Rattle.tplan.specs.declared.plan.Plan.{Plan}
 use Rattle.tagents.specs.Walks.{are_open}
 use Rattle.tproc.specs.declared.channels.Side.TheVariants as machineside
 use Rattle.tprocesses.specs.Machine as machine
-use Rattle.tprocesses.specs.Machine.{awaits_successor, is_ready, process_machine, sender_to}
+use Rattle.tprocesses.specs.Machine.{awaits_successor, is_met_at, is_ready, process_machine, sender_to}
 use Rattle.tprocesses.specs.Opening.{is_below, opened_word, opening_state, stand_of}
 use Rattle.tprocesses.specs.Places.{Name, Half, Standing, WordAt, same_name}
 use Rattle.tprocesses.specs.Values.{Absent, Free, IsStand, Saved, Use, Value, Word, half_in, stand_in}
@@ -22,7 +22,7 @@ use Rattle.tcertify.specs.declared.node.Node.{Node}
 use Rattle.tcertify.specs.declared.process.Process as kept
 use Rattle.tcertify.specs.declared.side.Side.TheVariants as side
 use Rattle.tcertify.specs.declared.stored.StoredWord.{StoredWord}
-use Rattle.tcertify.specs.Channels.{taken_half}
+use Rattle.tcertify.specs.Channels.{held_half}
 use Rattle.tcertify.specs.Nodes.{board_of, names}
 use Rattle.tcertify.specs.Processes.{name_of, stand_or_absent}
 use Rattle.tcertify.specs.Running.{State}
@@ -132,15 +132,16 @@ module _ (plan : Plan) (m : Machine) (f : Follows plan m) (quiet : All AwaitNoth
       (gone_plan x.node past)
 
   shut_half : (n c : ℕ) → Lies nodes n → IsNew (agents m) (machine.Channel n c)
-      → is_some (half_in (now (Half n c machineside.Input))) ≡ false
+      → is_met_at (Half n c machineside.Input) (half_in (now (Half n c machineside.Input))) ≡ false
   shut_half n c (inl (node, low, there, g)) new =
-      ap (λ (o : Option Node). is_some (half_in (at_node o (opening_state plan) (Half n c machineside.Input)))) there
-      ∙ ap (λ (v : Value). is_some (half_in v))
+      ap (λ (o : Option Node). is_met_at (Half n c machineside.Input)
+      (half_in (at_node o (opening_state plan) (Half n c machineside.Input)))) there
+      ∙ ap (λ (v : Value). is_met_at (Half n c machineside.Input) (half_in v))
       (chosen (node.words.number == n) _ _ (eq-eqb node.words.number n (numbered_node n node there)))
       ∙ by (find (λ h. h.address == c) node.channels.items.items) refl
     where
       by : (o : Option stored.Channel) → find (λ h. h.address == c) node.channels.items.items ≡ o
-          → is_some (taken_half (names node) side.Input o) ≡ false
+          → is_met_at (Half n c machineside.Input) (held_half (names node) side.Input o) ≡ false
       by None e = refl
       by (Some h) e =
           let (k, at, same) = found_there (λ q. q.address == c) node.channels.items.items h e in
@@ -151,13 +152,14 @@ module _ (plan : Plan) (m : Machine) (f : Follows plan m) (quiet : All AwaitNoth
           ((f.1).sound.found.channels n k (node, there, slice_get_within node.channels.items.items k h at))
           (ap (λ (a : ℕ). machine.Channel n a) named) new)
   shut_half n c (inr (past, gone)) new =
-      ap (λ (o : Option Node). is_some (half_in (at_node o (opening_state plan) (Half n c machineside.Input)))) gone
+      ap (λ (o : Option Node). is_met_at (Half n c machineside.Input)
+      (half_in (at_node o (opening_state plan) (Half n c machineside.Input)))) gone
 
   shut_channel : (n c : ℕ) → IsNew (agents m) (machine.Channel n c)
       → are_open (process_machine plan) (machine.Channel n c) now ≡ false
   shut_channel n c new =
       (agents_are_open_by plan now).channel n c
-      ∙ ap (λ (b : Bool). b && is_some (half_in (now (Half n c machineside.Output))))
+      ∙ ap (λ (b : Bool). b && is_met_at (Half n c machineside.Output) (half_in (now (Half n c machineside.Output))))
       (shut_half n c ((slice_get_cases nodes n).1) new)
 
   shut_wire : (e : End) → IsNew (agents m) (machine.Wire e)

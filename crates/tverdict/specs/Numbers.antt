@@ -4,7 +4,7 @@ use Rattle.std.specs.Prelude.{ℕ, ◌≡◌, ◌+◌, ◌^◌, ◌==◌, List, 
 use Rattle.tproc.specs.declared.channels.Side.{Side}
 use Rattle.tproc.specs.declared.channels.Side.TheVariants.{Input, Output}
 use Rattle.tprocesses.specs.Places as place
-use Rattle.tprocesses.specs.Places.{Place, same_name}
+use Rattle.tprocesses.specs.Places.{Place, Name, same_name}
 use Rattle.tcertify.specs.declared.channel.Channel.{Channel}
 use Rattle.tcertify.specs.declared.node.Node.{Node}
 use Rattle.tcertify.specs.Nodes.{NumbersNode}
@@ -30,12 +30,17 @@ abbrev pub link_number : ℕ → Side → ℕ → ℕ
 link_number first Input k = first + 6 + k
 link_number first Output k = first + 10 + k
 
+-- the number of the places of a process: of where it stands, and of the channels that it has enabled
+abbrev pub process_number : Node → Name → ℕ
+process_number n x =
+    or_beyond (λ p. p.place) (find (λ p. same_name (name_of n.words.number p) x) n.processes.items.items)
+
 -- the number that a node has for a place of its own
 abbrev pub number_at : Node → Place → ℕ
 number_at n (place.WordAt m k) = n.words.first_place + k
 number_at n (place.Sending m k) = n.words.first_place + k
-number_at n (place.Standing x) =
-    or_beyond (λ p. p.place) (find (λ p. same_name (name_of n.words.number p) x) n.processes.items.items)
+number_at n (place.Standing x) = process_number n x
+number_at n (place.Ports x) = process_number n x
 number_at n (place.Half m c side) = or_beyond (half_place side) (find (λ h. h.address == c) n.channels.items.items)
 number_at n (place.LinkHalf e side) = link_number n.fixed_place side e.link
 number_at n (place.Error m) = n.fixed_place
@@ -54,6 +59,7 @@ abbrev pub node_in : Place → ℕ
 node_in (place.WordAt n k) = n
 node_in (place.Sending n k) = n
 node_in (place.Standing x) = x.node
+node_in (place.Ports x) = x.node
 node_in (place.Half n c side) = n
 node_in (place.LinkHalf e side) = e.node
 node_in (place.Error n) = n

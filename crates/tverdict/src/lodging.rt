@@ -36,7 +36,12 @@ fn is_ended(stand: &Stand) -> bool
 {
     match stand {
         Stand::Ended => true,
-        Stand::Absent | Stand::Rests(_) | Stand::Runs(_) | Stand::Waits(_) => false,
+        Stand::Absent
+        | Stand::Rests(_)
+        | Stand::Runs(_)
+        | Stand::Waits(_)
+        | Stand::Chooses(_)
+        | Stand::Chosen(_) => false,
     }
 }
 
@@ -62,7 +67,12 @@ fn is_absent(stand: &Stand) -> bool
 {
     match stand {
         Stand::Absent => true,
-        Stand::Rests(_) | Stand::Runs(_) | Stand::Waits(_) | Stand::Ended => false,
+        Stand::Rests(_)
+        | Stand::Runs(_)
+        | Stand::Waits(_)
+        | Stand::Chooses(_)
+        | Stand::Chosen(_)
+        | Stand::Ended => false,
     }
 }
 

@@ -1,13 +1,15 @@
 //! Which agents have a step.
 
-ghost use Rattle.std.specs.Prelude.{◌≡◌, ◌<◌, ◌↔◌, ◌&&◌, ℕ, length, is_some, nat_lt, IsTrue, List, Some};
+ghost use Rattle.std.specs.Prelude.{◌≡◌, ◌<◌, ◌↔◌, ◌&&◌, ℕ, length, nat_lt, IsTrue, List, Some};
 ghost use Rattle.std.specs.Prelude.{slice_get, slice_index};
 ghost use Rattle.tplan.specs.declared.plan.Plan.{Plan};
 ghost use Rattle.tagents.specs.Walks.{are_open};
-ghost use Rattle.tprocesses.specs.Machine.{awaits_successor, is_offered, is_ready, process_machine, role_at};
+ghost use Rattle.tproc.specs.declared.channels.Side.TheVariants.{Input, Output};
+ghost use Rattle.tprocesses.specs.Machine.{awaits_successor, is_met_at, is_offered, is_ready, process_machine, role_at};
 ghost use Rattle.tprocesses.specs.Machine.{sender_to};
+ghost use Rattle.tprocesses.specs.Places.{Half};
 ghost use Rattle.tplan.specs.Wires.{all_wires};
-ghost use Rattle.tcertify.specs.Channels.{link_of, link_or_empty};
+ghost use Rattle.tcertify.specs.Channels.{holder_of, link_of, link_or_empty};
 ghost use Rattle.tcertify.specs.Standing.{stand_of};
 ghost use Rattle.tcertify.specs.Words.{use_of};
 ghost use Rattle.tverdict.specs.Agents.{HasChannel, HasProcess, HasWord, IsThere, agent_of};
@@ -18,7 +20,7 @@ ghost use Rattle.tverdict.specs.declared.agent.Agent.TheVariants as agents;
 use crate::agent::Agent;
 use crate::machine::Machine;
 use crate::scripts::messages_at;
-use tcertify::{LinkHalf, Stand, WordUse};
+use tcertify::{Holder, LinkHalf, Stand, WordUse};
 use tnet::Wires;
 use tplan::{End, Plan};
 
@@ -28,8 +30,30 @@ fn is_ready_at(stand: &Stand) -> bool
     ensures { result ≡ is_ready (stand_of stand.now) }
 {
     match stand {
-        Stand::Rests(_) | Stand::Runs(_) => true,
-        Stand::Absent | Stand::Waits(_) | Stand::Ended => false,
+        Stand::Rests(_) | Stand::Runs(_) | Stand::Chosen(_) => true,
+        Stand::Absent | Stand::Waits(_) | Stand::Chooses(_) | Stand::Ended => false,
+    }
+}
+
+/// Whether a channel may go on at its input with this holder.
+#[inline(always)]
+fn is_met_at_input(holder: &Holder) -> bool
+    ensures { (n c : ℕ) (names : _) → result ≡ is_met_at (Half n c Input) (holder_of names holder.now) }
+{
+    match holder {
+        Holder::Taken(_) | Holder::Awaited(_) => true,
+        Holder::Nobody | Holder::Enabled(_) => false,
+    }
+}
+
+/// Whether a channel may go on at its output with this holder.
+#[inline(always)]
+fn is_met_at_output(holder: &Holder) -> bool
+    ensures { (n c : ℕ) (names : _) → result ≡ is_met_at (Half n c Output) (holder_of names holder.now) }
+{
+    match holder {
+        Holder::Taken(_) => true,
+        Holder::Nobody | Holder::Enabled(_) | Holder::Awaited(_) => false,
     }
 }
 
@@ -73,7 +97,12 @@ pub(crate) fn awaits(used: WordUse) -> bool
 {
     match used {
         WordUse::Last(_) | WordUse::Spoilt => true,
-        WordUse::Free | WordUse::Saved | WordUse::Receiving | WordUse::Engaged => false,
+        WordUse::Free
+        | WordUse::Saved
+        | WordUse::Receiving
+        | WordUse::Engaged
+        | WordUse::Choosing
+        | WordUse::Awaiting => false,
     }
 }
 
@@ -111,7 +140,7 @@ impl Machine {
             (agent_of self.now.nodes.items (agents.Channel node channel)) (machine_at plan self.now) }
     {
         let channel = &self.nodes[node as usize].channels.items[channel as usize];
-        channel.input.request.is_some() && channel.output.request.is_some()
+        is_met_at_input(&channel.input.holder) && is_met_at_output(&channel.output.holder)
     }
 
     /// Whether a message is there to be sent at an end.

@@ -8,4 +8,5 @@ returns-in-Some-clause-told c =
 pub returns-in-Over-clause-told : goal.returns-in-Over-clause-told
 returns-in-Over-clause-told c =
     c.ending.ensures c.args.plan.now c.args.most_steps
-    (over_follows _ _ _ _ c.in-Over.is c.in_ok-turn.ensures).0 (over_follows _ _ _ _ c.in-Over.is c.in_ok-turn.ensures).1
+    (over_follows _ _ _ _ c.in-Over.is c.in_ok-turn.ensures).0
+    (over_follows _ _ _ _ c.in-Over.is c.in_ok-turn.ensures).1
