@@ -153,7 +153,8 @@ module _ (p : Plan) (steps : List ProcessStep) (end : State) (none : fault_of p 
         known = λ e. subst (λ z. AreKnownAs [] (arrived e z)) (sym run.0) tt;
       })
   run_seen c c' (l ∷ ls) notes reached seen run =
-      let after : IsNextSeen p c seen (note_of c l) run.0 = step_seen p steps end k c reached seen run.0 l run.2 in
+      let after : IsNextSeen p c seen (note_of c l) run.0 =
+      step_seen p steps end k c reached seen run.0 l run.2 in
       let there : IsReached p run.0 = reached_step p c run.0 l reached run.2 in
       let rest : IsRunSeen run.0 after.next ls run.1 c' = run_seen run.0 c' ls run.1 there after.next run.4 in
       record {

@@ -1,4 +1,9 @@
 -- A node at which no process runs is shown once a new one has come and runs.
+use Rattle.tprocesses.specs.Values.{amount_in}
+use Rattle.tseen.proofs.Choices.{stands_alike, quiet_alike, alternative_none, choices_stay}
+use Rattle.tprocesses.specs.Values.{stand_in}
+use Rattle.tprocesses.specs.Places.{Ports}
+use Rattle.tseen.specs.Choices.{alternative_of, alternative_at, is_quiet}
 use Rattle.std.proofs.Common.{◌≡◌, ℕ, suc, ◌+◌, ◌<◌, ◌≤◌, ◌%◌, refl, sym, ap, subst, ◌∙◌, Bool, true, false, true≢false}
 use Rattle.std.proofs.Common.{length, cond, Option, Some, None, arith, ◌⊎◌, inl, inr, pos}
 use Rattle.std.specs.Prelude.{◌==◌, is_some, if◌then◌else◌}
@@ -54,7 +59,7 @@ module _ (p : Plan) (plan : NodePlan) (n : ℕ) (s s' : State) (named : Seat →
     (node : Node) (shown : ShowsNode s n plan named sent node) (idle : node.machine.control.current ≡ None)
     (kept : KeepsFlags s n) (y : Name) (level : ℕ) (small : level < 2) (after : Registers)
     (aligned : after.wptr % 4 ≡ 0) (count : ℕ) (d : Context) (knows : HasRegisters level after d)
-    (flags : HasFlags s' n after) (new : HasArrived n y d s s') where
+    (flags : HasFlags s' n after) (plain : d.choice ≡ None) (new : HasArrived n y d s s') where
   abbrev m : Control
   m = node.machine.control
 
@@ -107,7 +112,8 @@ module _ (p : Plan) (plan : NodePlan) (n : ℕ) (s s' : State) (named : Seat →
   seated (Waiting b) h =
       let old : IsSeated s n node (Waiting b) (named (Waiting b)) = shown.processes.seated (Waiting b) h in
       waiting_seated n y s s' stand_stays run_stays node node' b (named (Waiting b))
-      (not_new (named (Waiting b)) old.stand old.stands (waiting_there node b old.stand old.fits)) (λ f. f) refl old
+      (not_new (named (Waiting b)) old.stand old.stands (waiting_there node b old.stand old.fits))
+      (λ f. f) (λ f. f) refl old
 
   abbrev HasPlace : Name → Type 0
   HasPlace z = IsGone s' n z ⊎ ((q : Seat) × (is_taken m'.control q ≡ true) × (named' q ≡ z))
@@ -202,4 +208,18 @@ module _ (p : Plan) (plan : NodePlan) (n : ℕ) (s s' : State) (named : Seat →
         links = λ l h. link_stays s s' n named named' sent node node' l (λ b. refl)
             (λ side. stay (LinkHalf (end_at n l) side) refl) refl refl (shown.links l h);
         processes = processes_now;
+        choices = choices_stay s s' n node.machine.store node.machine.store
+            (λ z h. stands_alike p s s' n y stand_stays (standing_now ∙ sym standing_before) z)
+            (λ z h e. quiet_alike p s s' n y stand_stays quiet_now z e) (λ z h. stay (Ports z) refl)
+            (λ a side. stay (Half n a side) refl) (λ j e z. ap amount_in (stay (Sending n j) refl) ∙ z)
+            (λ j e. stay (WordAt n j) refl) refl (λ a e f. refl) shown.choices;
       }
+    where
+      standing_now : alternative_at s' n y ≡ None
+      standing_now = ap (λ (v : Value). alternative_of (stand_in v)) new.stand ∙ alternative_none true false d plain
+
+      standing_before : alternative_at s n y ≡ None
+      standing_before = ap (λ (v : Value). alternative_of (stand_in v)) new.absent
+
+      quiet_now : is_quiet (stand_in (s' (Standing y))) ≡ true
+      quiet_now = ap (λ (v : Value). is_quiet (stand_in v)) new.stand

@@ -123,7 +123,7 @@ module _ (p : Plan) (c : Configuration) (s : State) (n : ℕ) (x : Name) (k : Is
       step_then p c s n x k Q (λ i decodes pp t. record {
         goes = λ d e u w.
             absurd (go_not_scheduled o (sym e ∙ one_next (sym (next_is p c s n x k i pp t decodes d) ∙ next)));
-        jumps = λ d e u m f.
+        jumps = λ d e u m f still.
             absurd (jumped_not_scheduled o (sym e ∙ one_next (sym (next_is p c s n x k i pp t decodes d) ∙ next)));
         schedules = λ d o' e u moved_on.
             let same : o' ≡ o = one_operation (sym e ∙ one_next (sym (next_is p c s n x k i pp t decodes d) ∙ next)) in

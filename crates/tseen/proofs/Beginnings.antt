@@ -246,6 +246,7 @@ module _ (p : Plan) (c : Configuration) (s : State) (n : ℕ) (x : Name) (k : Is
           context = goes;
           goes = stands;
           registers = pop (pop registers);
+          same_choice = refl;
           knows = record {
             priority = knows.priority;
             wptr = knows.wptr;
@@ -353,6 +354,7 @@ module _ (p : Plan) (c : Configuration) (s : State) (n : ℕ) (x : Name) (k : Is
           context = goes_on_with;
           goes = stands;
           registers = pop registers;
+          same_choice = refl;
           knows = record {
             priority = knows.priority;
             wptr = knows.wptr;
@@ -440,7 +442,7 @@ beginnings_are_seen p c s s' n x o k next begins told few makes =
     (step_then p c s n x k (λ _ z. HasFew z n → LeadsTo p c n z) (λ i decodes pp t. record {
       goes = λ d e u w.
           absurd (go_not_scheduled o (sym e ∙ one_next (sym (next_is p c s n x k i pp t decodes d) ∙ next)));
-      jumps = λ d e u m f.
+      jumps = λ d e u m f still.
           absurd (jumped_not_scheduled o (sym e ∙ one_next (sym (next_is p c s n x k i pp t decodes d) ∙ next)));
       schedules = λ d o' e u m.
           let same : o' ≡ o = one_operation (sym e ∙ one_next (sym (next_is p c s n x k i pp t decodes d) ∙ next)) in

@@ -1,4 +1,8 @@
 -- A process has begun another one: the node is shown.
+use Rattle.tprocesses.specs.Places.{Sending}
+use Rattle.tprocesses.specs.Places.{Ports}
+use Rattle.tseen.specs.Choices.{alternative_of, alternative_at, is_quiet}
+use Rattle.tseen.proofs.Choices.{is_lasting, lasting_not_free, both_alike, both_quiet, alternative_alike, choices_stay}
 use Rattle.std.proofs.Common.{◌≡◌, ◌≢◌, ℕ, ◌+◌, ◌<◌, refl, sym, ap, subst, ◌∙◌, Bool, true, false, true≢false}
 use Rattle.std.proofs.Common.{Contains, cond}
 use Rattle.std.proofs.Common.{Ok, Option, Some, None, arith, ◌⊎◌, inl, inr, pos, IfSome}
@@ -20,7 +24,8 @@ use Rattle.tplan.specs.Wires.{end_at}
 use Rattle.tnet.specs.Rendezvous.{Node, Configuration}
 use Rattle.tprocesses.specs.Places.{Place, Name, WordAt, Standing, Half, LinkHalf, Error, HaltOnError, Life, Population}
 use Rattle.tprocesses.specs.Places.{HasRun, same_name}
-use Rattle.tprocesses.specs.Values.{Value, Use, Free, Saved, Engaged, Context, Lent, Stand, Absent, Rests, Runs, Waits}
+use Rattle.tprocesses.specs.Values.{Chosen, Chooses, Value, Use, Free, Saved, Engaged, Context, Lent, Stand, Absent}
+use Rattle.tprocesses.specs.Values.{Rests, Runs, Waits}
 use Rattle.tprocesses.specs.Values.{Ended, IsStand, IsAmount, IsFlag, word_in, stand_in, amount_in}
 use Rattle.tprocesses.specs.Changes.{Add, Raise, apply}
 use Rattle.tprocesses.specs.Touching.{is_zero}
@@ -49,7 +54,7 @@ use Rattle.tseen.proofs.Counted.{one_more}
 use Rattle.tseen.proofs.Joined.{counted_now, many_now, still_queued, was_queued, queued_now, own_workspace}
 use Rattle.tseen.proofs.Joined.{own_priority}
 use Rattle.tseen.proofs.BegunWords.{HasBegun, made, size_after, iptr_there, hidden_still, at, unfree, used, tells_now}
-use Rattle.tseen.proofs.BegunWords.{channel_stays, marks_now, new_there}
+use Rattle.tseen.proofs.BegunWords.{lasting_stays, marks_now, new_there}
 
 -- a flag that is raised
 flag_cases : (v : Value) → ((b : Bool) × (v ≡ IsFlag b)) → (v ≡ IsFlag true) ⊎ (v ≡ IsFlag false)
@@ -230,10 +235,23 @@ module _ (p : Plan) (c : Configuration) (s : State) (n : ℕ) (x : Name) (k : Is
                   (iptr_stays stepped (workspace_of process) (queued_descheduled m process taken)) f;
               has_run = has_run_stays (Rests d) r;
             }
+        by (Chosen d) e f r =
+            record {
+              home = q.home;
+              stand = Chosen d;
+              stands = other_stand y (Chosen d) e refl refl;
+              fits = (
+                saved_stays k.node.machine.store now.store process d
+                    (iptr_stays stepped (workspace_of process) (queued_descheduled m process taken)) f.0,
+                f.1,
+              );
+              has_run = has_run_stays (Chosen d) r;
+            }
         by Absent e f r = absurd f
         by (Runs d) e f r = absurd f
         by (Waits d) e f r = absurd f
         by Ended e f r = absurd f
+        by (Chooses d) e f r = absurd f
 
     waiting_seated : (process : ℕ) (y : Name) → is_taken m (Waiting process) ≡ true
         → IsSeated s n k.node (Waiting process) y → IsSeated s' n node' (Waiting process) y
@@ -263,9 +281,18 @@ module _ (p : Plan) (c : Configuration) (s : State) (n : ℕ) (x : Name) (k : Is
               fits = (stays d f.0, f.1);
               has_run = has_run_stays (Waits d) r;
             }
+        by (Chooses d) e f r =
+            record {
+              home = q.home;
+              stand = Chooses d;
+              stands = other_stand y (Chooses d) e refl refl;
+              fits = (stays d f.0, f.1, f.2);
+              has_run = has_run_stays (Chooses d) r;
+            }
         by Absent e f r = absurd f
         by (Runs d) e f r = absurd f
         by Ended e f r = absurd f
+        by (Chosen d) e f r = absurd f
 
     interrupted_seated : is_some m.interrupted ≡ true → IsSeated s' n node' Interrupted (named Interrupted)
     interrupted_seated h = with_seat (shown.processes.seated Interrupted h)
@@ -287,6 +314,8 @@ module _ (p : Plan) (c : Configuration) (s : State) (n : ℕ) (x : Name) (k : Is
         by q (Rests d) e f r = absurd f
         by q (Waits d) e f r = absurd f
         by q Ended e f r = absurd f
+        by q (Chooses d) e f r = absurd f
+        by q (Chosen d) e f r = absurd f
 
         with_seat : IsSeated s n k.node Interrupted (named Interrupted)
             → IsSeated s' n node' Interrupted (named Interrupted)
@@ -440,11 +469,43 @@ module _ (p : Plan) (c : Configuration) (s : State) (n : ℕ) (x : Name) (k : Is
               (λ j e. ap (λ (z : Value). (word_in z).used) (unfree p c s n x k s' b j (engaged_free e)) ∙ e)
               (λ j e. engaged_back j e (used p c s n x k s' b j))
               (λ a side. stay (Half n a side) refl refl refl) (λ q. refl)
-              (size_after p c s n x k s' b ∙ sym shown.size) (channel_stays p c s n x k s' b) shown.channels;
+              (size_after p c s n x k s' b ∙ sym shown.size)
+              (λ a h e. lasting_stays p c s n x k s' b a h (ap is_lasting e)) shown.channels;
           links = λ l h. link_stays s s' n named named' (k.shows.sent n) k.node node' l (λ a. refl)
               (λ side. stay (LinkHalf (end_at n l) side) refl refl refl) refl refl (shown.links l h);
           processes = processes_now;
+          choices = choices_stay s s' n k.node.machine.store now.store
+              (λ y h. both_alike p s s' n x b.child stand_stays parent_alternative (child_now ∙ sym child_before) y)
+              (λ y h e. both_quiet p s s' n x b.child stand_stays parent_quiet child_quiet y e)
+              (λ y h. stay (Ports y) refl refl refl) (λ a side. stay (Half n a side) refl refl refl)
+              (λ j e z. ap amount_in (stay (Sending n j) refl refl refl) ∙ z)
+              (λ j e. unfree p c s n x k s' b j (lasting_not_free e))
+              (size_after p c s n x k s' b ∙ sym shown.size) (lasting_stays p c s n x k s' b) shown.choices;
         }
+      where
+        stand_stays : (y : Name) → same_name x y ≡ false → same_name b.child y ≡ false
+            → s' (Standing y) ≡ s (Standing y)
+        stand_stays y e f = stay (Standing y) e f refl
+
+        parent_alternative : alternative_at s' n x ≡ alternative_at s n x
+        parent_alternative =
+            ap (λ (z : Value). alternative_of (stand_in z)) b.goes.is
+            ∙ alternative_alike running.context b.context b.same_choice
+            (b.knows.priority ∙ sym running.registers.priority)
+            (inr (b.knows.wptr ∙ b.same_wptr ∙ sym running.registers.wptr))
+            ∙ sym (ap (λ (z : Value). alternative_of (stand_in z)) running.stood)
+
+        child_now : alternative_at s' n b.child ≡ None
+        child_now = ap (λ (z : Value). alternative_of (stand_in z)) child_stands
+
+        child_before : alternative_at s n b.child ≡ None
+        child_before = ap (λ (z : Value). alternative_of (stand_in z)) was_absent
+
+        parent_quiet : is_quiet (stand_in (s' (Standing x))) ≡ true
+        parent_quiet = ap (λ (z : Value). is_quiet (stand_in z)) b.goes.is
+
+        child_quiet : is_quiet (stand_in (s' (Standing b.child))) ≡ true
+        child_quiet = ap (λ (z : Value). is_quiet (stand_in z)) child_stands
 
     -- places of other nodes stay
     elsewhere : (q : Place) → node_at q ≢ n → s' q ≡ s q

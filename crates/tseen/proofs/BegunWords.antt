@@ -1,4 +1,5 @@
 -- A process has begun another one: the words after it.
+use Rattle.tseen.proofs.Choices.{is_lasting, lasting_not_free, lasting_not_saved}
 use Rattle.std.proofs.Common.{◌≡◌, ◌≢◌, ℕ, ◌+◌, ◌*◌, ◌<◌, ◌≤◌, ◌/◌, ◌%◌, ◌^◌, refl, sym, ap, subst, ◌∙◌, true, false}
 use Rattle.std.proofs.Common.{true≢false, length, get_or, Contains, Option, None, arith, map, ◌⊎◌, inl, inr}
 use Rattle.std.proofs.lemmas.Bool.{cases_eq, eqb-true}
@@ -15,7 +16,7 @@ use Rattle.tproc.proofs.WordsApart.{LiesWord}
 use Rattle.tplan.specs.declared.plan.Plan.{Plan}
 use Rattle.tnet.specs.Rendezvous.{Configuration}
 use Rattle.tprocesses.specs.Places.{Place, Name, WordAt, Sending}
-use Rattle.tprocesses.specs.Values.{Value, Free, Saved, Engaged, Context, Rests, Runs, word_in, amount_in, unknown}
+use Rattle.tprocesses.specs.Values.{Value, Free, Saved, Context, Rests, Runs, word_in, amount_in, unknown}
 use Rattle.tprocesses.specs.Touching.{Site, word_number, kept}
 use Rattle.tprocesses.specs.Standing.{fresh}
 use Rattle.tprocesses.specs.Machine.{site_of}
@@ -73,6 +74,7 @@ pub record HasBegun (p : Plan) (c : Configuration) (s : State) (n : ℕ) (x : Na
   pub goes : StandsNow (site_of n k.plan) x (Runs context) v s'
   pub registers : Registers
   pub knows : HasRegisters (there p c s n x k).level registers context
+  pub same_choice : context.choice ≡ (there p c s n x k).context.choice
   pub same_wptr : registers.wptr ≡ k.node.machine.control.registers.wptr
   pub same_error : registers.error ≡ k.node.machine.control.registers.error
   pub same_halting : registers.halt_on_error ≡ k.node.machine.control.registers.halt_on_error
@@ -309,23 +311,17 @@ module _ (p : Plan) (c : Configuration) (s : State) (n : ℕ) (x : Name) (k : Is
           by (inr a) (inr c) (inr d) (inl f) =
               as_before j h (ap (λ (z : Value). (word_in z).cells) (other_is words (j / 4) a c d)) a f
 
-  -- a channel word stays
-  pub channel_stays : (a : ℕ) → word_place_break (length store) a ≡ None → use_at s n a ≡ Engaged
+  -- a word in use as a channel or for an alternative stays
+  pub lasting_stays : (a : ℕ) → word_place_break (length store) a ≡ None → is_lasting (use_at s n a) ≡ true
       → word_at made.store a ≡ word_at store a
-  channel_stays a h e =
+  lasting_stays a h e =
       let l : (place a ≡ 4 * word_number a) × (most_neg ≤ a) × (4 * word_number a + 4 ≤ size) =
       word_lies site running.whole a (subst (λ z. word_place_break z a ≡ None) shown.size h) in
       same_word_at store made.store a (omega (arith, l.0, l.2, shown.size)) (size_after ∙ sym shown.size)
       (λ j low high.
       let word : j / 4 ≡ word_number a = omega (arith, l.0, low, high) in
-      other_cell j (λ f. not_free (sym e ∙ sym (ap (use_of s n) word) ∙ f))
-      (λ f. not_saved (sym e ∙ sym (ap (use_of s n) word) ∙ f)))
-    where
-      not_free : Engaged ≡ Free → ⊥
-      not_free e = cc
-
-      not_saved : Engaged ≡ Saved → ⊥
-      not_saved e = cc
+      other_cell j (λ f. lasting_not_free e (sym (ap (use_of s n) word) ∙ f))
+      (λ f. lasting_not_saved e (sym (ap (use_of s n) word) ∙ f)))
 
   -- the claims are marked
   pub marks_now : AreMarked s' n (k.shows.sent n) made.control

@@ -1,4 +1,8 @@
 -- What is shown of internal channels stays shown where those that wait at one wait there still.
+use Rattle.tseen.specs.Halves.{HasHolder}
+use Rattle.tseen.specs.Choices.{enabler}
+use Rattle.tproc.specs.declared.channels.Side.TheVariants.{Input}
+use Rattle.std.proofs.Common.{inl, inr}
 use Rattle.std.proofs.Common.{◌≡◌, ℕ, sym, ap, subst, ◌∙◌, length, Some, None}
 use Rattle.tword.specs.Stores.{word_at}
 use Rattle.tword.specs.Touches.{word_place_break}
@@ -7,7 +11,7 @@ use Rattle.tproc.specs.declared.channels.Side.{Side}
 use Rattle.tproc.specs.Machine.{Machine}
 use Rattle.tproc.specs.ProcessStatus.{reason_of}
 use Rattle.tprocesses.specs.Places.{Name, Half}
-use Rattle.tprocesses.specs.Values.{Engaged, IsHalf, Request}
+use Rattle.tprocesses.specs.Values.{Value, TakenBy, Engaged, IsHalf, Request, half_in}
 use Rattle.tprocesses.specs.Touching.{word_number}
 use Rattle.tseen.specs.Seats.{Seat, Waiting}
 use Rattle.tseen.specs.Words.{use_at}
@@ -52,7 +56,11 @@ module _ (s s' : State) (n : ℕ) (named named' : Seat → Name) (m m' : Machine
         halves = λ c side. ((h.halves c side).0, k.halves c side ∙ (h.halves c side).1);
         waiting = λ process c side buffer e. (let w = k.waited process c side buffer e in
             k.halves c side ∙ h.waiting process c side buffer w.0
-            ∙ ap (λ y. IsHalf (Some (record { process = y; buffer = buffer }))) (sym w.1));
+            ∙ ap (λ y. IsHalf (TakenBy (record { process = y; buffer = buffer }))) (sym w.1));
         engaged = λ j e. (let f = h.engaged j (k.engaged_back j e) in
-            (f.0, f.1, f.2, f.3, k.halves f.0 f.1 ∙ f.4));
+            (f.0, f.1, held f.0 f.2));
       }
+    where
+      held : (c : ℕ) → HasHolder s n named c → HasHolder s' n named' c
+      held c (inl (side, q, e)) = inl (side, q, k.halves c side ∙ e)
+      held c (inr (x, e)) = inr (x, ap (λ (v : Value). enabler (half_in v)) (k.halves c Input) ∙ e)

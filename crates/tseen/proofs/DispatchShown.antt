@@ -1,4 +1,37 @@
 -- A dispatch is seen as that the process goes on from its rest.
+use Rattle.std.proofs.Common.{ℤ}
+use Rattle.tseen.proofs.ChoicePlain.{alternative_context}
+use Rattle.tseen.proofs.TakenBack.{fewer_at}
+use Rattle.tprocesses.specs.Values.{amount_in}
+use Rattle.tseen.proofs.Resumed.{numbers_apart}
+use Rattle.tproc.specs.declared.channels.Side.{Side}
+use Rattle.tprocesses.specs.Touching.{word_number}
+use Rattle.tword.specs.Touches.{word_place_break}
+use Rattle.tproc.specs.Queues.{state_word}
+use Rattle.tproc.specs.Channels.{ready}
+use Rattle.tprocesses.specs.Values.{Choice, half_in, ports_in}
+use Rattle.tseen.proofs.ChoiceChanged.{one_workspace}
+use Rattle.tseen.proofs.Choices.{state_lasts, is_state, state_use_is, alternative_with}
+use Rattle.tseen.specs.Choices.{Alternative, HasChoice, IsEnabled, IsReady, IsUnready}
+use Rattle.tseen.specs.Choices.{enabler, enabler_at, enables, is_sent, unready_word}
+use Rattle.tprocesses.specs.Choosing.{is_taken as is_taken_half, has_port}
+use Rattle.tprocesses.specs.Values.{IsWord as a_word}
+use Rattle.tprocesses.specs.Changes.{used_word}
+use Rattle.tseen.proofs.Choices.{is_lasting}
+use Rattle.tseen.specs.Words.{is_set_aside}
+use Rattle.tprocesses.specs.Values.{Awaiting, Choosing, Spoilt, Last}
+use Rattle.tseen.proofs.ChoiceChanged.{IsChanged, choices_changed}
+use Rattle.tprocesses.specs.Standing.{goes_on}
+use Rattle.tprocesses.specs.Parts.{◌>>=◌}
+use Rattle.tseen.proofs.After.{After}
+use Rattle.tplan.specs.declared.plan.NodePlan.{NodePlan}
+use Rattle.std.specs.Prelude.{slice_get}
+use Rattle.tprocesses.specs.Choosing.{goes_on_chosen}
+use Rattle.tprocesses.specs.Machine.{process_step, at_site, step_of, Process}
+use Rattle.tprocesses.specs.Values.{stand_in, Chosen}
+use Rattle.tprocesses.specs.Places.{Ports}
+use Rattle.tseen.specs.Choices.{alternative_of, alternative_at, is_quiet}
+use Rattle.tseen.proofs.Choices.{lasting_not_saved, none_is, alternative_none}
 use Rattle.std.proofs.Common.{◌≡◌, ◌≢◌, ℕ, zero, suc, ◌+◌, ◌<◌, ◌≤◌, ◌%◌, refl, sym, ap, subst, ◌∙◌, List, [], ◌∷◌}
 use Rattle.std.proofs.Common.{Bool, true, false, true≢false, length, length-append, Contains, Option, Some, None, arith}
 use Rattle.std.proofs.Common.{◌⊎◌, inl, inr, pos, cond, map, ◌++◌}
@@ -55,7 +88,8 @@ use Rattle.tseen.proofs.Others.{queued_seated, waiting_seated, interrupted_seate
 use Rattle.tseen.proofs.TakenBack.{is_sending_of, is_output_of, sent_back, emptied, without_output}
 use Rattle.tseen.proofs.TakenBack.{taken_back_sendings}
 use Rattle.tseen.proofs.Written.{is_word_of}
-use Rattle.tseen.proofs.Resumed.{numbers_apart, unsaved_stays, used_then, tells_then}
+use Rattle.tseen.proofs.Freed.{IsFreed, WordFreed, is_plain, all_freed}
+use Rattle.tseen.proofs.Freed.{unsaved_stays, used_then, tells_then, unsave_chosen_then}
 use Rattle.tseen.proofs.Dispatching.{shown_next, pop, still_there, other_workspace, other_below, own_words, IsResting}
 use Rattle.tseen.proofs.Dispatching.{rests_there, now, stepped, hidden_now, AreResumed, stays, not_lent, word_then}
 use Rattle.tseen.proofs.Dispatching.{others_stay, same_workspace, same_priority, aligned, w, w_space, w_small}
@@ -124,6 +158,9 @@ module _ (p : Plan) (c : Configuration) (s : State) (n : ℕ) (x : Name) (k : Is
   abbrev rest : Control
   rest = (pop p c s n x k).rest
 
+  abbrev own_w : ℕ
+  own_w = w p c s n x k
+
   abbrev level : ℕ
   level = (pop p c s n x k).level
 
@@ -155,24 +192,18 @@ module _ (p : Plan) (c : Configuration) (s : State) (n : ℕ) (x : Name) (k : Is
   abbrev whole : k.plan.memory % 4 ≡ 0
   whole = whole_memory s n k.plan named sent k.node shown k.steady
 
-  one : use_of s n (below (w p c s n x k) 1) ≡ Saved
-  one = used_one s n (w p c s n x k) (own_words p c s n x k)
-
-  two : use_of s n (below (w p c s n x k) 2) ≡ Saved
-  two = used_two s n (w p c s n x k) (own_words p c s n x k)
-
   -- a word that was not saved
-  unsaved : (j : ℕ) → (use_of s n j ≡ Saved → ⊥) → s' (WordAt n j) ≡ s (WordAt n j)
+  unsaved : (j : ℕ) → (is_set_aside (use_of s n j) ≡ true → ⊥) → s' (WordAt n j) ≡ s (WordAt n j)
   unsaved j h =
       word_then p c s n x k d v v2 s' a j
-      ∙ unsaved_stays site whole (w p c s n x k) s v a.freed one two j h
+      ∙ unsaved_stays n (w p c s n x k) s v a.freed j h
 
   -- the use of a word
-  used_after : (j : ℕ) → (use_of s' n j ≡ Free) ⊎ (use_of s' n j ≡ use_of s n j)
+  used_after : (j : ℕ) → (is_plain (use_of s' n j) ≡ true) ⊎ (use_of s' n j ≡ use_of s n j)
   used_after j =
-      subst (λ z. (z ≡ Free) ⊎ (z ≡ use_of s n j))
+      subst (λ z. (is_plain z ≡ true) ⊎ (z ≡ use_of s n j))
       (sym (ap (λ (z : Value). (word_in z).used) (word_then p c s n x k d v v2 s' a j)))
-      (used_then site whole (w p c s n x k) s v a.freed one two j)
+      (used_then n (w p c s n x k) s v a.freed j)
 
   same_link : (l : ℕ) → link_end after.control l ≡ link_end m l
   same_link l = ap (λ (ls : List LinkEnd). slice_index_or ls l quiet_end) (pop p c s n x k).links
@@ -185,12 +216,21 @@ module _ (p : Plan) (c : Configuration) (s : State) (n : ℕ) (x : Name) (k : Is
   -- its own output
   lent_sent : (t : Lent) → d.lent ≡ Some t → (t.link < 4)
       × (sent t.link ≡ Some (record { request = record { process = x; buffer = t.buffer }; copied = true }))
-  lent_sent t e = shown.processes.lent x d t rested.home rested.stood e
+  lent_sent t e = by rested.how
+    where
+      differ : None ≡ Some t → ⊥
+      differ f = cc
+
+      by : (rested.stand ≡ Rests d) ⊎ ((rested.stand ≡ Chosen d) × (d.lent ≡ None))
+          → (t.link < 4)
+          × (sent t.link ≡ Some (record { request = record { process = x; buffer = t.buffer }; copied = true }))
+      by (inl f) = shown.processes.lent x d t rested.home (rested.stood ∙ ap IsStand f) e
+      by (inr f) = absurd (differ (sym f.1 ∙ e))
 
   sendings_now : (j : ℕ) → s' (Sending n j) ≡ IsAmount (pos (sendings sent' j))
   sendings_now j =
       a.runs.others (Sending n j) refl ∙ a.back.sending j
-      ∙ ap (sent_back site d.lent j) (a.freed.set.rest (Sending n j) (no_word n (w p c s n x k) (Sending n j) refl)
+      ∙ ap (sent_back site d.lent j) (a.freed.rest (Sending n j) (no_word n (w p c s n x k) (Sending n j) refl)
       ∙ shown.marks.outputs j)
       ∙ by d.lent refl
     where
@@ -201,18 +241,40 @@ module _ (p : Plan) (c : Configuration) (s : State) (n : ℕ) (x : Name) (k : Is
           let f = lent_sent t e in
           taken_back_sendings t sent j site f.0 (ap (is_sending j) f.1)
 
+  unsent_still : (j : ℕ) → amount_in (s (Sending n j)) ≡ pos 0 → amount_in (s' (Sending n j)) ≡ pos 0
+  unsent_still j z = ap amount_in (sendings_now j) ∙ by d.lent refl
+    where
+      none : sendings sent j ≡ 0
+      none = ap count (sym (ap amount_in (shown.marks.outputs j)) ∙ z)
+        where
+          count : ℤ → ℕ
+          count (pos i) = i
+          count _ = 0
+
+      by : (o : Option Lent) → d.lent ≡ o → pos (sendings (without_output o sent) j) ≡ pos 0
+      by None e = ap pos none
+      by (Some t) e = ap pos (omega (arith, fewer_at t.link sent j (lent_sent t e).0, none))
+
   marks_after : AreMarked s' n sent' after.control
   marks_after =
       marks_from s s' n sent sent' m after.control saved (λ l. ap (λ (e : LinkEnd). e.input) (same_link l))
-      (λ j e. ap (λ (z : Value). (word_in z).used) (unsaved j (λ f. not_saved (sym e ∙ f))) ∙ e) sendings_now
+      (λ j e. ap (λ (z : Value). (word_in z).used) (unsaved j (λ f. true≢false (sym f ∙ ap is_set_aside e))) ∙ e)
+      sendings_now
       (λ j. no_successor j (used_after j)) shown.marks
     where
-      not_saved : Receiving ≡ Saved → ⊥
-      not_saved e = cc
+      plain : (u : Use) → is_plain u ≡ true → awaits_successor u ≡ false
+      plain Free e = refl
+      plain Choosing e = refl
+      plain Saved e = refl
+      plain Receiving e = refl
+      plain Engaged e = refl
+      plain Awaiting e = refl
+      plain (Last q) e = absurd (true≢false (sym e))
+      plain Spoilt e = absurd (true≢false (sym e))
 
-      no_successor : (j : ℕ) → (use_of s' n j ≡ Free) ⊎ (use_of s' n j ≡ use_of s n j)
+      no_successor : (j : ℕ) → (is_plain (use_of s' n j) ≡ true) ⊎ (use_of s' n j ≡ use_of s n j)
           → awaits_successor (use_of s' n j) ≡ false
-      no_successor j (inl e) = ap awaits_successor e
+      no_successor j (inl e) = plain (use_of s' n j) e
       no_successor j (inr e) = ap awaits_successor e ∙ shown.marks.no_successor j
 
       saved : (b : ℕ) → Contains (descheduled after.control) b → AreSavedWords s' n b
@@ -224,7 +286,7 @@ module _ (p : Plan) (c : Configuration) (s : State) (n : ℕ) (x : Name) (k : Is
           word : (i : ℕ) → 1 ≤ i → i ≤ 3 → s' (WordAt n (below b i)) ≡ s (WordAt n (below b i))
           word i e f =
               word_then p c s n x k d v v2 s' a (below b i)
-              ∙ a.freed.set.rest (WordAt n (below b i)) (other_number n (w p c s n x k) (below b i)
+              ∙ a.freed.rest (WordAt n (below b i)) (other_number n (w p c s n x k) (below b i)
               (other_below p c s n x k b i 1 h e f (omega arith) (omega arith))
               (other_below p c s n x k b i 2 h e f (omega arith) (omega arith))
               (other_below p c s n x k b i 3 h e f (omega arith) (omega arith)))
@@ -235,26 +297,38 @@ module _ (p : Plan) (c : Configuration) (s : State) (n : ℕ) (x : Name) (k : Is
       other_workspace p c s n x k (workspace_of b) h
       (sym (same_workspace p c s n x k) ∙ sym rested.saved.wptr ∙ f.wptr)
 
-  same_stand : (stand : Stand) (y : Name) → y ≡ x → s (Standing y) ≡ IsStand stand → stand ≡ Rests d
+  same_stand : (stand : Stand) (y : Name) → y ≡ x → s (Standing y) ≡ IsStand stand → stand ≡ rested.stand
   same_stand stand y e f = stand_of (sym f ∙ ap (λ z. s (Standing z)) e ∙ rested.stood)
     where
       stand_of : {a b : Stand} → IsStand a ≡ IsStand b → a ≡ b
       stand_of e = cc
 
+  abbrev HowItRests : Type 0
+  HowItRests = (rested.stand ≡ Rests d) ⊎ ((rested.stand ≡ Chosen d) × (d.lent ≡ None))
+
+  -- what it will go on with
+  waiting_saved : (b : ℕ) → Fits k.node (Waiting b) rested.stand → HowItRests → HasSaved store b d
+  waiting_saved b f (inl e) = (subst (Fits k.node (Waiting b)) e f).0
+  waiting_saved b f (inr e) = absurd (subst (Fits k.node (Waiting b)) e.0 f)
+
+  queued_saved : (b : ℕ) → Fits k.node (Queued b) rested.stand → HowItRests → HasSaved store b d
+  queued_saved b f (inl e) = subst (Fits k.node (Queued b)) e f
+  queued_saved b f (inr e) = (subst (Fits k.node (Queued b)) e.0 f).0
+
   not_waiting : (b : ℕ) → is_some (reason_of m b) ≡ true → named (Waiting b) ≡ x → ⊥
   not_waiting b h e =
       let old : IsSeated s n k.node (Waiting b) (named (Waiting b)) = shown.processes.seated (Waiting b) h in
-      let f : Fits k.node (Waiting b) (Rests d) =
+      let f : Fits k.node (Waiting b) rested.stand =
       subst (Fits k.node (Waiting b)) (same_stand old.stand (named (Waiting b)) e old.stands) old.fits in
-      by_saved b f.0 (waits_descheduled rest b
+      by_saved b (waiting_saved b f rested.how) (waits_descheduled rest b
       (subst (λ (o : Option Reason). is_some o ≡ true) (sym (same_reason b)) h))
 
   not_queued : (b : ℕ) → is_queued rest b ≡ true → is_queued m b ≡ true → named (Queued b) ≡ x → ⊥
   not_queued b g h e =
       let old : IsSeated s n k.node (Queued b) (named (Queued b)) = shown.processes.seated (Queued b) h in
-      let f : Fits k.node (Queued b) (Rests d) =
+      let f : Fits k.node (Queued b) rested.stand =
       subst (Fits k.node (Queued b)) (same_stand old.stand (named (Queued b)) e old.stands) old.fits in
-      by_saved b f (queued_descheduled rest b g)
+      by_saved b (queued_saved b f rested.how) (queued_descheduled rest b g)
 
   other_name : (y : Name) → (y ≡ x → ⊥) → same_name x y ≡ false
   other_name y h = by (same_name x y) refl
@@ -270,7 +344,7 @@ module _ (p : Plan) (c : Configuration) (s : State) (n : ℕ) (x : Name) (k : Is
             ∙ ap (λ (e : LinkEnd). IsLink (half_asking named e.input)) (sym (same_link l))
             ∙ ap IsLink (sym (half_asking_stays named named' (link_end after.control l).input (λ b. refl)));
         output = a.runs.others (LinkHalf (end_at n l) Output) refl ∙ a.back.half l
-            ∙ ap (emptied site d.lent l) (a.freed.set.rest (LinkHalf (end_at n l) Output)
+            ∙ ap (emptied site d.lent l) (a.freed.rest (LinkHalf (end_at n l) Output)
             (no_word n (w p c s n x k) (LinkHalf (end_at n l) Output) refl) ∙ old.output)
             ∙ emptied_is site d.lent sent l;
         offered = λ o e. offered o (sym (ap (λ (e : LinkEnd). e.output) (same_link l)) ∙ e);
@@ -348,7 +422,11 @@ module _ (p : Plan) (c : Configuration) (s : State) (n : ℕ) (x : Name) (k : Is
   not_interrupted : is_some m.interrupted ≡ true → named Interrupted ≡ x → ⊥
   not_interrupted h e =
       let old : IsSeated s n k.node Interrupted (named Interrupted) = shown.processes.seated Interrupted h in
-      subst (Fits k.node Interrupted) (same_stand old.stand (named Interrupted) e old.stands) old.fits
+      by (subst (Fits k.node Interrupted) (same_stand old.stand (named Interrupted) e old.stands) old.fits) rested.how
+    where
+      by : Fits k.node Interrupted rested.stand → HowItRests → ⊥
+      by f (inl e) = subst (Fits k.node Interrupted) e f
+      by f (inr e) = subst (Fits k.node Interrupted) e.0 f
 
   was_interrupted : is_some after.control.interrupted ≡ true → is_some m.interrupted ≡ true
   was_interrupted h = subst (λ (o : Option Suspended). is_some o ≡ true) same_interrupted h
@@ -374,7 +452,7 @@ module _ (p : Plan) (c : Configuration) (s : State) (n : ℕ) (x : Name) (k : Is
       (shown.processes.seated (Queued b) (was_queued b h))
   seated (Waiting b) h =
       waiting_seated n x s s' stand_stays run_stays k.node node' b (named (Waiting b))
-      (other_name (named (Waiting b)) (not_waiting b (was_waiting b h))) (has_passed b) refl
+      (other_name (named (Waiting b)) (not_waiting b (was_waiting b h))) (has_passed b) (λ f. same_reason b ∙ f) refl
       (shown.processes.seated (Waiting b) (was_waiting b h))
 
   abbrev HasPlace : Name → Type 0
@@ -508,8 +586,12 @@ module _ (p : Plan) (c : Configuration) (s : State) (n : ℕ) (x : Name) (k : Is
               let name : x ≡ y = process_of (sym (lent_sent t0 e).1 ∙ ap sent (eqb-true _ _ f) ∙ h) in
               absurd (true≢false (sym (place_itself p (Standing x)) ∙ ap (same_name x) name ∙ other))
 
-      lent_of : (b : Context) → IsStand (Rests b) ≡ IsStand (Rests d) → d.lent ≡ b.lent
-      lent_of b e = sym (ap lent_in e)
+      lent_of : (b : Context) → IsStand (Rests b) ≡ IsStand rested.stand → HowItRests → d.lent ≡ b.lent
+      lent_of b e (inr f) = absurd (differ (e ∙ ap IsStand f.0))
+        where
+          differ : IsStand (Rests b) ≡ IsStand (Chosen d) → ⊥
+          differ g = cc
+      lent_of b e (inl f) = sym (ap lent_in (e ∙ ap IsStand f))
         where
           lent_in : Value → Option Lent
           lent_in (IsStand (Rests o)) = o.lent
@@ -534,22 +616,14 @@ module _ (p : Plan) (c : Configuration) (s : State) (n : ℕ) (x : Name) (k : Is
             old.1,
             stand_stays q.request.process (other_name q.request.process (λ f.
                 e.1 (record { link = l; buffer = q.request.buffer })
-                (lent_of old.1 (sym old.2 ∙ ap (λ z. s (Standing z)) f ∙ rested.stood) ∙ old.3) refl)) ∙ old.2,
+                (lent_of old.1 (sym old.2 ∙ ap (λ z. s (Standing z)) f ∙ rested.stood) rested.how ∙ old.3) refl))
+                ∙ old.2,
             old.3,
           )
 
-  not_free : {b : Use} → b ≡ Engaged → b ≡ Saved → ⊥
-  not_free e f = differ (sym e ∙ f)
-    where
-      differ : Engaged ≡ Saved → ⊥
-      differ e = cc
-
-  engaged_back : (j : ℕ) → use_of s' n j ≡ Engaged → (use_of s' n j ≡ Free) ⊎ (use_of s' n j ≡ use_of s n j)
-      → use_of s n j ≡ Engaged
-  engaged_back j e (inl f) = absurd (differ (sym e ∙ f))
-    where
-      differ : Engaged ≡ Free → ⊥
-      differ e = cc
+  engaged_back : (j : ℕ) → use_of s' n j ≡ Engaged
+      → (is_plain (use_of s' n j) ≡ true) ⊎ (use_of s' n j ≡ use_of s n j) → use_of s n j ≡ Engaged
+  engaged_back j e (inl f) = absurd (true≢false (sym f ∙ ap is_plain e))
   engaged_back j e (inr f) = sym f ∙ e
 
   -- so the node is shown
@@ -562,16 +636,249 @@ module _ (p : Plan) (c : Configuration) (s : State) (n : ℕ) (x : Name) (k : Is
         size = shown.size;
         kind = (pop p c s n x k).kind ∙ shown.kind;
         store = shows_from s' n k.plan.memory store
-            (tells_then site whole (w p c s n x k) s v a.freed one two s' k.plan.memory store
+            (tells_then n (w p c s n x k) s v a.freed s' k.plan.memory store
             (word_then p c s n x k d v v2 s' a) (told s n k.plan named sent k.node shown k.steady));
         marks = marks_after;
         channels = channels_stay s s' n named named' k.node.machine after (λ b. refl)
-            (λ j e. ap (λ (z : Value). (word_in z).used) (unsaved j (not_free e)) ∙ e)
+            (λ j e. ap (λ (z : Value). (word_in z).used) (unsaved j (λ f. true≢false (sym f ∙ ap is_set_aside e))) ∙ e)
             (λ j e. engaged_back j e (used_after j))
             (λ b side. stay (Half n b side) refl refl (λ j. refl) refl) same_reason refl (λ b h e. refl) shown.channels;
         links = links_after;
         processes = processes_after;
+        choices = choices_changed p s s' n store store x changed_choice shown.choices;
       }
+    where
+      -- a word in use as a channel or for an alternative is as it was, but for the one of the process
+      lasting : (j : ℕ) → is_lasting (use_of s n j) ≡ true → (j ≡ below own_w 3 → ⊥)
+          → s' (WordAt n j) ≡ s (WordAt n j)
+      lasting j e f = word_then p c s n x k d v v2 s' a j ∙ by (a.freed.words j)
+        where
+          by : WordFreed n own_w s v j → v (WordAt n j) ≡ s (WordAt n j)
+          by (inl g) = g
+          by (inr (inl g)) = absurd (lasting_not_saved e g.0)
+          by (inr (inr g)) = absurd (f g.0)
+
+      -- that one is in use for no channel
+      not_engaged : (j : ℕ) → use_of s n j ≡ Engaged → j ≡ below own_w 3 → ⊥
+      not_engaged j e f = by a.third
+        where
+          differ : Engaged ≡ Saved → ⊥
+          differ g = cc
+
+          differ' : Engaged ≡ Awaiting → ⊥
+          differ' g = cc
+
+          by : ((rested.stand ≡ Rests d) × (use_of s n (below own_w 3) ≡ Saved))
+              ⊎ ((rested.stand ≡ Chosen d) × (use_of s n (below own_w 3) ≡ Awaiting)
+              × (v (WordAt n (below own_w 3)) ≡ a_word (used_word Choosing))) → ⊥
+          by (inl g) = differ (sym e ∙ ap (use_of s n) f ∙ g.1)
+          by (inr g) = differ' (sym e ∙ ap (use_of s n) f ∙ g.1)
+
+      halves : (e : ℕ) (side : Side) → s' (Half n e side) ≡ s (Half n e side)
+      halves e side = stay (Half n e side) refl refl (λ j. refl) refl
+
+      enabler_is : (e : ℕ) → enabler_at s' n e ≡ enabler_at s n e
+      enabler_is e = ap (λ (z : Value). enabler (half_in z)) (halves e Input)
+
+      sent_is : (e : ℕ) → is_sent s' n e ≡ is_sent s n e
+      sent_is e = ap (λ (z : Value). is_taken_half (half_in z)) (halves e Output)
+
+      ports_are : (y : Name) → s' (Ports y) ≡ s (Ports y)
+      ports_are y = stay (Ports y) refl refl (λ j. refl) refl
+
+      enables_is : (y : Name) (e : ℕ) → enables s' n y e ≡ enables s n y e
+      enables_is y e = ap (λ (z : Value). has_port e (ports_in z)) (ports_are y)
+
+      wptr_is : d.wptr ≡ own_w
+      wptr_is = rested.saved.wptr ∙ same_workspace p c s n x k
+
+      -- its alternative before and after
+      Third : Type 0
+      Third =
+          ((rested.stand ≡ Rests d) × (use_of s n (below own_w 3) ≡ Saved))
+          ⊎ ((rested.stand ≡ Chosen d) × (use_of s n (below own_w 3) ≡ Awaiting)
+          × (v (WordAt n (below own_w 3)) ≡ a_word (used_word Choosing)))
+
+      none_then : rested.stand ≡ Rests d → alternative_at s' n x ≡ None
+      none_then e =
+          ap (λ (z : Value). alternative_of (stand_in z)) a.runs.is
+          ∙ alternative_none true false (record d { lent = None }) (none_is d.choice
+          (sym (ap (λ (z : Value). is_quiet (stand_in z)) (rested.stood ∙ ap IsStand e))
+          ∙ shown.choices.quiet x rested.home))
+
+      none_before : rested.stand ≡ Rests d → alternative_at s n x ≡ None
+      none_before e = ap (λ (z : Value). alternative_of (stand_in z)) (rested.stood ∙ ap IsStand e)
+
+      differ : {b : Alternative} → None ≡ Some b → ⊥
+      differ e = cc
+
+      one_is : {b b' : Alternative} → Some b ≡ Some b' → b ≡ b'
+      one_is e = cc
+
+      -- where it was made to go on
+      chosen_choice : rested.stand ≡ Chosen d → (choice : Choice) × (d.choice ≡ Some choice)
+      chosen_choice e =
+          by d.choice refl (sym (ap (λ (z : Value). is_quiet (stand_in z)) (rested.stood ∙ ap IsStand e))
+          ∙ shown.choices.quiet x rested.home)
+        where
+          by : (o : Option Choice) → d.choice ≡ o → is_some o ≡ true → (choice : Choice) × (d.choice ≡ Some choice)
+          by (Some choice) f g = (choice, f)
+          by None f g = absurd (true≢false (sym g))
+
+      own_one : (runs : Bool) → Choice → Alternative
+      own_one runs choice =
+          record { skips = choice.skips; wptr = d.wptr; priority = d.priority; runs = runs; waits = false }
+
+      chosen_before : (e : rested.stand ≡ Chosen d)
+          → alternative_at s n x ≡ Some (own_one false (chosen_choice e).0)
+      chosen_before e =
+          ap (λ (z : Value). alternative_of (stand_in z)) (rested.stood ∙ ap IsStand e)
+          ∙ alternative_with false false d (chosen_choice e).0 (chosen_choice e).1
+
+      chosen_now : (e : rested.stand ≡ Chosen d) → alternative_at s' n x ≡ Some (own_one true (chosen_choice e).0)
+      chosen_now e =
+          ap (λ (z : Value). alternative_of (stand_in z)) a.runs.is
+          ∙ alternative_with true false (record d { lent = None }) (chosen_choice e).0 (chosen_choice e).1
+
+      old_choice : (e : rested.stand ≡ Chosen d) → HasChoice s n store x (own_one false (chosen_choice e).0)
+      old_choice e = shown.choices.choices x (own_one false (chosen_choice e).0) rested.home (chosen_before e)
+
+      not_same : (y : Name) → same_name x y ≡ false → x ≡ y → ⊥
+      not_same y f e = true≢false (sym (place_itself p (Standing x)) ∙ ap (same_name x) e ∙ f)
+
+      -- the word of another alternative is another one
+      other_state : (y : Name) (b : Alternative) → same_name x y ≡ false → y.node ≡ n → alternative_at s n y ≡ Some b
+          → HasChoice s n store y b → below b.wptr 3 ≡ below own_w 3 → ⊥
+      other_state y b f home is it e = by a.third
+        where
+          by : Third → ⊥
+          by (inl g) =
+              lasting_not_saved (state_lasts (use_of s n (below b.wptr 3)) (ap is_state it.used ∙ state_use_is b.runs))
+              (ap (use_of s n) e ∙ g.1)
+          by (inr g) =
+              let own = old_choice g.0 in
+              not_same y f (shown.choices.apart x y (own_one false (chosen_choice g.0).0) b rested.home home
+              (chosen_before g.0) is (one_workspace site whole d.wptr b.wptr own.small.1 it.small.1
+              (subst (λ z. word_place_break z (word_below d.wptr 3) ≡ None) shown.size own.placed)
+              (subst (λ z. word_place_break z (word_below b.wptr 3) ≡ None) shown.size it.placed)
+              (ap (λ z. below z 3) wptr_is ∙ sym e)))
+
+      ready_then : (skips : Bool) → IsReady s n x skips → IsReady s' n x skips
+      ready_then skips (inl e) = inl e
+      ready_then skips (inr (e, f, g)) = inr (e, enables_is x e ∙ f, sent_is e ∙ g)
+
+      unready_then : (skips : Bool) → IsUnready s n x skips → IsUnready s' n x skips
+      unready_then skips (e, f) = (e, λ b g. sent_is b ∙ f b (sym (enables_is x b) ∙ g))
+
+      new_choice : (e : rested.stand ≡ Chosen d) → v (WordAt n (below own_w 3)) ≡ a_word (used_word Choosing)
+          → HasChoice s' n store x (own_one true (chosen_choice e).0)
+      new_choice e put =
+          record {
+            small = (old_choice e).small;
+            placed = (old_choice e).placed;
+            used = ap (λ (z : Value). (word_in z).used) (word_then p c s n x k d v v2 s' a (below d.wptr 3))
+                ∙ ap (use_of v n) (ap (λ z. below z 3) wptr_is) ∙ ap (λ (z : Value). (word_in z).used) put;
+            unseen = ap (λ (z : Value). (word_in z).cells) (word_then p c s n x k d v v2 s' a (below d.wptr 3))
+                ∙ ap (λ i. (word_in (v (WordAt n i))).cells) (ap (λ z. below z 3) wptr_is)
+                ∙ ap (λ (z : Value). (word_in z).cells) put;
+            state = by (old_choice e).state;
+            unsent = unsent_still (below d.wptr 3) (old_choice e).unsent;
+            unready = λ f. absurd (true≢false (sym f));
+          }
+        where
+          address : ℕ
+          address = word_below d.wptr state_word
+
+          skips : Bool
+          skips = (chosen_choice e).0.skips
+
+          by : ((word_at store address ≡ ready) × IsReady s n x skips)
+              ⊎ ((word_at store address ≡ unready_word false) × IsUnready s n x skips)
+              → ((word_at store address ≡ ready) × IsReady s' n x skips)
+              ⊎ ((word_at store address ≡ unready_word false) × IsUnready s' n x skips)
+          by (inl (f, g)) = inl (f, ready_then skips g)
+          by (inr (f, g)) = inr (f, unready_then skips g)
+
+      own_choice : (b : Alternative) → alternative_at s' n x ≡ Some b → HasChoice s' n store x b
+      own_choice b e = by a.third
+        where
+          by : Third → HasChoice s' n store x b
+          by (inl g) = absurd (differ (sym (none_then g.0) ∙ e))
+          by (inr g) = subst (HasChoice s' n store x) (one_is (sym (chosen_now g.0) ∙ e)) (new_choice g.0 g.2)
+
+      own_apart : (b : Alternative) → alternative_at s' n x ≡ Some b → (y : Name) (b' : Alternative)
+          → same_name x y ≡ false → y.node ≡ n → alternative_at s n y ≡ Some b' → b.wptr ≡ b'.wptr → ⊥
+      own_apart b e y b' f home is same = by a.third
+        where
+          by : Third → ⊥
+          by (inl g) = differ (sym (none_then g.0) ∙ e)
+          by (inr g) =
+              not_same y f (shown.choices.apart x y (own_one false (chosen_choice g.0).0) b' rested.home home
+              (chosen_before g.0) is (ap (λ (z : Alternative). z.wptr) (one_is (sym (chosen_now g.0) ∙ e)) ∙ same))
+
+      own_ports : (e : ℕ) → x.node ≡ n → enables s' n x e ≡ true
+          → (b : Alternative) × (alternative_at s' n x ≡ Some b) × (enabler_at s' n e ≡ Some x)
+      own_ports e home f = by a.third
+        where
+          own : (b : Alternative) × (alternative_at s n x ≡ Some b) × (enabler_at s n e ≡ Some x)
+          own = shown.choices.owner x e home (sym (enables_is x e) ∙ f)
+
+          by : Third → (b : Alternative) × (alternative_at s' n x ≡ Some b) × (enabler_at s' n e ≡ Some x)
+          by (inl g) = absurd (differ (sym (none_before g.0) ∙ own.1))
+          by (inr g) = (own_one true (chosen_choice g.0).0, chosen_now g.0, enabler_is e ∙ own.2)
+
+      own_enabled : (e : ℕ) → enabler_at s' n e ≡ Some x → IsEnabled s' n store e x
+      own_enabled e f =
+          record {
+            home = old.home;
+            port = enables_is x e ∙ old.port;
+            placed = old.placed;
+            engaged = ap (λ (z : Value). (word_in z).used) (lasting (word_number e) (ap is_lasting old.engaged)
+                (not_engaged (word_number e) old.engaged)) ∙ old.engaged;
+            names = λ g b i. by g b i a.third;
+            awaited = λ b i g. absurd (true≢false (sym g ∙ (alternative_context true false (record d { lent = None }) b
+                (sym (ap (λ (z : Value). alternative_of (stand_in z)) a.runs.is) ∙ i)).3));
+          }
+        where
+          old : IsEnabled s n store e x
+          old = shown.choices.enabled e x (sym (enabler_is e) ∙ f)
+
+          by : is_sent s' n e ≡ false → (b : Alternative) → alternative_at s' n x ≡ Some b → Third
+              → word_at store e ≡ b.wptr + b.priority
+          by g b i (inl h) = absurd (differ (sym (none_then h.0) ∙ i))
+          by g b i (inr h) =
+              old.names (sym (sent_is e) ∙ g) (own_one false (chosen_choice h.0).0) (chosen_before h.0)
+              ∙ ap (λ (z : Alternative). z.wptr + z.priority) (one_is (sym (chosen_now h.0) ∙ i))
+
+      changed_choice : IsChanged p s s' n store store x
+      changed_choice =
+          record {
+            stands = λ y f home. ap (λ (z : Value). alternative_of (stand_in z)) (stand_stays y f);
+            quiet = λ y f home e. ap (λ (z : Value). is_quiet (stand_in z)) (stand_stays y f) ∙ e;
+            ports = λ y f home. ports_are y;
+            inputs = λ e y f g. enabler_is e ∙ g;
+            inputs_back = λ e y f g. sym (enabler_is e) ∙ g;
+            held = λ e y f g. ap half_in (stay (Half n e Input) refl refl (λ j. refl) refl) ∙ g;
+            unsent = λ j e z. unsent_still j z;
+            sent = λ e y f g. sent_is e;
+            size = refl;
+            states = λ y b f home is it. (
+              lasting (below b.wptr 3)
+                  (state_lasts (use_of s n (below b.wptr 3)) (ap is_state it.used ∙ state_use_is b.runs))
+                  (other_state y b f home is it),
+              refl,
+            );
+            words = λ e y f g it. (
+              ap (λ (z : Value). (word_in z).used) (lasting (word_number e) (ap is_lasting it.engaged)
+                  (not_engaged (word_number e) it.engaged)) ∙ it.engaged,
+              refl,
+            );
+            own_quiet = ap (λ (z : Value). is_quiet (stand_in z)) a.runs.is;
+            own_choice = own_choice;
+            own_apart = own_apart;
+            own_ports = own_ports;
+            own_enabled = own_enabled;
+          }
 
   pub dispatch_leads : LeadsTo p c n s'
   dispatch_leads =
@@ -584,23 +891,21 @@ abbrev memory_whole : (p : Plan) (c : Configuration) (s : State) (n : ℕ) (x : 
 memory_whole p c s n x k =
     whole_memory s n k.plan (k.shows.named n) (k.shows.sent n) k.node (shown_next p c s n x k) k.steady
 
+-- a process goes on whose alternative was made to go on
+pub chosen_then : (p : Plan) (plan : NodePlan) (n : ℕ) (s : State) (x : Name) (d : Context)
+    (Q : Unit {0} → State → Type 0) → x.node ≡ n → slice_get p.nodes n ≡ Some plan
+    → s (Standing x) ≡ IsStand (Chosen d) → After (goes_on_chosen (site_of n plan) x d) s Q
+    → After (step_of p (Process x)) s Q
+chosen_then p plan n s x d Q home planned stood h =
+    subst (λ (v : Value). After (at_site p x.node (process_step x (stand_in v))) s Q) (sym stood)
+    (subst (λ j. After (at_site p j (process_step x (Chosen d))) s Q) (sym home) at_node)
+  where
+    at_node : After (at_site p n (process_step x (Chosen d))) s Q
+    at_node = rw (planned, After) h
+
 -- dispatches are seen
 pub dispatches_are_seen : DispatchesAreSeen
-dispatches_are_seen p c s s' n x k makes =
-    after_step p x s s' (λ _ z. LeadsTo p c n z) makes
-    (resting_then p k.plan n s x d (λ _ z. LeadsTo p c n z) rested.home k.planned rested.stood
-    (after_bind (unsave site d.wptr) _ s (λ _ z. LeadsTo p c n z)
-    (unsave_then site (memory_whole p c s n x k) d.wptr s _ (apart 2 3 (omega arith) (omega arith) (omega arith))
-    (apart 1 3 (omega arith) (omega arith) (omega arith)) (apart 1 2 (omega arith) (omega arith) (omega arith))
-    (λ v freed.
-    after_bind (takes_back site d.lent) _ v (λ _ z. LeadsTo p c n z)
-    (takes_back_then site d.lent v _ (λ v2 back.
-    stands_then site p x (Runs (record d { lent = None })) v2 (λ _ z. LeadsTo p c n z) (λ s' runs.
-    dispatch_leads p c s n x k v v2 s' (record {
-      freed = subst (λ b. IsUnsaved site (memory_whole p c s n x k) s v b) own freed;
-      back = back;
-      runs = runs;
-    }))))))))
+dispatches_are_seen p c s s' n x k makes = after_step p x s s' (λ _ z. LeadsTo p c n z) makes (by rested.how)
   where
     rested : IsResting p c s n x k
     rested = rests_there p c s n x k
@@ -611,10 +916,61 @@ dispatches_are_seen p c s s' n x k makes =
     site : Site
     site = site_of n k.plan
 
-    own : d.wptr ≡ w p c s n x k
+    own_w : ℕ
+    own_w = w p c s n x k
+
+    own : d.wptr ≡ own_w
     own = rested.saved.wptr ∙ same_workspace p c s n x k
+
+    one : use_of s n (below own_w 1) ≡ Saved
+    one = used_one s n own_w (own_words p c s n x k)
+
+    two : use_of s n (below own_w 2) ≡ Saved
+    two = used_two s n own_w (own_words p c s n x k)
 
     apart : (i j : ℕ) → 1 ≤ i → i < j → j ≤ 3 → below d.wptr j ≢ below d.wptr i
     apart i j e f g h =
         numbers_apart (length k.node.machine.store) (w p c s n x k) k.steady.placed.claimed.size (w_space p c s n x k)
         (w_small p c s n x k) i j e f g (subst (λ z. below z j ≡ below z i) own h)
+
+    -- the output that is not over is so, and the process goes on
+    goes : (v : State) → IsFreed n own_w s v
+        → ((rested.stand ≡ Rests d) × (use_of s n (below own_w 3) ≡ Saved))
+        ⊎ ((rested.stand ≡ Chosen d) × (use_of s n (below own_w 3) ≡ Awaiting)
+        × (v (WordAt n (below own_w 3)) ≡ a_word (used_word Choosing)))
+        → After (takes_back site d.lent >>= (λ _. goes_on x (record d { lent = None }))) v (λ _ z. LeadsTo p c n z)
+    goes v freed third =
+        after_bind (takes_back site d.lent) _ v (λ _ z. LeadsTo p c n z) (takes_back_then site d.lent v _ (λ v2 back.
+        stands_then site p x (Runs (record d { lent = None })) v2 (λ _ z. LeadsTo p c n z) (λ s' runs.
+        dispatch_leads p c s n x k v v2 s' (record {
+          freed = freed;
+          third = third;
+          back = back;
+          runs = runs;
+        }))))
+
+    by : (rested.stand ≡ Rests d) ⊎ ((rested.stand ≡ Chosen d) × (d.lent ≡ None))
+        → After (step_of p (Process x)) s (λ _ z. LeadsTo p c n z)
+    by (inl e) =
+        resting_then p k.plan n s x d (λ _ z. LeadsTo p c n z) rested.home k.planned (rested.stood ∙ ap IsStand e)
+        (after_bind (unsave site d.wptr) _ s (λ _ z. LeadsTo p c n z)
+        (unsave_then site (memory_whole p c s n x k) d.wptr s _ (apart 2 3 (omega arith) (omega arith) (omega arith))
+        (apart 1 3 (omega arith) (omega arith) (omega arith)) (apart 1 2 (omega arith) (omega arith) (omega arith))
+        (λ v freed.
+        goes v (all_freed site (memory_whole p c s n x k) own_w s v one two
+        (subst (λ b. IsUnsaved site (memory_whole p c s n x k) s v b) own freed))
+        (inl (e, subst (λ b. use_of s n (below b 3) ≡ Saved) own freed.saved_three)))))
+    by (inr (e, none)) =
+        chosen_then p k.plan n s x d (λ _ z. LeadsTo p c n z) rested.home k.planned (rested.stood ∙ ap IsStand e)
+        (unsave_chosen_then site (memory_whole p c s n x k) d (goes_on x d) s
+        (λ _ z. LeadsTo p c n z) (apart 2 3 (omega arith) (omega arith) (omega arith))
+        (apart 1 3 (omega arith) (omega arith) (omega arith)) (apart 1 2 (omega arith) (omega arith) (omega arith))
+        (subst (λ b. use_of s n (below b 1) ≡ Saved) (sym own) one)
+        (subst (λ b. use_of s n (below b 2) ≡ Saved) (sym own) two) (λ v freed used put upper.
+        subst (λ (l : Option Lent). After (goes_on x (record d { lent = l })) v (λ _ z. LeadsTo p c n z)) (sym none)
+        (subst (λ (l : Option Lent). After (takes_back site l >>= (λ _. goes_on x (record d { lent = None }))) v
+        (λ _ z. LeadsTo p c n z)) none (goes v (subst (λ b. IsFreed n b s v) own freed) (inr (
+          e,
+          subst (λ b. use_of s n (below b 3) ≡ Awaiting) own used,
+          subst (λ b. v (WordAt n (below b 3)) ≡ a_word (used_word Choosing)) own put,
+        ))))))

@@ -1,4 +1,10 @@
 -- A dispatch is seen as that the process goes on from its rest: what is known before it, and what its step leaves.
+use Rattle.tprocesses.specs.Values.{IsWord as a_word}
+use Rattle.tseen.proofs.Cells.{use_of}
+use Rattle.tprocesses.specs.Changes.{used_word}
+use Rattle.tprocesses.specs.Values.{Saved, Awaiting, Choosing}
+use Rattle.tprocesses.specs.Machine.{is_ready}
+use Rattle.std.proofs.Common.{inl, inr, ◌⊎◌}
 use Rattle.std.proofs.Common.{◌≡◌, ◌≢◌, ℕ, suc, ◌<◌, ◌≤◌, ◌%◌, ◌^◌, refl, sym, ap, subst, ◌∙◌, List, true, false}
 use Rattle.std.proofs.Common.{length, Contains, AllPairs, Ok, Option, Some, None, arith, map}
 use Rattle.std.specs.Prelude.{◌==◌, IfSome, option_map}
@@ -19,7 +25,8 @@ use Rattle.tproc.specs.Steps.{step}
 use Rattle.tplan.specs.declared.plan.Plan.{Plan}
 use Rattle.tnet.specs.Rendezvous.{Node, Configuration}
 use Rattle.tprocesses.specs.Places.{Place, Name, WordAt, Sending, Standing, LinkHalf, HasRun}
-use Rattle.tprocesses.specs.Values.{Context, Lent, Stand, Absent, Rests, Runs, Waits, Ended, IsStand, IsFlag}
+use Rattle.tprocesses.specs.Values.{Chosen, Chooses, Context, Lent, Stand, Absent, Rests, Runs, Waits, Ended, IsStand}
+use Rattle.tprocesses.specs.Values.{IsFlag}
 use Rattle.tprocesses.specs.Touching.{Site}
 use Rattle.tprocesses.specs.Machine.{site_of}
 use Rattle.tseen.specs.Known.{HasSaved}
@@ -32,8 +39,8 @@ use Rattle.tseen.proofs.After.{State}
 use Rattle.tseen.proofs.Written.{is_word_of}
 use Rattle.tseen.proofs.Finished.{is_stand_of, StandsNow}
 use Rattle.tseen.proofs.Frames.{node_at}
-use Rattle.tseen.proofs.Running.{whole_memory}
-use Rattle.tseen.proofs.Saving.{below, no_word, IsUnsaved}
+use Rattle.tseen.proofs.Saving.{below, no_word}
+use Rattle.tseen.proofs.Freed.{IsFreed}
 use Rattle.tseen.proofs.Adding.{among}
 use Rattle.tseen.proofs.Dispatched.{IsPopped, popped, begun}
 use Rattle.tseen.proofs.TakenBack.{IsTakenBack, is_sending_of, is_lent, is_output_of}
@@ -119,10 +126,13 @@ module _ (p : Plan) (c : Configuration) (s : State) (n : ℕ) (x : Name) (k : Is
   pub own_words : AreSavedWords s n w
   own_words = All-contains (AreSavedWords s n) (descheduled m) w shown_next.marks.saved w_there
 
-  -- the process rests
+  -- the process rests, or its alternative was made to go on
   pub record IsResting : Type 0 where
     pub context : Context
-    pub stood : s (Standing x) ≡ IsStand (Rests context)
+    pub stand : Stand
+    pub stood : s (Standing x) ≡ IsStand stand
+    pub how : (stand ≡ Rests context) ⊎ ((stand ≡ Chosen context) × (context.lent ≡ None))
+    pub ready : is_ready stand ≡ true
     pub saved : HasSaved store k.process context
     pub home : x.node ≡ n
     pub has_run : s (HasRun n pop.level) ≡ IsFlag true
@@ -136,15 +146,30 @@ module _ (p : Plan) (c : Configuration) (s : State) (n : ℕ) (x : Name) (k : Is
       by_stand q (Rests d) e f r =
           record {
             context = d;
+            stand = Rests d;
             stood = ap (λ y. s (Standing y)) (sym k.name) ∙ e;
+            how = inl refl;
+            ready = refl;
             saved = f;
             home = subst (λ (y : Name). y.node ≡ n) k.name q.home;
             has_run = ap (λ z. s (HasRun n z)) (sym (f.priority ∙ same_priority)) ∙ r;
+          }
+      by_stand q (Chosen d) e f r =
+          record {
+            context = d;
+            stand = Chosen d;
+            stood = ap (λ y. s (Standing y)) (sym k.name) ∙ e;
+            how = inr (refl, f.1);
+            ready = refl;
+            saved = f.0;
+            home = subst (λ (y : Name). y.node ≡ n) k.name q.home;
+            has_run = ap (λ z. s (HasRun n z)) (sym (f.0.priority ∙ same_priority)) ∙ r;
           }
       by_stand q Absent e f r = absurd f
       by_stand q (Runs d) e f r = absurd f
       by_stand q (Waits d) e f r = absurd f
       by_stand q Ended e f r = absurd f
+      by_stand q (Chooses d) e f r = absurd f
 
       with_seat : IsSeated s n k.node (Queued k.process) (k.shows.named n (Queued k.process)) → IsResting
       with_seat q = by_stand q q.stand q.stands q.fits q.has_run
@@ -167,8 +192,11 @@ module _ (p : Plan) (c : Configuration) (s : State) (n : ℕ) (x : Name) (k : Is
 
   -- the states of the step: words freed, an output taken back, and where the process stands
   pub record AreResumed (d : Context) (v v2 s' : State) : Type 0 where
-    pub freed : IsUnsaved site (whole_memory s n k.plan (k.shows.named n) (k.shows.sent n) k.node shown_next k.steady)
-        s v w
+    pub freed : IsFreed n w s v
+    -- the third word was saved, or has the state of its alternative
+    pub third : ((rests_there.stand ≡ Rests d) × (use_of s n (below w 3) ≡ Saved))
+        ⊎ ((rests_there.stand ≡ Chosen d) × (use_of s n (below w 3) ≡ Awaiting)
+        × (v (WordAt n (below w 3)) ≡ a_word (used_word Choosing)))
     pub back : IsTakenBack site d.lent v v2
     pub runs : StandsNow site x (Runs (record d { lent = None })) v2 s'
 
@@ -177,7 +205,7 @@ module _ (p : Plan) (c : Configuration) (s : State) (n : ℕ) (x : Name) (k : Is
     pub stays : (q : Place) → is_word_of n q ≡ false → is_sending_of n q ≡ false → is_lent site d.lent q ≡ false
         → is_stand_of x q ≡ false → s' q ≡ s q
     stays q word sending lent stand =
-        a.runs.others q stand ∙ a.back.others q sending lent ∙ a.freed.set.rest q (no_word n w q word)
+        a.runs.others q stand ∙ a.back.others q sending lent ∙ a.freed.rest q (no_word n w q word)
 
     -- one where nothing is lent by what it is
     pub not_lent : (l : Option Lent) (q : Place) → ((j : ℕ) → is_output_of n j q ≡ false) → is_lent site l q ≡ false

@@ -29,7 +29,7 @@ low_rests p c s s' n x k next low makes =
       goes = λ d e u w. absurd (go_not_jumped (sym e ∙ one_next (sym (next_is p c s n x k i pp t decodes d) ∙ next)));
       schedules = λ d o e u w.
           absurd (scheduled_not_jumped o (sym e ∙ one_next (sym (next_is p c s n x k i pp t decodes d) ∙ next)));
-      jumps = λ d e u m f.
+      jumps = λ d e u m f still.
           subst (λ q. After (jumped q (site_of n k.plan) x (left p c s n x k i pp)) u (λ _ z. RestsAt x z))
           (sym (d.knows.priority ∙ level))
           (after_bind (save (site_of n k.plan) (left p c s n x k i pp).wptr kept) _ u (λ _ z. RestsAt x z)

@@ -108,6 +108,7 @@ module _ (p : Plan) (c : Configuration) (s : State) (n : ℕ) (x : Name) (k : Is
         record {
           before = put;
           on = on;
+          plain = h.plain;
           ended = record { is = same (Standing x) refl ∙ h.ended.is; others = others };
         }
       where

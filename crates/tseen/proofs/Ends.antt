@@ -1,7 +1,8 @@
 -- What the step of a process leaves that does `endp`.
+use Rattle.tseen.proofs.Choices.{none_is}
 use Rattle.std.proofs.Common.{◌≡◌, ◌≢◌, ℕ, ◌+◌, ◌*◌, ◌≤◌, refl, sym, ap, subst, ◌∙◌, Bool, true, false, length, Ok}
 use Rattle.std.proofs.Common.{Option, Some, None, arith, ◌⊎◌, inl, inr, pos, ◌||◌, not}
-use Rattle.std.specs.Prelude.{◌==◌, negsuc, if◌then◌else◌}
+use Rattle.std.specs.Prelude.{is_none, ◌==◌, negsuc, if◌then◌else◌}
 use Rattle.std.specs.Int.{w32, from_le_bytes}
 use Rattle.std.proofs.lemmas.Bool.{eq-eqb, ne_eqb}
 use Rattle.tword.specs.Words.{most_neg, plus, minus}
@@ -27,7 +28,7 @@ use Rattle.tnet.specs.Rendezvous.{Configuration}
 use Rattle.tprocesses.specs.Places.{Name, WordAt, Sending, Life}
 use Rattle.tprocesses.specs.Values.{Value, Use, Free, Spoilt, Word, Context, Ended, IsWord, word_in, amount_in}
 use Rattle.tprocesses.specs.Changes.{Add, Decrement, apply, are_known, used_word, counted_down, decremented}
-use Rattle.tprocesses.specs.Parts.{Doing, Breaks, done, stopping, change, unless, ◌>>=◌, ◌>>◌}
+use Rattle.tprocesses.specs.Parts.{require, WordInUse, Doing, Breaks, done, stopping, change, unless, ◌>>=◌, ◌>>◌}
 use Rattle.tprocesses.specs.Performing.{Performed}
 use Rattle.tprocesses.specs.Touching.{Site, word_number, word_place, touch_word_at, unsent, is_zero}
 use Rattle.tprocesses.specs.Standing.{known, ends}
@@ -36,7 +37,7 @@ use Rattle.tprocesses.specs.Machine.{site_of}
 use Rattle.tseen.specs.Known.{Knows}
 use Rattle.tseen.specs.Steps.{IsCurrent, Makes, next_of}
 use Rattle.tseen.specs.Ended.{count_address, left_to_end}
-use Rattle.tseen.proofs.After.{State, changed, After, after_bind, after_unless, after_step}
+use Rattle.tseen.proofs.After.{after_require, State, changed, After, after_bind, after_unless, after_step}
 use Rattle.tseen.proofs.Cells.{use_of, IsWhole}
 use Rattle.tseen.proofs.Touched.{zero_is}
 use Rattle.tseen.proofs.Written.{changed_there, changed_word}
@@ -145,6 +146,7 @@ module _ (p : Plan) (c : Configuration) (s : State) (n : ℕ) (x : Name) (k : Is
     pub size : ℕ
     pub before : State
     pub on : GoesOn n k.plan.memory s before store store
+    pub plain : running.context.choice ≡ None
     pub read : IsWordTouched site running.whole before Reads a
     pub placed : word_place_break k.plan.memory (plus a 4) ≡ None
     pub unsent : amount_in (before (Sending n number)) ≡ pos 0
@@ -201,11 +203,15 @@ module _ (p : Plan) (c : Configuration) (s : State) (n : ℕ) (x : Name) (k : Is
         after_bind (unless (word_place_break site.size (plus a 4))) _ u Counted
         (after_unless (word_place_break site.size (plus a 4)) u _ (λ placed.
         after_bind (unsent site number) _ u Counted (unsent_then site number u _ (λ clear.
+        after_bind (require (is_none context.choice) WordInUse) _
+        (changed (WordAt n number) (Decrement context.priority) u) Counted
+        (after_require (is_none context.choice) WordInUse _ _ (λ none.
         stands_then site p x Ended (changed (Life n context.wptr) (Add (negsuc 0))
         (changed (WordAt n number) (Decrement context.priority) u)) Counted (λ z ended. record {
           size = i.length;
           before = u;
           on = on;
+          plain = none_is context.choice none;
           read = read;
           placed = placed;
           unsent = clear;
@@ -214,7 +220,7 @@ module _ (p : Plan) (c : Configuration) (s : State) (n : ℕ) (x : Name) (k : Is
               (subst (λ q. StandsNow site x Ended (changed (Life n context.wptr) (Add (negsuc 0))
               (changed (WordAt n number) (Decrement q) u)) z) running.registers.priority ended);
           steps = steps;
-        })))))))
+        })))))))))
 
     pub endp_then : After (schedules Endp site x context) u Counted
     endp_then = by context.a (registers_there p c s n x k i decodes pp t d Endp is).a
@@ -236,7 +242,7 @@ ends_counted p c s s' n x k next makes =
     (step_then p c s n x k (λ _ z. HasCounted p c s n x k z) (λ i decodes pp t. record {
       goes = λ d e u w.
           absurd (go_not_scheduled Endp (sym e ∙ one_next (sym (next_is p c s n x k i pp t decodes d) ∙ next)));
-      jumps = λ d e u w f.
+      jumps = λ d e u w f still.
           absurd (jumped_not_scheduled Endp (sym e ∙ one_next (sym (next_is p c s n x k i pp t decodes d) ∙ next)));
       schedules = λ d o e u w.
           let same : o ≡ Endp =

@@ -3,7 +3,7 @@ use Rattle.std.proofs.Common.{◌≡◌, ◌≢◌, ℕ, zero, suc, refl, ap, �
 use Rattle.std.proofs.Common.{Option, Some, None, Ok}
 use Rattle.std.specs.Prelude.{if◌then◌else◌}
 use Rattle.std.proofs.lemmas.Bool.{eq-eqb, ne_eqb}
-use Rattle.tword.specs.Actions.{answer, ◌>>=◌, ◌>>◌, run_from}
+use Rattle.tword.specs.Actions.{Action, answer, ◌>>=◌, ◌>>◌, run_from}
 use Rattle.tword.specs.Words.{word_below}
 use Rattle.tword.specs.Stores.{Store, cells, with_cells, with_word, word_at}
 use Rattle.tword.specs.declared.span.Span.{Span}
@@ -63,6 +63,27 @@ abbrev pub linked : Store → Option ℕ → (workspace : ℕ) → Store
 linked store None w = store
 linked store (Some last) w = with_word store (word_below last 2) w
 
+-- a process that waits is queued, and then something else is done
+pub release_then : {A : Type 0} (other : ℕ) (m : Control) (f : Control → Action A) (old new : Store) (claims : Claims)
+    → ((v : ℕ) → Contains (queue m (priority_of other)) v → has_saved claims v ≡ true)
+    → run_from (release other m >>= f) old claims new
+    ≡ run_from (f (appended (workspace_of other) (priority_of other) (without_waiter other m))) old claims
+    (linked new (last_of (queue m (priority_of other))) (workspace_of other))
+unfolding release enqueue
+release_then other m f old new claims saves =
+    ap (λ (q : List ℕ). run_from (link_from (last_of q) (workspace_of other)
+    >> answer (appended (workspace_of other) (priority_of other) (without_waiter other m)) >>= f) old
+    claims new) (same_queue other m (priority_of other))
+    ∙ by (last_of (queue m (priority_of other))) refl
+  where
+    by : (l : Option ℕ) → last_of (queue m (priority_of other)) ≡ l
+        → run_from (link_from l (workspace_of other)
+        >> answer (appended (workspace_of other) (priority_of other) (without_waiter other m)) >>= f) old claims new
+        ≡ run_from (f (appended (workspace_of other) (priority_of other) (without_waiter other m))) old claims
+        (linked new l (workspace_of other))
+    by None e = refl
+    by (Some last) e = rw (saves last (last_contained (queue m (priority_of other)) last e)) refl
+
 release_run : (after : Registers) (other : ℕ) (m : Control) (old new : Store) (claims : Claims)
     → ((v : ℕ) → Contains (queue m (priority_of other)) v → has_saved claims v ≡ true)
     → run_from (release other m >>= goes_on after) old claims new
@@ -70,34 +91,12 @@ release_run : (after : Registers) (other : ℕ) (m : Control) (old new : Store) 
       (released after other m, ran.Instruction),
       linked new (last_of (queue m (priority_of other))) (workspace_of other),
     )
-unfolding release enqueue
 release_run after other m old new claims saves =
-    ap (λ (q : List ℕ). run_from (link_from (last_of q) (workspace_of other)
-    >> answer (appended (workspace_of other) (priority_of other) (without_waiter other m)) >>= goes_on after) old
-    claims new) (same_queue other m (priority_of other))
-    ∙ by (last_of (queue m (priority_of other))) refl
+    release_then other m (goes_on after) old new claims saves
     ∙ ap (λ (z : Control). Ok (
       (z, ran.Instruction),
-      linked new (last_of (queue m (priority_of other)))
-          (workspace_of other),
+      linked new (last_of (queue m (priority_of other))) (workspace_of other),
     )) (released_is after other m (priority_of other))
-  where
-    by : (l : Option ℕ) → last_of (queue m (priority_of other)) ≡ l
-        → run_from (link_from l (workspace_of other)
-        >> answer (appended (workspace_of other) (priority_of other) (without_waiter other m)) >>= goes_on after) old
-        claims new
-        ≡ Ok (
-          (
-            record (appended (workspace_of other) (priority_of other) (without_waiter other m)) {
-              registers = after;
-            },
-            ran.Instruction,
-          ),
-          linked new l (workspace_of other),
-        )
-    by None e = refl
-    by (Some last) e =
-        rw (saves last (last_contained (queue m (priority_of other)) last e)) refl
 
 -- where the bytes of a message are, and where they go
 abbrev pub from_of : Side → (own other : ℕ) → ℕ

@@ -3,7 +3,8 @@ use Rattle.std.proofs.Common.{◌≡◌, ℕ, refl, sym, ap, subst, ◌∙◌, B
 use Rattle.std.specs.Prelude.{◌==◌, pos, negsuc, if◌then◌else◌}
 use Rattle.std.proofs.lemmas.Bool.{eq-eqb}
 use Rattle.tplan.specs.declared.plan.Plan.{Plan}
-use Rattle.tprocesses.specs.Places.{Place, Name, WordAt, Sending, Standing, Half, LinkHalf, Error, HaltOnError, Life}
+use Rattle.tprocesses.specs.Places.{Place, Name, WordAt, Sending, Standing, Ports}
+use Rattle.tprocesses.specs.Places.{Half, LinkHalf, Error, HaltOnError, Life}
 use Rattle.tprocesses.specs.Places.{Successions, Messages, Kept, Population, HasRun, FlagChanged, same_name}
 use Rattle.tprocesses.specs.Places.{same_place}
 use Rattle.tprocesses.specs.Values.{Value, Context, Stand, Runs, IsStand, IsFlag, flag_in}
@@ -91,6 +92,7 @@ module _ (site : Site) where
       others (WordAt m i) e = f.others (WordAt m i) e
       others (Sending m i) e = f.others (Sending m i) e
       others (Standing x) e = f.others (Standing x) e
+      others (Ports x) e = f.others (Ports x) e
       others (Half m c side) e = f.others (Half m c side) e
       others (LinkHalf m side) e = f.others (LinkHalf m side) e
       others (HaltOnError m) e = f.others (HaltOnError m) e
@@ -132,6 +134,7 @@ module _ (site : Site) where
       others (WordAt m i) e = f.others (WordAt m i) e
       others (Sending m i) e = f.others (Sending m i) e
       others (Standing x) e = f.others (Standing x) e
+      others (Ports x) e = f.others (Ports x) e
       others (Half m c side) e = f.others (Half m c side) e
       others (LinkHalf m side) e = f.others (LinkHalf m side) e
       others (Error m) e = f.others (Error m) e
@@ -228,6 +231,7 @@ module _ (site : Site) where
       others (WordAt m i) e = f.others (WordAt m i) e
       others (Sending m i) e = f.others (Sending m i) e
       others (Standing x) e = f.others (Standing x) e
+      others (Ports x) e = f.others (Ports x) e
       others (Half m c side) e = f.others (Half m c side) e
       others (LinkHalf m side) e = f.others (LinkHalf m side) e
       others (HaltOnError m) e = f.others (HaltOnError m) e

@@ -1,13 +1,16 @@
 -- What is shown of a node stays shown where all places of the node stay.
+use Rattle.tprocesses.specs.Values.{amount_in}
 use Rattle.std.proofs.Common.{◌≡◌, ℕ, refl, sym, ap, subst, ◌∙◌, Option, ◌⊎◌, inl, inr, true}
 use Rattle.std.proofs.lemmas.Option.{IfSome_then}
 use Rattle.tcpu.specs.declared.registers.Registers.{Registers}
 use Rattle.tplan.specs.declared.plan.NodePlan.{NodePlan}
 use Rattle.tplan.specs.Wires.{end_at}
 use Rattle.tnet.specs.Rendezvous.{Node}
-use Rattle.tprocesses.specs.Places.{Place, Name, WordAt, Sending, Standing, Half, LinkHalf, Error, HaltOnError, Life}
+use Rattle.tprocesses.specs.Places.{Place, Name, WordAt, Sending, Standing, Ports}
+use Rattle.tprocesses.specs.Places.{Half, LinkHalf, Error, HaltOnError, Life}
 use Rattle.tprocesses.specs.Places.{Successions, Messages, Kept, Population, HasRun, FlagChanged}
-use Rattle.tprocesses.specs.Values.{Value, word_in}
+use Rattle.tprocesses.specs.Values.{Value, word_in, stand_in}
+use Rattle.tseen.specs.Choices.{alternative_of, is_quiet}
 use Rattle.tseen.specs.Seats.{Seat, is_taken}
 use Rattle.tseen.specs.Outputs.{Pending}
 use Rattle.std.proofs.lemmas.List.Elements.{All-contains}
@@ -19,12 +22,14 @@ use Rattle.tseen.specs.Shown.{ShowsNode}
 use Rattle.tseen.proofs.After.{State}
 use Rattle.tseen.proofs.Cells.{use_of}
 use Rattle.tseen.proofs.Staying.{saved_words_stay, marks_from, channels_stay, link_stays}
+use Rattle.tseen.proofs.Choices.{choices_stay}
 
 -- the node of a place
 abbrev pub node_at : Place → ℕ
 node_at (WordAt n k) = n
 node_at (Sending n k) = n
 node_at (Standing x) = x.node
+node_at (Ports x) = x.node
 node_at (Half n c side) = n
 node_at (LinkHalf e side) = e.node
 node_at (Error n) = n
@@ -110,6 +115,12 @@ module _ (n : ℕ) (s s' : State) (same : (q : Place) → node_at q ≡ n → s'
         links = λ l h. link_stays s s' n named named sent node node l (λ w. refl)
             (λ side. same (LinkHalf (end_at n l) side) refl) refl refl (k.links l h);
         processes = processes_stay named sent node k.processes;
+        choices = choices_stay s s' n node.machine.store node.machine.store
+            (λ x h. ap (λ (v : Value). alternative_of (stand_in v)) (same (Standing x) h))
+            (λ x h e. ap (λ (v : Value). is_quiet (stand_in v)) (same (Standing x) h) ∙ e)
+            (λ x h. same (Ports x) h) (λ c side. same (Half n c side) refl)
+            (λ j e z. ap amount_in (same (Sending n j) refl) ∙ z) (λ j e. same (WordAt n j) refl) refl (λ a e f. refl)
+            k.choices;
       }
     where
       uses : (j : ℕ) → use_of s' n j ≡ use_of s n j

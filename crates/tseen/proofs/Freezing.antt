@@ -8,7 +8,8 @@ use Rattle.tword.specs.Words.{plus}
 use Rattle.tword.specs.Actions.{run_from}
 use Rattle.tcode.specs.declared.instruction.Instruction.{Instruction}
 use Rattle.tcode.specs.declared.instruction.Operation.{Operation}
-use Rattle.tcode.specs.declared.instruction.Operation.TheVariants.{Startp, Endp, Runp, Stopp, Stoperr, Ldpri, In}
+use Rattle.tcode.specs.declared.instruction.Operation.TheVariants.{Alt, Enbc, Enbs, Altwt, Disc, Diss, Altend, Startp}
+use Rattle.tcode.specs.declared.instruction.Operation.TheVariants.{Endp, Runp, Stopp, Stoperr, Ldpri, In}
 use Rattle.tcode.specs.declared.instruction.Operation.TheVariants.{Out, Outbyte, Outword}
 use Rattle.tcpu.specs.declared.registers.Next.{Next}
 use Rattle.tcpu.specs.declared.registers.Next.TheVariants.{Go, Jumped, Schedule, Halt}
@@ -108,7 +109,7 @@ module _ (p : Plan) (c : Configuration) (s s' : State) (n : ℕ) (x : Name) (k :
             absurd (go_not_jumped (sym e ∙ one_next (sym (next_is p c s n x k i pp t decodes d) ∙ next)));
         schedules = λ d o e u w.
             absurd (scheduled_not_jumped o (sym e ∙ one_next (sym (next_is p c s n x k i pp t decodes d) ∙ next)));
-        jumps = λ d e u mv f.
+        jumps = λ d e u mv f still.
             after_all (jumped (left p c s n x k i pp).priority (site_of n k.plan) x (left p c s n x k i pp)) u
             (λ _ z. IsDone k.node.machine) (λ y z.
             let r : (count : ℕ) × (run_from (after i.length 1 m d.after Jumped) k.node.machine.store (claims_of m)
@@ -149,7 +150,7 @@ module _ (p : Plan) (c : Configuration) (s s' : State) (n : ℕ) (x : Name) (k :
       (λ i decodes pp t. record {
         goes = λ d e u w.
             absurd (go_not_scheduled o (sym e ∙ one_next (sym (next_is p c s n x k i pp t decodes d) ∙ next)));
-        jumps = λ d e u w f.
+        jumps = λ d e u w f still.
             absurd (jumped_not_scheduled o (sym e ∙ one_next (sym (next_is p c s n x k i pp t decodes d) ∙ next)));
         schedules = λ d o' e u w.
             subst (λ z. After (schedules z (site_of n k.plan) x (record (there p c s n x k).context {
@@ -175,6 +176,13 @@ module _ (p : Plan) (c : Configuration) (s s' : State) (n : ℕ) (x : Name) (k :
   operation Out next h = absurd (true≢false h)
   operation Outbyte next h = absurd (true≢false h)
   operation Outword next h = absurd (true≢false h)
+  operation Alt next h = absurd (true≢false h)
+  operation Enbc next h = absurd (true≢false h)
+  operation Enbs next h = absurd (true≢false h)
+  operation Altwt next h = absurd (true≢false h)
+  operation Disc next h = absurd (true≢false h)
+  operation Diss next h = absurd (true≢false h)
+  operation Altend next h = absurd (true≢false h)
   operation o next h = never o next (λ u i. tt)
 
   pub breaks_nothing : (next : Next) → next_of k.node.machine ≡ Some next → meets_others next ≡ false

@@ -1,7 +1,9 @@
 -- A process takes its half of an internal channel: what its part of the step tells, and what it leaves.
+use Rattle.tprocesses.specs.Values.{Awaiting}
+use Rattle.tprocesses.specs.Values.{AwaitedBy}
 use Rattle.std.proofs.Common.{◌≡◌, ◌≢◌, ℕ, ◌+◌, ◌*◌, ◌≤◌, ◌/◌, ◌%◌, refl, sym, ap, subst, ◌∙◌, Bool, true, false}
 use Rattle.std.proofs.Common.{true≢false, length, get_or, Option, Some, None, ◌⊎◌, inl, inr, pos}
-use Rattle.std.specs.Prelude.{◌==◌, is_none, is_some, slice_get, if◌then◌else◌}
+use Rattle.std.specs.Prelude.{◌==◌, is_some, slice_get, if◌then◌else◌}
 use Rattle.std.proofs.lemmas.Bool.{eqb-true, cases_eq}
 use Rattle.tword.specs.Stores.{Store}
 use Rattle.tword.specs.declared.span.Span.{Span}
@@ -15,13 +17,14 @@ use Rattle.tplan.specs.declared.plan.NodePlan.{NodePlan}
 use Rattle.tagents.specs.Walks.{deed_of, are_open, label_of, state_after}
 use Rattle.tagents.specs.Agents.{Does}
 use Rattle.tprocesses.specs.Places.{Place, Name, WordAt, Sending, Half, same_place}
-use Rattle.tprocesses.specs.Values.{Value, Word, Use, Free, Saved, Receiving, Engaged, Last, Spoilt, Context, Waits}
-use Rattle.tprocesses.specs.Values.{Request, IsWord, IsHalf, word_in, half_in, amount_in, unknown}
+use Rattle.tprocesses.specs.Values.{EnabledBy, Holder, Nobody, Choosing, TakenBy, Value, Word, Use, Free, Saved}
+use Rattle.tprocesses.specs.Values.{Receiving, Engaged, Last, Spoilt, Context, Waits}
+use Rattle.tprocesses.specs.Values.{IsWord, IsHalf, word_in, half_in, amount_in, unknown}
 use Rattle.tprocesses.specs.Changes.{Put, Engage, apply, engaged, taken, known_word, used_word}
 use Rattle.tprocesses.specs.Parts.{Part, Doing, Breaks, require, unless, walk_of}
 use Rattle.tprocesses.specs.Touching.{Site, word_number, unsent, touch, save, forgotten}
 use Rattle.tprocesses.specs.Standing.{forget}
-use Rattle.tprocesses.specs.ChannelMessages.{takes_half}
+use Rattle.tprocesses.specs.ChannelMessages.{is_nobody, takes_half}
 use Rattle.tprocesses.specs.Scheduling.{successor_step, goes_on_after}
 use Rattle.tprocesses.specs.Machine.{Successor, process_machine, step_of, site_of, at_site}
 use Rattle.tprocesses.specs.Certified.{machine_of}
@@ -74,6 +77,8 @@ engaged_four Free cells = by (known_word cells)
 engaged_four Saved cells = refl
 engaged_four Receiving cells = refl
 engaged_four Engaged cells = refl
+engaged_four Choosing cells = refl
+engaged_four Awaiting cells = refl
 engaged_four (Last p) cells = refl
 engaged_four Spoilt cells = refl
 
@@ -81,7 +86,7 @@ engaged_four Spoilt cells = refl
 abbrev pub IsFound : Word → Type 0
 IsFound w = ((w.used ≡ Free) × (known_word w.cells ≡ Some not_process)) ⊎ (w.used ≡ Engaged)
 
-engaged_found : (w : Word) → ((engaged w.used w.cells).used ≡ Spoilt → ⊥)
+pub engaged_found : (w : Word) → ((engaged w.used w.cells).used ≡ Spoilt → ⊥)
     → IsFound w × (engaged w.used w.cells ≡ used_word Engaged)
 engaged_found w h = by w.used refl h
   where
@@ -101,6 +106,8 @@ engaged_found w h = by w.used refl h
     by Free e h = free e (known_word w.cells) refl h
     by Engaged e h = (inr e, refl)
     by Saved e h = absurd (h refl)
+    by Choosing e h = absurd (h refl)
+    by Awaiting e h = absurd (h refl)
     by Receiving e h = absurd (h refl)
     by (Last p) e h = absurd (h refl)
     by Spoilt e h = absurd (h refl)
@@ -118,7 +125,7 @@ module _ (site : Site) (whole : site.size % 4 ≡ 0) where
 
     -- the half is taken
     abbrev pub claimed : State → State
-    claimed u = changed (Half n channel side) (Put (IsHalf (Some (record { process = x; buffer = buffer })))) u
+    claimed u = changed (Half n channel side) (Put (IsHalf (TakenBy (record { process = x; buffer = buffer })))) u
 
     -- the channel word is
     abbrev pub engaging : State → State
@@ -127,7 +134,7 @@ module _ (site : Site) (whole : site.size % 4 ≡ 0) where
     -- a process has taken its half, and waits
     pub record IsHalfTaken (u v : State) : Type 0 where
       pub placed : word_place_break site.size channel ≡ None
-      pub empty : half_in (u (Half n channel side)) ≡ None
+      pub empty : half_in (u (Half n channel side)) ≡ Nobody
       pub unsent : amount_in (u (Sending n k)) ≡ pos 0
       pub lowered : State
       pub saved : IsSaved site whole (claimed u) lowered w forgotten
@@ -175,8 +182,8 @@ module _ (site : Site) (whole : site.size % 4 ≡ 0) where
     takes_half_then p u Q h q =
         after_bind (unless (word_place_break site.size channel)) _ u Q
         (after_unless (word_place_break site.size channel) u _ (λ placed.
-        after_bind (require (is_none (half_in (u (Half n channel side)))) (Breaks ChannelMisuse)) _ u Q
-        (after_require (is_none (half_in (u (Half n channel side)))) (Breaks ChannelMisuse) u _ (λ empty.
+        after_bind (require (is_nobody (half_in (u (Half n channel side)))) (Breaks ChannelMisuse)) _ u Q
+        (after_require (is_nobody (half_in (u (Half n channel side)))) (Breaks ChannelMisuse) u _ (λ empty.
         after_bind (unsent site k) _ (claimed u) Q (unsent_then site k (claimed u) _ (λ z.
         after_bind (save site w forgotten) _ (claimed u) Q (save_then site whole w forgotten (claimed u) _ (λ t saved.
         after_bind (touch site (mode_of side) buffer) _ (engaging t) Q
@@ -194,9 +201,11 @@ module _ (site : Site) (whole : site.size % 4 ≡ 0) where
           waits = waits;
         }))))))))))))
       where
-        is_empty : (o : Option Request) → is_none o ≡ true → o ≡ None
-        is_empty None e = refl
-        is_empty (Some r) e = absurd (true≢false (sym e))
+        is_empty : (h : Holder) → is_nobody h ≡ true → h ≡ Nobody
+        is_empty Nobody e = refl
+        is_empty (TakenBy r) e = absurd (true≢false (sym e))
+        is_empty (EnabledBy y) e = absurd (true≢false (sym e))
+        is_empty (AwaitedBy y) e = absurd (true≢false (sym e))
 
     -- what it leaves, where its channel word is not spoilt
     module _ (u v : State) (h : IsHalfTaken u v) (words : AreWhole site whole u)
@@ -313,7 +322,7 @@ module _ (site : Site) (whole : site.size % 4 ≡ 0) where
 
       -- the half is taken by the process
       pub half_now : Plan → v (Half n channel side)
-          ≡ IsHalf (Some (record { process = x; buffer = buffer }))
+          ≡ IsHalf (TakenBy (record { process = x; buffer = buffer }))
       half_now p =
           h.waits.others (Half n channel side) refl ∙ changed_else n k Engage t (Half n channel side) refl
           ∙ h.saved.set.rest (Half n channel side) (no_word n w (Half n channel side) refl)

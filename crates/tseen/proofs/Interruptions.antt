@@ -15,7 +15,7 @@ use Rattle.tplan.specs.declared.plan.Plan.{Plan}
 use Rattle.tnet.specs.Rendezvous.{Node, Configuration, put_node}
 use Rattle.tnet.proofs.Puts.{put-same}
 use Rattle.tprocesses.specs.Places.{Name}
-use Rattle.tprocesses.specs.Values.{Stand, Absent, Rests, Runs, Waits, Ended}
+use Rattle.tprocesses.specs.Values.{Chosen, Chooses, Stand, Absent, Rests, Runs, Waits, Ended}
 use Rattle.tseen.specs.Known.{HasRegisters}
 use Rattle.tseen.specs.Seats.{Seat, Current, Interrupted, Queued, Waiting, is_taken}
 use Rattle.tseen.specs.Processes.{Fits, IsSeated, IsGone, ShowsProcesses}
@@ -124,6 +124,8 @@ module _ (p : Plan) (c : Configuration) (s : State) (n : ℕ) (x : Name) (k : Is
       by (Rests d) f = absurd f
       by (Waits d) f = absurd f
       by Ended f = absurd f
+      by (Chooses d) f = absurd f
+      by (Chosen d) f = absurd f
 
   seated : (q : Seat) → is_taken (aside m) q ≡ true → IsSeated s n beside q (named' q)
   seated Current h = absurd (true≢false (sym h))
@@ -202,6 +204,7 @@ module _ (p : Plan) (c : Configuration) (s : State) (n : ℕ) (x : Name) (k : Is
         links = λ l h. link_stays s s n named named' (k.shows.sent n) k.node beside l (λ w. refl) (λ side. refl)
             refl refl (shown.links l h);
         processes = processes;
+        choices = shown.choices;
       }
 
   -- the net where it has stepped aside

@@ -1,4 +1,7 @@
 -- Instructions that are done, and jumps after which the process runs on.
+use Rattle.std.specs.Prelude.{◌==◌}
+use Rattle.std.proofs.Common.{◌||◌}
+use Rattle.std.proofs.Common.{is_none}
 use Rattle.std.proofs.Common.{◌≡◌, ◌≢◌, ℕ, refl, sym, subst, ◌∙◌, List, [], ◌∷◌, Bool, true, false}
 use Rattle.std.proofs.Common.{true≢false, length, Ok, Option, Some, None, arith, inr}
 use Rattle.std.specs.Prelude.{◌&&◌, ◌||◌, nat_le, nat_lt, slice_get}
@@ -63,7 +66,7 @@ instructions_are_done p c s s' n x k makes =
         next_is p c s n x k i pp t decodes d,
         λ f. go_not_halt (sym e ∙ f),
       );
-      jumps = λ d e u moved flagged.
+      jumps = λ d e u moved flagged still.
           after_all (jumped (left p c s n x k i pp).priority (site_of n k.plan) x (left p c s n x k i pp)) u
           (λ _ s'. (next : Next) × (next_of k.node.machine ≡ Some next) × (next ≢ Halt)) (λ y v. (
             d.next,
@@ -97,15 +100,16 @@ high_jumps_are_seen p c s s' n x k next high makes =
       goes = λ d e u w. absurd (go_not_jumped (sym e ∙ one_next (sym (next_is p c s n x k i pp t decodes d) ∙ next)));
       schedules = λ d o e u w.
           absurd (scheduled_not_jumped o (sym e ∙ one_next (sym (next_is p c s n x k i pp t decodes d) ∙ next)));
-      jumps = λ d e u m f.
+      jumps = λ d e u m f still.
           subst (λ q. After (jumped q (site_of n k.plan) x (left p c s n x k i pp)) u (λ _ s'. LeadsTo p c n s'))
           (sym (d.knows.priority ∙ level)) (stands_then (site_of n k.plan) p x (Runs (left p c s n x k i pp)) u
           (λ _ s'. LeadsTo p c n s') (λ v h.
           leads p c s n x k d.after d.store' (gone_on p c s n x k d.after).count v t
           (step_is p c s n x k i pp t d (gone_on p c s n x k d.after) d.store' decodes
           (runs_on i.length d.after d.next d.store' e)) d.on
-          (left p c s n x k i pp) d.knows
-          (went (site_of n k.plan) x (there p c s n x k).context.wptr d.after (left p c s n x k i pp) t t u v f m h)));
+          (left p c s n x k i pp) d.knows refl
+          (went (site_of n k.plan) x (there p c s n x k).context.wptr d.after
+          (left p c s n x k i pp) t t u v f m h still)));
     }))
   where
     level : (there p c s n x k).level ≡ 0
@@ -180,6 +184,7 @@ module _ (p : Plan) (c : Configuration) (s : State) (n : ℕ) (x : Name) (k : Is
     rests : StandsNow site x (Rests resting) v v1
     freed : IsUnsaved site running.whole v1 v3 jumped_context.wptr
     goes : StandsNow site x (Runs again) v3 v4
+    still : (is_none again.choice || (running.context.wptr == d.after.wptr)) ≡ true
 
   module _ (u v v1 v3 v4 : State) (a : AreSteps u v v1 v3 v4) (stays : yields m ≡ false) where
     -- what is no word and not where the process stands was left by the move
@@ -207,6 +212,7 @@ module _ (p : Plan) (c : Configuration) (s : State) (n : ℕ) (x : Name) (k : Is
             passes (Error n) refl refl ∙ a.moved_on.others (Error n) refl,
             passes (HaltOnError n) refl refl ∙ a.moved_on.others (HaltOnError n) refl,
           );
+          stays = a.still;
         }
       where
         others : (q : Place) → ((is_flag_of n q || is_life_of n q) ≡ false) × (is_stand_of x q ≡ false) → (b : Bool)
@@ -234,14 +240,15 @@ module _ (p : Plan) (c : Configuration) (s : State) (n : ℕ) (x : Name) (k : Is
               b = tt;
               c = tt;
               nothing_lent = refl;
-            }) went_on
+            }) refl went_on
 
   -- the process goes on from its rest
   resumed : (u v v1 : State) → HasMoved site running.context.wptr d.after.wptr t u
       → IsFlagged n d.after.error d.after.halt_on_error t t
       → IsSaved site running.whole u v jumped_context.wptr kept → StandsNow site x (Rests resting) v v1
-      → yields m ≡ false → After (step_of p (Process x)) v1 Leads
-  resumed u v v1 moved_on flagged saved rests stays =
+      → yields m ≡ false → (is_none again.choice || (running.context.wptr == d.after.wptr)) ≡ true
+      → After (step_of p (Process x)) v1 Leads
+  resumed u v v1 moved_on flagged saved rests stays still =
       resting_then p k.plan n v1 x resting Leads running.home k.planned rests.is
       (after_bind (unsave site jumped_context.wptr) _ v1 Leads
       (unsave_then site running.whole jumped_context.wptr v1 _ saved.three_two saved.three_one saved.two_one (λ v3 us.
@@ -255,6 +262,7 @@ module _ (p : Plan) (c : Configuration) (s : State) (n : ℕ) (x : Name) (k : Is
         rests = rests;
         freed = us;
         goes = h;
+        still = still;
       }) stays)))))
 
   -- so the jump and what follows it
@@ -263,12 +271,13 @@ module _ (p : Plan) (c : Configuration) (s : State) (n : ℕ) (x : Name) (k : Is
 
   pub jump_then : (u : State) → HasMoved site running.context.wptr d.after.wptr t u
       → IsFlagged n d.after.error d.after.halt_on_error t t → yields m ≡ false
+      → (is_none again.choice || (running.context.wptr == d.after.wptr)) ≡ true
       → After (jumped 1 site x jumped_context) u GoesAgain
-  jump_then u moved_on flagged stays =
+  jump_then u moved_on flagged stays still =
       after_bind (save site jumped_context.wptr kept) _ u GoesAgain
       (save_then site running.whole jumped_context.wptr kept u _ (λ v saved.
       stands_then site p x (Rests resting) v GoesAgain (λ v1 rests v2 makes.
-      after_step p x v1 v2 Leads makes (resumed u v v1 moved_on flagged saved rests stays))))
+      after_step p x v1 v2 Leads makes (resumed u v v1 moved_on flagged saved rests stays still))))
 
 -- jumps of low processes that do not yield are seen
 pub low_jumps_are_seen : LowJumpsAreSeen
@@ -279,10 +288,10 @@ low_jumps_are_seen p c s s' s'' n x k next low stays makes again =
       goes = λ d e u w. absurd (go_not_jumped (sym e ∙ one_next (sym (next_is p c s n x k i pp t decodes d) ∙ next)));
       schedules = λ d o e u w.
           absurd (scheduled_not_jumped o (sym e ∙ one_next (sym (next_is p c s n x k i pp t decodes d) ∙ next)));
-      jumps = λ d e u m f.
+      jumps = λ d e u m f still.
           subst (λ q. After (jumped q (site_of n k.plan) x (left p c s n x k i pp)) u
           (λ _ s'. (s'' : State) → Makes p x s' s'' → LeadsTo p c n s''))
-          (sym (d.knows.priority ∙ level)) (jump_then p c s n x k i decodes pp t d e level u m f stays);
+          (sym (d.knows.priority ∙ level)) (jump_then p c s n x k i decodes pp t d e level u m f stays still);
     })) s'' again
   where
     level : (there p c s n x k).level ≡ 1

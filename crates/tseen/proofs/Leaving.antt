@@ -1,4 +1,11 @@
 -- A node whose current process has ended is shown, where its step changed free words alone.
+use Rattle.tprocesses.specs.Values.{amount_in}
+use Rattle.tprocesses.specs.Values.{stand_in}
+use Rattle.tseen.proofs.Unclaimed.{aside_not_free}
+use Rattle.tseen.proofs.Choices.{is_lasting, lasting_not_free, stands_alike}
+use Rattle.tseen.proofs.Choices.{quiet_alike, alternative_none, choices_stay}
+use Rattle.tprocesses.specs.Places.{Ports}
+use Rattle.tseen.specs.Choices.{alternative_of, alternative_at, is_quiet}
 use Rattle.std.proofs.Common.{◌≡◌, ◌≢◌, ℕ, ◌+◌, ◌*◌, ◌≤◌, ◌/◌, ◌%◌, refl, sym, ap, subst, ◌∙◌, Bool, true, false}
 use Rattle.std.proofs.Common.{true≢false, length, Contains, Ok, arith, ◌⊎◌, inl, inr, pos, None, cond, get_or}
 use Rattle.std.specs.Prelude.{◌==◌, ◌||◌, negsuc, if◌then◌else◌}
@@ -21,7 +28,7 @@ use Rattle.tplan.specs.Wires.{end_at}
 use Rattle.tnet.specs.Rendezvous.{Node, Configuration}
 use Rattle.tprocesses.specs.Places.{Place, Name, WordAt, Sending, Standing, Half, LinkHalf, Error, HaltOnError, Life}
 use Rattle.tprocesses.specs.Places.{Population, HasRun, same_name}
-use Rattle.tprocesses.specs.Values.{Value, Free, Saved, Engaged, Context, Stand, Rests, Runs, Ended, IsStand, IsAmount}
+use Rattle.tprocesses.specs.Values.{Value, Free, Context, Stand, Rests, Runs, Ended, IsStand, IsAmount}
 use Rattle.tprocesses.specs.Values.{word_in}
 use Rattle.tprocesses.specs.Changes.{Add, apply}
 use Rattle.tprocesses.specs.Touching.{Site, word_number}
@@ -88,6 +95,7 @@ module _ (p : Plan) (c : Configuration) (s : State) (n : ℕ) (x : Name) (k : Is
   pub record HasLeft (s' : State) (last : Store) : Type 0 where
     pub before : State
     pub on : GoesOn n k.plan.memory s before store last
+    pub plain : running.context.choice ≡ None
     pub ended : StandsNow site x Ended (changed (Life n m.registers.wptr) (Add (negsuc 0)) before) s'
 
   -- the saved first addresses are those that they were
@@ -179,16 +187,13 @@ module _ (p : Plan) (c : Configuration) (s : State) (n : ℕ) (x : Name) (k : Is
       abbrev node' : Node
       node' = record k.node { machine = rested last }
 
-      channel_word : (a : ℕ) → word_place_break (length store) a ≡ None → use_at s n a ≡ Engaged
+      lasting_word : (a : ℕ) → word_place_break (length store) a ≡ None → is_lasting (use_at s n a) ≡ true
           → word_at last a ≡ word_at store a
-      channel_word a h e =
+      lasting_word a h e =
           let l : (place a ≡ 4 * word_number a) × (most_neg ≤ a) × (4 * word_number a + 4 ≤ k.plan.memory) =
           word_lies site running.whole a (subst (λ z. word_place_break z a ≡ None) shown.size h) in
           word_stays s n k.plan.memory store last a left.on.only shown.size left.on.tells.length l.0 l.2
-          (λ f. not_free (sym e ∙ f))
-        where
-          not_free : Engaged ≡ Free → ⊥
-          not_free e = cc
+          (lasting_not_free e)
 
       not_this : (y : Name) (stand : Stand) → s (Standing y) ≡ IsStand stand → is_running (IsStand stand) ≡ false
           → same_name x y ≡ false
@@ -214,7 +219,7 @@ module _ (p : Plan) (c : Configuration) (s : State) (n : ℕ) (x : Name) (k : Is
           let old : IsSeated s n k.node (Waiting b) (named (Waiting b)) = shown.processes.seated (Waiting b) h in
           waiting_seated n x s s' stand_stays run_stays k.node node' b (named (Waiting b))
           (not_this (named (Waiting b)) old.stand old.stands (waiting_not_running k.node b old.stand old.fits))
-          (λ f. f) (iptrs (workspace_of b) (waits_descheduled m b h)) old
+          (λ f. f) (λ f. f) (iptrs (workspace_of b) (waits_descheduled m b h)) old
 
       abbrev HasPlace : Name → Type 0
       HasPlace y = IsGone s' n y ⊎ ((q : Seat) × (is_taken (at_rest m) q ≡ true) × (named q ≡ y))
@@ -283,12 +288,6 @@ module _ (p : Plan) (c : Configuration) (s : State) (n : ℕ) (x : Name) (k : Is
           rests_before y a e true same =
               absurd (not_rests a (sym left.ended.is ∙ ap (λ z. s' (Standing z)) (one_name p x y same) ∙ e))
 
-      saved_not_free : (j : ℕ) → use_of s n j ≡ Saved → use_of s n j ≡ Free → ⊥
-      saved_not_free j e f = differ (sym e ∙ f)
-        where
-          differ : Saved ≡ Free → ⊥
-          differ e = cc
-
       -- so the node is shown
       pub left_shown : ShowsNode s' n k.plan named (k.shows.sent n) node'
       left_shown =
@@ -300,7 +299,7 @@ module _ (p : Plan) (c : Configuration) (s : State) (n : ℕ) (x : Name) (k : Is
             kind = shown.kind;
             store = shows_from s' n k.plan.memory last tells_now;
             marks = marks_from s s' n (k.shows.sent n) (k.shows.sent n) m (at_rest m)
-                (λ w h. saved_words_stay s s' n w (λ j e. unfree_stays j (saved_not_free j e))
+                (λ w h. saved_words_stay s s' n w (λ j e. unfree_stays j (aside_not_free e))
                 (All-contains (AreSavedWords s n) (descheduled m) w shown.marks.saved h))
                 (λ l. refl) (λ j e. used_now j ∙ e)
                 (λ j. stay (Sending n j) refl refl ∙ shown.marks.outputs j)
@@ -308,11 +307,28 @@ module _ (p : Plan) (c : Configuration) (s : State) (n : ℕ) (x : Name) (k : Is
             channels = channels_stay s s' n named named k.node.machine (rested last) (λ b. refl)
                 (λ j e. used_now j ∙ e) (λ j e. sym (used_now j) ∙ e)
                 (λ a side. stay (Half n a side) refl refl) (λ q. refl) (left.on.tells.length ∙ sym shown.size)
-                channel_word shown.channels;
+                (λ a h e. lasting_word a h (ap is_lasting e)) shown.channels;
             links = λ l h. link_stays s s' n named named (k.shows.sent n) k.node node' l (λ b. refl)
                 (λ side. stay (LinkHalf (end_at n l) side) refl refl) refl refl (shown.links l h);
             processes = processes_left;
+            choices = choices_stay s s' n store last
+                (λ y h. stands_alike p s s' n x stand_stays (alternative_now ∙ sym alternative_before) y)
+                (λ y h e. quiet_alike p s s' n x stand_stays quiet_now y e) (λ y h. stay (Ports y) refl refl)
+                (λ a side. stay (Half n a side) refl refl) (λ j e z. ap amount_in (stay (Sending n j) refl refl) ∙ z)
+                (λ j e. unfree_stays j (lasting_not_free e)) (left.on.tells.length ∙ sym shown.size)
+                lasting_word shown.choices;
           }
+        where
+          alternative_now : alternative_at s' n x ≡ None
+          alternative_now = ap (λ (v : Value). alternative_of (stand_in v)) left.ended.is
+
+          alternative_before : alternative_at s n x ≡ None
+          alternative_before =
+              ap (λ (v : Value). alternative_of (stand_in v)) running.stood
+              ∙ alternative_none true false running.context left.plain
+
+          quiet_now : is_quiet (stand_in (s' (Standing x))) ≡ true
+          quiet_now = ap (λ (v : Value). is_quiet (stand_in v)) left.ended.is
 
     -- where the node's step leaves no process running, it leads there
     pub left_leads : step k.node.machine ≡ Ok (rested last, ran.Instruction) → LeadsTo p c n s'

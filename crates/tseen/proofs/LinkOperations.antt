@@ -151,7 +151,8 @@ module _ (p : Plan) (c : Configuration) (s : State) (n : ℕ) (x : Name) (k : Is
       else takes_half site x context side r.b buffer) v Leads) (sym link)
       (takes_link_then site running.whole x context side r.b buffer v gone.tells.words p Leads (λ s' a.
       take_leads p c s n x k v store1 gone r same_wptr small context knows side r.b buffer s' a link
-      (ap (λ (z : Registers). z.error) same) (ap (λ (z : Registers). z.halt_on_error) same) (stepped s' a)))
+      (ap (λ (z : Registers). z.error) same) (ap (λ (z : Registers). z.halt_on_error) same) refl
+      (stepped s' a)))
 
   -- what a processor does is its step
   steps_by : (control : Control) (side : Side) (last : Store)
@@ -187,7 +188,7 @@ module _ (p : Plan) (c : Configuration) (s : State) (n : ℕ) (x : Name) (k : Is
         (claims_of m)
         (may_take_it p c s n x k u d.store' on r same_wptr small context knows Input r.b
         (record { start = r.c; size = r.a }) s' a link (ap (λ (z : Registers). z.error) same)
-        (ap (λ (z : Registers). z.halt_on_error) same)
+        (ap (λ (z : Registers). z.halt_on_error) same) refl
         (counted_by In running.level (record m { registers = r })).count)))))))
 
     out_then : o ≡ Out → After (schedules Out site x context) u Leads
@@ -210,7 +211,7 @@ module _ (p : Plan) (c : Configuration) (s : State) (n : ℕ) (x : Name) (k : Is
         (claims_of m)
         (may_take_it p c s n x k u d.store' on r same_wptr small context knows Output r.b
         (record { start = r.c; size = r.a }) s' a link (ap (λ (z : Registers). z.error) same)
-        (ap (λ (z : Registers). z.halt_on_error) same)
+        (ap (λ (z : Registers). z.halt_on_error) same) refl
         (counted_by Out running.level (record m { registers = r })).count)))))))
 
     -- the message is stored
@@ -262,7 +263,7 @@ module _ (p : Plan) (c : Configuration) (s : State) (n : ℕ) (x : Name) (k : Is
         (claims_of m) (passes v written)
         (may_take_it p c s n x k v (with_word d.store' r.wptr r.a) (gone v written) r same_wptr small context knows
         Output r.b (record { start = r.wptr; size = 1 }) s' a link (ap (λ (z : Registers). z.error) same)
-        (ap (λ (z : Registers). z.halt_on_error) same)
+        (ap (λ (z : Registers). z.halt_on_error) same) refl
         (counted_by Outbyte running.level (record m { registers = r })).count))))))))
 
     outword_then : o ≡ Outword → After (schedules Outword site x context) u Leads
@@ -289,7 +290,7 @@ module _ (p : Plan) (c : Configuration) (s : State) (n : ℕ) (x : Name) (k : Is
         (claims_of m) (passes v written)
         (may_take_it p c s n x k v (with_word d.store' r.wptr r.a) (gone v written) r same_wptr small context knows
         Output r.b (record { start = r.wptr; size = 4 }) s' a link (ap (λ (z : Registers). z.error) same)
-        (ap (λ (z : Registers). z.halt_on_error) same)
+        (ap (λ (z : Registers). z.halt_on_error) same) refl
         (counted_by Outword running.level (record m { registers = r })).count))))))))
 
   -- by the operation
@@ -313,7 +314,7 @@ link_operations_are_seen p c s s' n x o k next message on_link makes =
     (λ i decodes pp t. record {
       goes = λ d e u w.
           absurd (go_not_scheduled o (sym e ∙ one_next (sym (next_is p c s n x k i pp t decodes d) ∙ next)));
-      jumps = λ d e u m f.
+      jumps = λ d e u m f still.
           absurd (jumped_not_scheduled o (sym e ∙ one_next (sym (next_is p c s n x k i pp t decodes d) ∙ next)));
       schedules = λ d o' e u m.
           let same : o' ≡ o = one_operation (sym e ∙ one_next (sym (next_is p c s n x k i pp t decodes d) ∙ next)) in

@@ -1,4 +1,5 @@
 -- A process has taken its half of a link: what its processor does, and its memory then.
+use Rattle.tseen.specs.Words.{is_set_aside}
 use Rattle.std.proofs.Common.{◌≡◌, ◌≢◌, ℕ, ◌+◌, ◌-◌, ◌*◌, ◌<◌, ◌≤◌, ◌/◌, ◌%◌, ◌^◌, refl, sym, ap, subst, ◌∙◌}
 use Rattle.std.proofs.Common.{Bool, true, false, true≢false, cond, length, get_or, replicate, Option, None}
 use Rattle.std.proofs.Common.{arith, ◌⊎◌, inl, inr}
@@ -313,7 +314,7 @@ module _ (p : Plan) (c : Configuration) (s : State) (n : ℕ) (x : Name) (k : Is
       words_are_saved s' n w
       (ap (λ (z : Value). (word_in z).used) (own_word (below w 1) used_one) ∙ used_one)
       (ap (λ (z : Value). (word_in z).used) (own_word (below w 2) used_two) ∙ used_two)
-      (ap (λ (z : Value). (word_in z).used) (own_word (below w 3) used_three) ∙ used_three)
+      (ap (λ (z : Value). is_set_aside (word_in z).used) (own_word (below w 3) used_three) ∙ ap is_set_aside used_three)
       (ap (λ (z : Value). (word_in z).cells) (own_word (below w 1) used_one ∙ saved.set.one))
       (ap (λ (z : Value). (word_in z).cells) (own_word (below w 2) used_two ∙ saved.set.two))
 

@@ -1,5 +1,5 @@
 -- An internal channel copies where both its halves are taken: what its step tells, and what it leaves.
-use Rattle.std.proofs.Common.{◌≡◌, ℕ, ◌%◌, refl, sym, ap, subst, ◌∙◌, Bool, true, false, Some, None, ◌⊎◌, inl, inr}
+use Rattle.std.proofs.Common.{◌≡◌, ℕ, ◌%◌, refl, sym, ap, subst, ◌∙◌, Bool, true, false, None, ◌⊎◌, inl, inr}
 use Rattle.std.specs.Prelude.{◌==◌, if◌then◌else◌}
 use Rattle.std.proofs.lemmas.Bool.{eqb-true, cases_eq}
 use Rattle.tword.specs.declared.span.Span.{Span}
@@ -9,7 +9,8 @@ use Rattle.tproc.specs.declared.channels.Side.TheVariants.{Input, Output}
 use Rattle.tproc.specs.Queues.{not_process}
 use Rattle.tplan.specs.declared.plan.Plan.{Plan}
 use Rattle.tprocesses.specs.Places.{Place, Name, WordAt, Standing, Half, same_name, same_place}
-use Rattle.tprocesses.specs.Values.{Value, Engaged, Context, Waits, Rests, Request, IsWord, IsStand, IsHalf, half_in}
+use Rattle.tprocesses.specs.Values.{Nobody, TakenBy, Value, Engaged, Context, Waits, Rests, Request, IsWord, IsStand}
+use Rattle.tprocesses.specs.Values.{IsHalf, half_in}
 use Rattle.tprocesses.specs.Values.{stand_in}
 use Rattle.tprocesses.specs.Changes.{Change, Put, free_word}
 use Rattle.tprocesses.specs.Parts.{Breaks, WordInUse, require}
@@ -69,13 +70,14 @@ module _ (site : Site) (whole : site.size % 4 ≡ 0) (p : Plan) (channel : ℕ) 
 
   -- the halves are free
   abbrev emptied : State → State
-  emptied t = changed (Half n channel Output) (Put (IsHalf None)) (changed (Half n channel Input) (Put (IsHalf None)) t)
+  emptied t =
+      changed (Half n channel Output) (Put (IsHalf Nobody)) (changed (Half n channel Input) (Put (IsHalf Nobody)) t)
 
   -- what has to stand there
   pub record AreThere : Type 0 where
     pub words : AreWhole site whole v
-    pub own_half : v (Half n channel side) ≡ IsHalf (Some own)
-    pub other_half : v (Half n channel (opposite side)) ≡ IsHalf (Some other)
+    pub own_half : v (Half n channel side) ≡ IsHalf (TakenBy own)
+    pub other_half : v (Half n channel (opposite side)) ≡ IsHalf (TakenBy other)
     pub own_waits : v (Standing x) ≡ IsStand (Waits cx)
     pub other_waits : v (Standing y) ≡ IsStand (Waits cy)
     pub apart : same_name x y ≡ false
@@ -88,7 +90,7 @@ module _ (site : Site) (whole : site.size % 4 ≡ 0) (p : Plan) (channel : ℕ) 
     pub copies : IsCopied site whole freed copy (source_of side own other) (target_of side own other)
     pub own_rests : t (Standing x) ≡ IsStand (Rests (woken cx))
     pub other_rests : t (Standing y) ≡ IsStand (Rests (woken cy))
-    pub halves : (a : Side) → t (Half n channel a) ≡ IsHalf None
+    pub halves : (a : Side) → t (Half n channel a) ≡ IsHalf Nobody
     pub words : (i : ℕ) → t (WordAt n i) ≡ copy (WordAt n i)
     pub others : (q : Place) → is_word_of n q ≡ false → is_stand_of x q ≡ false → is_stand_of y q ≡ false
         → is_half_of n channel Input q ≡ false → is_half_of n channel Output q ≡ false → t q ≡ v q
@@ -103,12 +105,12 @@ module _ (site : Site) (whole : site.size % 4 ≡ 0) (p : Plan) (channel : ℕ) 
       by (inl e) = subst (λ j. IsWhole (freed (WordAt n j))) e here
       by (inr e) = subst IsWhole (sym (changed_word n k freeing v i e)) (h i l)
 
-  emptied_half : (t : State) (a : Side) → emptied t (Half n channel a) ≡ IsHalf None
+  emptied_half : (t : State) (a : Side) → emptied t (Half n channel a) ≡ IsHalf Nobody
   emptied_half t Output = rw (place_itself p (Half n channel Output)) refl
   emptied_half t Input =
       rw (place_itself p (Half n channel Input)) (of (same_place (Half n channel Output) (Half n channel Input)))
     where
-      of : (b : Bool) → (if b then IsHalf None else IsHalf None) ≡ IsHalf None
+      of : (b : Bool) → (if b then IsHalf Nobody else IsHalf Nobody) ≡ IsHalf Nobody
       of true = refl
       of false = refl
 
@@ -146,7 +148,7 @@ module _ (site : Site) (whole : site.size % 4 ≡ 0) (p : Plan) (channel : ℕ) 
   meet_then h Q q Input e =
       subst (λ (i : Value). After (meet_if site channel (half_in i) (half_in (v (Half n channel Output)))) v Q)
       (sym (ap (λ z. v (Half n channel z)) e ∙ h.own_half))
-      (subst (λ (i : Value). After (meet_if site channel (Some own) (half_in i)) v Q)
+      (subst (λ (i : Value). After (meet_if site channel (TakenBy own) (half_in i)) v Q)
       (sym (ap (λ z. v (Half n channel z)) (ap opposite e) ∙ h.other_half))
       (after_bind (require (own.buffer.size == other.buffer.size) (Breaks LengthMismatch)) _ v Q
       (after_require (own.buffer.size == other.buffer.size) (Breaks LengthMismatch) v _ (λ sizes.
@@ -166,7 +168,7 @@ module _ (site : Site) (whole : site.size % 4 ≡ 0) (p : Plan) (channel : ℕ) 
   meet_then h Q q Output e =
       subst (λ (i : Value). After (meet_if site channel (half_in (v (Half n channel Input))) (half_in i)) v Q)
       (sym (ap (λ z. v (Half n channel z)) e ∙ h.own_half))
-      (subst (λ (i : Value). After (meet_if site channel (half_in i) (Some own)) v Q)
+      (subst (λ (i : Value). After (meet_if site channel (half_in i) (TakenBy own)) v Q)
       (sym (ap (λ z. v (Half n channel z)) (ap opposite e) ∙ h.other_half))
       (after_bind (require (other.buffer.size == own.buffer.size) (Breaks LengthMismatch)) _ v Q
       (after_require (other.buffer.size == own.buffer.size) (Breaks LengthMismatch) v _ (λ sizes.

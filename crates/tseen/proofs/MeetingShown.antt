@@ -1,4 +1,16 @@
 -- What the second of two processes at an internal channel leads to is shown after its three steps.
+use Rattle.tprocesses.specs.Values.{amount_in}
+use Rattle.tseen.proofs.Choices.{state_lasts, is_state}
+use Rattle.tseen.specs.Words.{use_at}
+use Rattle.tseen.specs.Halves.{HasHolder}
+use Rattle.tprocesses.specs.Choosing.{is_taken as is_taken_half}
+use Rattle.tseen.proofs.Taken.{third_free}
+use Rattle.tprocesses.specs.Values.{stand_in}
+use Rattle.tprocesses.specs.Places.{Ports}
+use Rattle.tseen.specs.Choices.{alternative_of, alternative_at, is_quiet, enabler, IsEnabled}
+use Rattle.tseen.proofs.Choices.{is_lasting, lasting_not_free, lasting_not_saved, both_alike}
+use Rattle.tseen.proofs.Choices.{both_quiet, alternative_none, no_choice, choices_kept}
+use Rattle.tseen.specs.Choices.{enabler_at}
 use Rattle.std.proofs.Common.{◌≡◌, ◌≢◌, ℕ, ◌+◌, ◌*◌, ◌≤◌, ◌%◌, refl, sym, ap, subst, ◌∙◌, Bool, true, false, true≢false}
 use Rattle.std.proofs.Common.{length, length-append, Contains, Option, Some, None, arith, ◌⊎◌, inl, inr, pos, cond, suc}
 use Rattle.std.proofs.lemmas.List.Sums.{sum_by-append}
@@ -25,7 +37,8 @@ use Rattle.tproc.proofs.SavedWords.{saved_words_stand}
 use Rattle.tplan.specs.declared.plan.Plan.{Plan}
 use Rattle.tplan.specs.Wires.{end_at}
 use Rattle.tnet.specs.Rendezvous.{Node, Configuration}
-use Rattle.tprocesses.specs.Values.{IsFlag, Value, Free, Saved, Receiving, Engaged, Context, Lent, Stand, Rests, Runs}
+use Rattle.tprocesses.specs.Values.{Holder, Nobody, TakenBy, IsFlag, Value, Free, Saved, Receiving, Engaged, Context}
+use Rattle.tprocesses.specs.Values.{Lent, Stand, Rests, Runs}
 use Rattle.tprocesses.specs.Values.{Waits, Request, IsStand, IsAmount, IsHalf, word_in, half_in}
 use Rattle.tprocesses.specs.Places.{Place, Name, WordAt, Sending, Standing, Half, LinkHalf, Error, HaltOnError, Life}
 use Rattle.tprocesses.specs.Places.{Population, HasRun, same_name, same_place}
@@ -76,7 +89,8 @@ left_keeps _ r = (refl, refl, refl, refl)
 
 module _ (p : Plan) (c : Configuration) (s : State) (n : ℕ) (x : Name) (k : IsCurrent p c s n x) (v : State)
     (h : HasTaken p c s n x k v)
-    (differs : word_at k.node.machine.store k.node.machine.control.registers.b ≢ not_process) (t z : State)
+    (differs : (word_at k.node.machine.store k.node.machine.control.registers.b ≢ not_process)
+    × (enabler_at s n k.node.machine.control.registers.b ≡ None)) (t z : State)
     (g : HaveGoneOn p c s n x k v h differs t z) where
   abbrev m : Control
   m = k.node.machine.control
@@ -176,7 +190,7 @@ module _ (p : Plan) (c : Configuration) (s : State) (n : ℕ) (x : Name) (k : Is
       g.runs.others (Standing y) (apart p c s n x k v h differs)
       ∙ g.unsaved.set.rest (Standing y) (no_word n w (Standing y) refl) ∙ g.met.other_rests
 
-  empty_half : (a : Side) → z (Half n channel a) ≡ IsHalf None
+  empty_half : (a : Side) → z (Half n channel a) ≡ IsHalf Nobody
   empty_half a =
       g.runs.others (Half n channel a) refl
       ∙ g.unsaved.set.rest (Half n channel a) (no_word n w (Half n channel a) refl) ∙ g.met.halves a
@@ -334,6 +348,7 @@ module _ (p : Plan) (c : Configuration) (s : State) (n : ℕ) (x : Name) (k : Is
       third (Waiting b) taken two.0 two.1 in
       waiting_stays n s z stay_run k.node node' b (named (Waiting b))
       (stay_stand (named (Waiting b)) apart_from.0 apart_from.1) (λ i. (i.0, reason_now b f ∙ i.1, i.2))
+      (λ i. reason_now b f ∙ i)
       (iptr_stays (workspace_of b) (waits_descheduled m b taken)) (shown.processes.seated (Waiting b) taken)
 
   -- who is anywhere has a seat
@@ -559,10 +574,10 @@ module _ (p : Plan) (c : Configuration) (s : State) (n : ℕ) (x : Name) (k : Is
         engaged = λ i e. engaged_by i e (used_now p c s n x k v h differs t z g i);
       }
     where
-      not_filled : {q : Request} → IsHalf None ≡ IsHalf (Some q) → ⊥
+      not_filled : {q : Request} → IsHalf Nobody ≡ IsHalf (TakenBy q) → ⊥
       not_filled e = cc
 
-      taken_by : (a : ℕ) (r : Side) (q : Request) → z (Half n a r) ≡ IsHalf (Some q)
+      taken_by : (a : ℕ) (r : Side) (q : Request) → z (Half n a r) ≡ IsHalf (TakenBy q)
           → (channel ≡ a) ⊎ (channel ≡ a → ⊥) → IsTakenHalf z n named' now a r q
       taken_by a r q e (inl f) =
           absurd (not_filled (sym (empty_half r) ∙ ap (λ b. z (Half n b r)) f ∙ e))
@@ -570,33 +585,33 @@ module _ (p : Plan) (c : Configuration) (s : State) (n : ℕ) (x : Name) (k : Is
           old_taken a r q f (shown.channels.taken a r q (sym (stay_half a r f) ∙ e))
 
       half_by : (a : ℕ) (r : Side) → (channel ≡ a) ⊎ (channel ≡ a → ⊥)
-          → (q : Option Request) × (z (Half n a r) ≡ IsHalf q)
-      half_by a r (inl f) = (None, ap (λ b. z (Half n b r)) (sym f) ∙ empty_half r)
+          → (q : Holder) × (z (Half n a r) ≡ IsHalf q)
+      half_by a r (inl f) = (Nobody, ap (λ b. z (Half n b r)) (sym f) ∙ empty_half r)
       half_by a r (inr f) = ((shown.channels.halves a r).0, stay_half a r f ∙ (shown.channels.halves a r).1)
 
       -- who waits at the channel is the partner
       at_channel : (b : ℕ) (r : Side) (span : Span) → is_some (reason_of m b) ≡ true
-          → s (Half n channel r) ≡ IsHalf (Some (record { process = named (Waiting b); buffer = span }))
+          → s (Half n channel r) ≡ IsHalf (TakenBy (record { process = named (Waiting b); buffer = span }))
           → b ≡ other
       at_channel b r span e f = by r side refl f
         where
-          own : s (Half n channel side) ≡ IsHalf (Some (record { process = named (Waiting b); buffer = span })) → ⊥
+          own : s (Half n channel side) ≡ IsHalf (TakenBy (record { process = named (Waiting b); buffer = span })) → ⊥
           own i = filled (sym (own_empty p c s n x k v h) ∙ ap half_in i)
             where
-              filled : {q : Request} → None ≡ Some q → ⊥
+              filled : {q : Request} → Nobody ≡ TakenBy q → ⊥
               filled e = cc
 
           theirs_is : s (Half n channel (opposite side))
-              ≡ IsHalf (Some (record { process = named (Waiting b); buffer = span })) → b ≡ other
+              ≡ IsHalf (TakenBy (record { process = named (Waiting b); buffer = span })) → b ≡ other
           theirs_is i =
               only_partner p c s n x k v h differs b e
               (ap (λ (q : Request). q.process) (one_request (sym i ∙ asked_half p c s n x k v h differs)))
             where
-              one_request : {q q' : Request} → IsHalf (Some q) ≡ IsHalf (Some q') → q ≡ q'
+              one_request : {q q' : Request} → IsHalf (TakenBy q) ≡ IsHalf (TakenBy q') → q ≡ q'
               one_request e = cc
 
           by : (r d : Side) → side ≡ d
-              → s (Half n channel r) ≡ IsHalf (Some (record { process = named (Waiting b); buffer = span }))
+              → s (Half n channel r) ≡ IsHalf (TakenBy (record { process = named (Waiting b); buffer = span }))
               → b ≡ other
           by Input Input i e = absurd (own (ap (λ q. s (Half n channel q)) i ∙ e))
           by Output Output i e = absurd (own (ap (λ q. s (Half n channel q)) i ∙ e))
@@ -605,42 +620,84 @@ module _ (p : Plan) (c : Configuration) (s : State) (n : ℕ) (x : Name) (k : Is
 
       waiting_by : (b a : ℕ) (r : Side) (span : Span) → reason_of now.control b ≡ Some (reason_at r a span)
           → (channel ≡ a) ⊎ (channel ≡ a → ⊥)
-          → z (Half n a r) ≡ IsHalf (Some (record { process = named (Waiting b); buffer = span }))
+          → z (Half n a r) ≡ IsHalf (TakenBy (record { process = named (Waiting b); buffer = span }))
       waiting_by b a r span e f =
           let there : is_some (reason_of now.control b) ≡ true =
           subst (λ (q : Option Reason). is_some q ≡ true) (sym e) refl in
           let differ : b ≢ other = waits_other b there in
-          let old : s (Half n a r) ≡ IsHalf (Some (record { process = named (Waiting b); buffer = span })) =
+          let old : s (Half n a r) ≡ IsHalf (TakenBy (record { process = named (Waiting b); buffer = span })) =
           shown.channels.waiting b a r span (sym (reason_now b differ) ∙ e) in
           of differ (waited b differ there) old f
         where
           of : b ≢ other → is_some (reason_of m b) ≡ true
-              → s (Half n a r) ≡ IsHalf (Some (record { process = named (Waiting b); buffer = span }))
+              → s (Half n a r) ≡ IsHalf (TakenBy (record { process = named (Waiting b); buffer = span }))
               → (channel ≡ a) ⊎ (channel ≡ a → ⊥)
-              → z (Half n a r) ≡ IsHalf (Some (record { process = named (Waiting b); buffer = span }))
+              → z (Half n a r) ≡ IsHalf (TakenBy (record { process = named (Waiting b); buffer = span }))
           of differ inside old (inl i) =
               absurd (differ (at_channel b r span inside (ap (λ q. s (Half n q r)) i ∙ old)))
           of differ inside old (inr i) = stay_half a r i ∙ old
 
       engaged_by : (i : ℕ) → use_of z n i ≡ Engaged
           → ((i ≡ j) × (use_of z n i ≡ Free)) ⊎ (use_of z n i ≡ use_of s n i)
-          → (a : ℕ) × (r : Side) × (q : Request) × (word_number a ≡ i) × (z (Half n a r) ≡ IsHalf (Some q))
+          → (a : ℕ) × (word_number a ≡ i) × HasHolder z n named' a
       engaged_by i e (inl f) = absurd (not_free (sym e ∙ f.1))
       engaged_by i e (inr f) =
-          let old = shown.channels.engaged i (sym f ∙ e) in (
-            old.0,
-            old.1,
-            old.2,
-            old.3,
-            stay_half old.0 old.1 (λ d. free_there (ap word_number d ∙ old.3)) ∙ old.4,
-          )
+          let old = shown.channels.engaged i (sym f ∙ e) in
+          (old.0, old.1, held old.0 (λ d. free_there (ap word_number d ∙ old.1)) old.2)
         where
+          held : (a : ℕ) → (channel ≡ a → ⊥) → HasHolder s n named a → HasHolder z n named' a
+          held a d (inl (r, q, o)) = inl (r, q, stay_half a r d ∙ o)
+          held a d (inr (b, o)) = inr (b, ap (λ (q : Value). enabler (half_in q)) (stay_half a Input d) ∙ o)
+
           free_there : j ≡ i → ⊥
           free_there d = by (used_now p c s n x k v h differs t z g j)
             where
               by : ((j ≡ j) × (use_of z n j ≡ Free)) ⊎ (use_of z n j ≡ use_of s n j) → ⊥
               by (inl q) = not_free (sym e ∙ ap (use_of z n) (sym d) ∙ q.1)
               by (inr q) = not_free (sym e ∙ ap (use_of z n) (sym d) ∙ channel_free p c s n x k v h differs t z g)
+
+  -- a channel that is enabled is another one
+  enabled_other : (a : ℕ) (b : Name) → enabler_at s n a ≡ Some b → channel ≡ a → ⊥
+  enabled_other a b e f = nobody (sym differs.1 ∙ ap (enabler_at s n) f ∙ e)
+    where
+      nobody : None ≡ Some b → ⊥
+      nobody i = cc
+
+  enabler_stays : (a : ℕ) → enabler_at z n a ≡ enabler_at s n a
+  enabler_stays a = by (cases_eq channel a)
+    where
+      by : (channel ≡ a) ⊎ (channel ≡ a → ⊥) → enabler_at z n a ≡ enabler_at s n a
+      by (inl e) =
+          subst (λ b. enabler_at z n b ≡ enabler_at s n b) e
+          (ap (λ (q : Value). enabler (half_in q)) (empty_half Input) ∙ sym differs.1)
+      by (inr e) = ap (λ (q : Value). enabler (half_in q)) (stay_half a Input e)
+
+  -- a word in use as another channel, or for an alternative, stays
+  lasting_use : (i : ℕ) → is_lasting (use_of s n i) ≡ true → i ≢ j → use_of z n i ≡ use_of s n i
+  lasting_use i e f =
+      ap (λ (b : Value). (word_in b).used) (kept_now p c s n x k v h differs t z g i (lasting_not_free e) f)
+
+  lasting_word : (a : ℕ) → word_place_break (length store) a ≡ None → is_lasting (use_at s n a) ≡ true
+      → word_number a ≢ j → word_at now.store a ≡ word_at store a
+  lasting_word a there e f =
+      let l : (place a ≡ 4 * word_number a) × (most_neg ≤ a) × (4 * word_number a + 4 ≤ k.plan.memory) =
+      word_lies site running.whole a (subst (λ z. word_place_break z a ≡ None) shown.size there) in
+      word_stays_after p c s n x k v h differs t z g a (record {
+        above = l.1;
+        within = omega (arith, l.0, l.1, l.2);
+        aligned = eqb-true _ _ (word_placed (length store) a there).0;
+      }) (lasting_not_free e) (lasting_not_saved e) f
+
+  another_word : (a : ℕ) (b : Name) → enabler_at s n a ≡ Some b → word_number a ≢ j
+  another_word a b e f =
+      let it : IsEnabled s n store a b = shown.choices.enabled a b e in
+      let l : (place a ≡ 4 * word_number a) × (most_neg ≤ a) × (4 * word_number a + 4 ≤ k.plan.memory) =
+      word_lies site running.whole a (subst (λ z. word_place_break z a ≡ None) shown.size it.placed) in
+      enabled_other a b e (omega (arith, f, l.0, l.1, (lies p c s n x k v h).0, (lies p c s n x k v h).1))
+
+  not_state : (i : ℕ) → is_state (use_of s n i) ≡ true → i ≢ j
+  not_state i e =
+      not_channel p c s n x k v h differs t z g i (use_of s n i) refl (λ f. true≢false (sym e ∙ sym (ap is_state f)))
 
   -- so the node is shown
   node_now : ShowsNode z n k.plan named' (k.shows.sent n) node'
@@ -657,7 +714,56 @@ module _ (p : Plan) (c : Configuration) (s : State) (n : ℕ) (x : Name) (k : Is
         links = λ l e. link_stays s z n named named' (k.shows.sent n) k.node node' l (λ b. refl)
             (λ r. stay (LinkHalf (end_at n l) r) refl refl refl refl refl) refl refl (shown.links l e);
         processes = processes_now;
+        choices = choices_kept s z n store now.store (record {
+          stands = λ b e. both_alike p s z n x y stand_stays (own_now ∙ sym own_before)
+              (other_now ∙ sym other_before) b;
+          quiet = λ b e f. both_quiet p s z n x y stand_stays own_quiet other_quiet b f;
+          ports = λ b e. stay (Ports b) refl refl refl refl refl;
+          inputs = enabler_stays;
+          held = λ a b e. ap half_in (stay_half a Input (enabled_other a b (ap enabler e))) ∙ e;
+          unsent = λ i e z. ap amount_in (stay (Sending n i) refl refl refl refl refl) ∙ z;
+          sent = λ a b e. ap (λ (q : Value). is_taken_half (half_in q)) (stay_half a Output (enabled_other a b e));
+          choosing = λ i e. kept_now p c s n x k v h differs t z g i
+              (lasting_not_free (state_lasts (use_of s n i) e)) (not_state i e);
+          engaged = λ a b e f. lasting_use (word_number a) (ap is_lasting f) (another_word a b e) ∙ f;
+          size = (tells_now p c s n x k v h differs t z g).length ∙ sym shown.size;
+          states = λ a e f. lasting_word a e (state_lasts (use_at s n a) f) (not_state (word_number a) f);
+          words = λ a b e f i. lasting_word a f (ap is_lasting i) (another_word a b e);
+        }) shown.choices;
       }
+    where
+      stand_stays : (b : Name) → same_name x b ≡ false → same_name y b ≡ false → z (Standing b) ≡ s (Standing b)
+      stand_stays b e f = stay (Standing b) refl refl refl e f
+
+      no_alternative : running.context.choice ≡ None
+      no_alternative =
+          no_choice s n store x running.context shown.choices running.home running.stood
+          (subst (λ b. use_of s n (word_number (word_below b 3)) ≡ Free) (sym running.registers.wptr)
+          (third_free p c s n x k v h))
+
+      own_now : alternative_at z n x ≡ None
+      own_now =
+          ap (λ (q : Value). alternative_of (stand_in q)) own_stood
+          ∙ alternative_none true false (again p c s n x k v h differs) no_alternative
+
+      own_before : alternative_at s n x ≡ None
+      own_before =
+          ap (λ (q : Value). alternative_of (stand_in q)) running.stood
+          ∙ alternative_none true false running.context no_alternative
+
+      other_now : alternative_at z n y ≡ None
+      other_now = ap (λ (q : Value). alternative_of (stand_in q)) other_stood
+
+      other_before : alternative_at s n y ≡ None
+      other_before = ap (λ (q : Value). alternative_of (stand_in q)) beside.stood
+
+      own_quiet : is_quiet (stand_in (z (Standing x))) ≡ true
+      own_quiet = ap (λ (q : Value). is_quiet (stand_in q)) own_stood
+
+      other_quiet : is_quiet (stand_in (z (Standing y))) ≡ true
+      other_quiet =
+          ap (λ (q : Value). is_quiet (stand_in q)) other_stood
+          ∙ sym (ap (λ (q : Value). is_quiet (stand_in q)) beside.stood) ∙ shown.choices.quiet y beside.home
 
   pub meeting_leads : LeadsTo p c n z
   meeting_leads =

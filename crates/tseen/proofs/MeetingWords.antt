@@ -1,4 +1,9 @@
 -- The second of two processes at an internal channel: what its processor does, and the words after its three steps.
+use Rattle.std.proofs.Common.{true}
+use Rattle.std.proofs.Common.{true≢false, false}
+use Rattle.tseen.proofs.Unclaimed.{aside_not_free}
+use Rattle.tseen.specs.Words.{is_set_aside}
+use Rattle.tseen.specs.Choices.{enabler_at}
 use Rattle.std.proofs.Common.{◌≡◌, ◌≢◌, ℕ, zero, suc, ◌/◌, refl, sym, ap, subst, ◌∙◌, length, get_or, Contains, ◌++◌}
 use Rattle.std.proofs.Common.{Option, Some, None, Ok, arith, ◌⊎◌, inl, inr, pos}
 use Rattle.std.proofs.lemmas.List.Elements.{Contains-append_left, Contains-append_right, All-contains}
@@ -57,7 +62,7 @@ use Rattle.tseen.proofs.SetUnknown.{set_unknown, tells_alike, word_put}
 use Rattle.tseen.proofs.AtOperation.{registers_at, context_at, control_at}
 use Rattle.tseen.proofs.Asked.{side_of, start_of, length_of, buffer_for, left_by, request_for}
 use Rattle.tseen.proofs.Taken.{HasTaken, opposite, lies, used_before, first_free, second_free, third_free, saved_of}
-use Rattle.tseen.proofs.Taken.{not_free, unsent, was_engaged}
+use Rattle.tseen.proofs.Taken.{unsent, was_engaged}
 use Rattle.tseen.proofs.TakenWords.{process, same_size, lies_here, not_one, not_two, by_word, one_is, two_is}
 use Rattle.tseen.proofs.TakenWords.{free_now}
 use Rattle.tseen.proofs.TakenWords.{at, tells_before}
@@ -73,7 +78,8 @@ not_received_engaged e = cc
 
 module _ (p : Plan) (c : Configuration) (s : State) (n : ℕ) (x : Name) (k : IsCurrent p c s n x) (v : State)
     (h : HasTaken p c s n x k v)
-    (differs : word_at k.node.machine.store k.node.machine.control.registers.b ≢ not_process) where
+    (differs : (word_at k.node.machine.store k.node.machine.control.registers.b ≢ not_process)
+    × (enabler_at s n k.node.machine.control.registers.b ≡ None)) where
   abbrev m : Control
   m = k.node.machine.control
 
@@ -145,8 +151,11 @@ module _ (p : Plan) (c : Configuration) (s : State) (n : ℕ) (x : Name) (k : Is
   abbrev freeing : Change
   freeing = Put (IsWord (free_word not_process))
 
+  not_aside : false ≡ true → ⊥
+  not_aside f = true≢false (sym f)
+
   engaged : use_of s n j ≡ Engaged
-  engaged = was_engaged p c s n x k v h differs
+  engaged = was_engaged p c s n x k v h differs.0
 
   emptied_there : emptied (WordAt n j) ≡ IsWord (free_word not_process)
   emptied_there = changed_there n j freeing v
@@ -181,7 +190,7 @@ module _ (p : Plan) (c : Configuration) (s : State) (n : ℕ) (x : Name) (k : Is
       reads i (inl e) =
           subst (λ a. claim_break claims Reads (word_of_number a) ≡ None) (sym e)
           (unclaimed_readable s n k.plan (k.shows.named n) (k.shows.sent n) k.node shown k.steady.placed j
-          (λ f. not_saved_engaged (sym engaged ∙ f)) (λ f. not_received_engaged (sym engaged ∙ f)))
+          (λ f. not_aside (sym (ap is_set_aside engaged) ∙ f)) (λ f. not_received_engaged (sym engaged ∙ f)))
       reads i (inr e) = running.permits.reads i e
 
       writes : (i : ℕ) → (i ≡ j) ⊎ (use_of s n i ≡ Free) → amount_in (emptied (Sending n i)) ≡ pos 0
@@ -189,7 +198,7 @@ module _ (p : Plan) (c : Configuration) (s : State) (n : ℕ) (x : Name) (k : Is
       writes i (inl e) f =
           subst (λ a. claim_break claims Writes (word_of_number a) ≡ None) (sym e)
           (unclaimed_writable s n k.plan (k.shows.named n) (k.shows.sent n) k.node shown k.steady.placed j
-          (λ f. not_saved_engaged (sym engaged ∙ f)) (λ f. not_received_engaged (sym engaged ∙ f))
+          (λ f. not_aside (sym (ap is_set_aside engaged) ∙ f)) (λ f. not_received_engaged (sym engaged ∙ f))
           (unsent p c s n x k v h))
       writes i (inr e) f =
           running.permits.writes i e
@@ -252,14 +261,14 @@ module _ (p : Plan) (c : Configuration) (s : State) (n : ℕ) (x : Name) (k : Is
         (subst (λ a. claim_break claims Writes (word_span a) ≡ None)
         (omega (arith, (lies p c s n x k v h).0, (lies p c s n x k v h).1))
         (unclaimed_writable s n k.plan (k.shows.named n) (k.shows.sent n) k.node shown k.steady.placed j
-        (λ f. not_saved_engaged (sym engaged ∙ f)) (λ f. not_received_engaged (sym engaged ∙ f))
+        (λ f. not_aside (sym (ap is_set_aside engaged) ∙ f)) (λ f. not_received_engaged (sym engaged ∙ f))
         (unsent p c s n x k v h)))
 
     may_meet : MayMeet (control_at p c s n x k o h.size) store claims side channel start count other theirs.buffer
     may_meet =
         record {
           take = take;
-          differs = differs;
+          differs = differs.0;
           finds = finds p c s n x k v h differs;
           waits = waits p c s n x k v h differs;
           sizes = g.met.sizes;
@@ -377,9 +386,10 @@ module _ (p : Plan) (c : Configuration) (s : State) (n : ℕ) (x : Name) (k : Is
     not_channel i a e f q = f (sym engaged ∙ ap (use_of s n) (sym q) ∙ e)
 
     -- so a word that was saved
-    pub saved_stays : (i : ℕ) → use_of s n i ≡ Saved → z (WordAt n i) ≡ s (WordAt n i)
+    pub saved_stays : (i : ℕ) → is_set_aside (use_of s n i) ≡ true → z (WordAt n i) ≡ s (WordAt n i)
     saved_stays i e =
-        kept_now i (not_free p c s n x k v h i e) (not_channel i Saved e not_saved_engaged)
+        kept_now i (aside_not_free e)
+        (λ q. not_aside (sym (ap (λ b. is_set_aside (use_of s n b)) q ∙ ap is_set_aside engaged) ∙ e))
 
     -- the word of the last one's link
     link_lies : (a : ℕ) → last ≡ Some a → Contains (descheduled m) a
@@ -411,7 +421,8 @@ module _ (p : Plan) (c : Configuration) (s : State) (n : ℕ) (x : Name) (k : Is
             let saved : AreSavedWords s n a = saved_of p c s n x k v h a inside in
             set_unknown z n k.plan.memory copied_store (word_below a 2) (workspace_of other) tells_then_now
             (lies_link a inside)
-            (ap (λ (q : Value). (word_in q).cells) (saved_stays (word_number (word_below a 2)) (used_two s n a saved))
+            (ap (λ (q : Value). (word_in q).cells) (saved_stays (word_number (word_below a 2))
+            (ap is_set_aside (used_two s n a saved)))
             ∙ unknown_two s n a saved)
 
     -- a word of the store that was in another use

@@ -1,12 +1,12 @@
 -- The second of two processes at an internal channel is seen.
-use Rattle.std.proofs.Common.{◌≡◌, refl, Some, subst, sym, ◌≢◌, ℕ}
+use Rattle.tseen.specs.Messages.{FindsOther}
+use Rattle.std.proofs.Common.{◌≡◌, refl, subst, sym, ℕ}
 use Rattle.tproc.specs.declared.channels.Side.TheVariants.{Input, Output}
 use Rattle.tproc.specs.declared.channels.Side.{Side}
-use Rattle.tproc.specs.Queues.{not_process}
 use Rattle.tplan.specs.declared.plan.Plan.{Plan}
 use Rattle.tnet.specs.Rendezvous.{Configuration}
 use Rattle.tprocesses.specs.Machine.{Channel, site_of}
-use Rattle.tprocesses.specs.Values.{Rests, Request, IsHalf, Runs}
+use Rattle.tprocesses.specs.Values.{TakenBy, Rests, Request, IsHalf, Runs}
 use Rattle.tprocesses.specs.Places.{Half, Name}
 use Rattle.tprocesses.specs.Standing.{forget, unsave}
 use Rattle.tprocesses.specs.Parts.{Doing}
@@ -14,7 +14,7 @@ use Rattle.tprocesses.specs.Touching.{Site}
 use Rattle.tprocesses.specs.ChannelMessages.{channel_step}
 use Rattle.tprocesses.specs.Machine.{Channel, site_of}
 use Rattle.tseen.specs.AgentSteps.{HasStep, AgentMakes}
-use Rattle.tseen.specs.Messages.{MeetingsGoOn, Communicates, channel_of, channel_word, MeetingsAreSeen}
+use Rattle.tseen.specs.Messages.{MeetingsGoOn, Communicates, channel_of, MeetingsAreSeen}
 use Rattle.tseen.specs.Steps.{Makes}
 use Rattle.tseen.proofs.Meeting.{AreThere, HaveMet, channel_then}
 use Rattle.tseen.proofs.Taken.{opposite, HasTaken}
@@ -34,7 +34,7 @@ use Rattle.tseen.proofs.MeetingShown.{meeting_leads}
 use Rattle.tseen.proofs.FirstHalves.{half_taken}
 
 module _ (p : Plan) (c : Configuration) (s s' : State) (n : ℕ) (x : Name) (k : Communicates p c s s' n x)
-    (differs : channel_word k ≢ not_process) where
+    (differs : FindsOther k) where
   abbrev site : Site
   site = site_of n k.current.plan
 
@@ -85,7 +85,7 @@ module _ (p : Plan) (c : Configuration) (s s' : State) (n : ℕ) (x : Name) (k :
 
 -- a channel of which both halves are taken has a step
 taken_open : (p : Plan) (n channel : ℕ) (s : State) (side : Side) (own other : Request)
-    → s (Half n channel side) ≡ IsHalf (Some own) → s (Half n channel (opposite side)) ≡ IsHalf (Some other)
+    → s (Half n channel side) ≡ IsHalf (TakenBy own) → s (Half n channel (opposite side)) ≡ IsHalf (TakenBy other)
     → HasStep p (Channel n channel) s
 taken_open p n channel s Input own other e f = due p (Channel n channel) s (rw (e, f) refl)
 taken_open p n channel s Output own other e f = due p (Channel n channel) s (rw (e, f) refl)

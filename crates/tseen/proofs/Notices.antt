@@ -24,7 +24,7 @@ use Rattle.tplan.specs.Wires.{far_end}
 use Rattle.tnet.specs.Rendezvous.{Node, Configuration, node_of, IsNotice}
 use Rattle.tnet.proofs.Puts.{put-other}
 use Rattle.tprocesses.specs.Places.{Name}
-use Rattle.tprocesses.specs.Values.{Stand, Runs, Rests, Waits, Absent, Ended, IsLink}
+use Rattle.tprocesses.specs.Values.{Chosen, Chooses, Stand, Runs, Rests, Waits, Absent, Ended, IsLink}
 use Rattle.tseen.specs.Seats.{Seat, Current, Interrupted, Queued, Waiting, is_taken}
 use Rattle.tseen.specs.Outputs.{Pending}
 use Rattle.tseen.specs.Halves.{ShowsLink, half_asking}
@@ -97,21 +97,29 @@ module _ (s : State) (n : ℕ) (plan : NodePlan) (named : Seat → Name) (sent :
   fits Current (Waits c) h = h
   fits Current Absent h = h
   fits Current Ended h = h
+  fits Current (Chooses d) h = h
+  fits Current (Chosen d) h = h
   fits Interrupted (Runs c) h = h
   fits Interrupted (Rests c) h = h
   fits Interrupted (Waits c) h = h
   fits Interrupted Absent h = h
   fits Interrupted Ended h = h
+  fits Interrupted (Chooses d) h = h
+  fits Interrupted (Chosen d) h = h
   fits (Queued process) (Runs c) h = h
   fits (Queued process) (Rests c) h = h
   fits (Queued process) (Waits c) h = h
   fits (Queued process) Absent h = h
   fits (Queued process) Ended h = h
+  fits (Queued process) (Chooses d) h = h
+  fits (Queued process) (Chosen d) h = h
   fits (Waiting process) (Runs c) h = h
   fits (Waiting process) (Rests c) h = h
   fits (Waiting process) (Waits c) h = h
   fits (Waiting process) Absent h = h
   fits (Waiting process) Ended h = h
+  fits (Waiting process) (Chooses d) h = h
+  fits (Waiting process) (Chosen d) h = h
 
   seated_now : (q : Seat) (x : Name) → IsSeated s n node q x → IsSeated s n node' q x
   seated_now q x h =
@@ -174,6 +182,7 @@ module _ (s : State) (n : ℕ) (plan : NodePlan) (named : Seat → Name) (sent :
             refl (λ c h e. refl) k.channels;
         links = λ j h. link_now j (k.links j h);
         processes = processes_now;
+        choices = k.choices;
       }
 
   pub hidden_notice : hidden (notice l m) ≡ now

@@ -1,4 +1,12 @@
 -- The nodes of a plan before the first step are shown.
+use Rattle.tseen.specs.Choices.{alternative_of}
+use Rattle.tprocesses.specs.Places.{Root, Image, After}
+use Rattle.tprocesses.specs.Opening.{opened_stand}
+use Rattle.tword.specs.Stores.{Store}
+use Rattle.std.proofs.Common.{true≢false}
+use Rattle.tprocesses.specs.Values.{stand_in}
+use Rattle.tseen.specs.Choices.{Alternative, alternative_at, is_quiet, ShowsChoices}
+use Rattle.tseen.specs.Words.{is_set_aside}
 use Rattle.std.proofs.Common.{◌≡◌, ℕ, zero, suc, ◌+◌, ◌*◌, ◌<◌, ◌≤◌, ◌^◌, refl, sym, ap, ◌∙◌, subst, List, [], ◌∷◌}
 use Rattle.std.proofs.Common.{◌++◌, length, get_or, Bool, true, false, cond, Result, Ok, Err, Option, Some, None, All}
 use Rattle.std.proofs.Common.{arith, Contains, fold}
@@ -28,7 +36,8 @@ use Rattle.tnet.proofs.OpenedPlans.{IsFaultless, faultless, good_size, good_segm
 use Rattle.tnet.specs.Rendezvous.{was_copied}
 use Rattle.tnet.proofs.OpenedNets.{quiet_link}
 use Rattle.tprocesses.specs.Places.{Place, Name, WordAt, Standing}
-use Rattle.tprocesses.specs.Values.{Value, Word, Free, Saved, Engaged, Request, IsWord as a_word, IsLink, IsHalf}
+use Rattle.tprocesses.specs.Values.{Nobody, TakenBy, Value, Word, Free, Saved, Engaged, Request, IsWord as a_word}
+use Rattle.tprocesses.specs.Values.{IsLink, IsHalf}
 use Rattle.tprocesses.specs.Values.{word_in, unknown, Stand, Absent, IsStand}
 use Rattle.tprocesses.specs.Machine.{awaits_successor}
 use Rattle.tprocesses.specs.Touching.{word_number}
@@ -88,9 +97,9 @@ module _ (p : Plan) (n : ℕ) (plan : NodePlan) (at : slice_get p.nodes n ≡ So
       let P : ℕ → Type 0 = λ k. use_at s n (word_below (workspace_of q.wdesc) k) ≡ Saved in
       let R : ℕ → Type 0 = λ k. cells_at s n (word_below (workspace_of q.wdesc) k) ≡ unknown in
       record {
-        used = All-cons P 1 (2 ∷ 3 ∷ []) (saved_one q c 0 (omega arith))
-            (All-cons P 2 (3 ∷ []) (saved_one q c 1 (omega arith))
-            (All-cons P 3 [] (saved_one q c 2 (omega arith)) (All-nil P)));
+        used = All-cons P 1 (2 ∷ []) (saved_one q c 0 (omega arith))
+            (All-cons P 2 [] (saved_one q c 1 (omega arith)) (All-nil P));
+        third = ap is_set_aside (saved_one q c 2 (omega arith));
         unknown = All-cons R 1 (2 ∷ []) (unknown_one q c 0 (omega arith))
             (All-cons R 2 [] (unknown_one q c 1 (omega arith)) (All-nil R));
       }
@@ -130,7 +139,7 @@ module _ (p : Plan) (n : ℕ) (plan : NodePlan) (at : slice_get p.nodes n ≡ So
   not_engaged true e = cc
   not_engaged false e = cc
 
-  no_half : (q : Request) → IsHalf None ≡ IsHalf (Some q) → ⊥
+  no_half : (q : Request) → IsHalf Nobody ≡ IsHalf (TakenBy q) → ⊥
   no_half q e = cc
 
   nobody_waits : (process : ℕ) (r : Reason) → reason_of m.control process ≡ Some r → ⊥
@@ -141,7 +150,7 @@ module _ (p : Plan) (n : ℕ) (plan : NodePlan) (at : slice_get p.nodes n ≡ So
   channels =
       record {
         taken = λ channel side q e. absurd (no_half q e);
-        halves = λ channel side. (None, refl);
+        halves = λ channel side. (Nobody, refl);
         waiting = λ process channel side buffer e. absurd (nobody_waits process _ e);
         engaged = λ k e.
             absurd (not_engaged (is_below plan (1 ∷ 2 ∷ 3 ∷ []) (most_neg + 4 * k)) (sym (used_is k) ∙ e));
@@ -165,6 +174,44 @@ module _ (p : Plan) (n : ℕ) (plan : NodePlan) (at : slice_get p.nodes n ≡ So
         pending = λ q e _. cc;
       }
 
+  nobody : {y : Name} → None ≡ Some y → ⊥
+  nobody e = cc
+
+  no_port : false ≡ true → ⊥
+  no_port e = true≢false (sym e)
+
+  -- no process has an alternative
+  plain_stand : (x : Name) → (alternative_at s n x ≡ None) × (is_quiet (stand_in (s (Standing x))) ≡ true)
+  plain_stand x = by (slice_get p.nodes x.node) refl
+    where
+      of : (o : Option Process) → (alternative_of (opened_stand o) ≡ None) × (is_quiet (opened_stand o) ≡ true)
+      of None = (refl, refl)
+      of (Some q) = (refl, refl)
+
+      at_root : (root : Root) (path : List ℕ) (node : NodePlan)
+          → (alternative_of (stand_of root path node) ≡ None) × (is_quiet (stand_of root path node) ≡ true)
+      at_root (Image k) [] node = of (slice_get node.image.processes k)
+      at_root (Image k) (i ∷ is) node = (refl, refl)
+      at_root (After w i) path node = (refl, refl)
+
+      by : (o : Option NodePlan) → slice_get p.nodes x.node ≡ o
+          → (alternative_at s n x ≡ None) × (is_quiet (stand_in (s (Standing x))) ≡ true)
+      by None e = rw (e, of_node, alternative_of, is_quiet) (refl, refl)
+      by (Some node) e = rw (e, of_node, alternative_of, is_quiet) (at_root x.root x.path node)
+
+  choices : (store : Store) → ShowsChoices s n store
+  choices store =
+      record {
+        choices = λ x a home e. absurd (differ (sym (plain_stand x).0 ∙ e));
+        apart = λ x y a b home f e g i. absurd (differ (sym (plain_stand x).0 ∙ e));
+        quiet = λ x home. (plain_stand x).1;
+        owner = λ x d home e. absurd (no_port e);
+        enabled = λ d x e. absurd (nobody e);
+      }
+    where
+      differ : {a : Alternative} → None ≡ Some a → ⊥
+      differ e = cc
+
   pub node_shown : ShowsNode s n plan (opened_name n plan.image.processes) (λ _. None) (opening_node Processor m)
   node_shown =
       record {
@@ -182,6 +229,7 @@ module _ (p : Plan) (n : ℕ) (plan : NodePlan) (at : slice_get p.nodes n ≡ So
         channels = channels;
         links = λ l _. link l;
         processes = processes_shown p n plan at timeslice start m b empty;
+        choices = choices m.store;
       }
 
 -- loading changes no register and no queue

@@ -1,5 +1,5 @@
 -- The seats of other processes stay taken as they were.
-use Rattle.std.proofs.Common.{◌≡◌, ℕ, refl, sym, ap, subst, ◌∙◌, Bool, true, false, true≢false, Option}
+use Rattle.std.proofs.Common.{◌≡◌, ℕ, refl, sym, ap, subst, ◌∙◌, Bool, true, false, true≢false, Option, Some}
 use Rattle.std.specs.Prelude.{IfSome}
 use Rattle.std.proofs.lemmas.Option.{IfSome_then}
 use Rattle.tword.specs.Stores.{Store, word_at}
@@ -7,10 +7,13 @@ use Rattle.tword.specs.Words.{word_below}
 use Rattle.tplan.specs.declared.plan.Plan.{Plan}
 use Rattle.tproc.specs.declared.waiter.Suspended.{Suspended}
 use Rattle.tproc.specs.Machine.{workspace_of}
+use Rattle.tproc.specs.declared.waiter.Reason.TheVariants as waits
+use Rattle.tproc.specs.ProcessStatus.{reason_of}
 use Rattle.tproc.specs.Queues.{iptr_word}
 use Rattle.tnet.specs.Rendezvous.{Node}
 use Rattle.tprocesses.specs.Places.{Name, Standing, HasRun, same_name}
-use Rattle.tprocesses.specs.Values.{Value, Context, Stand, Absent, Rests, Runs, Waits, Ended, IsStand, IsFlag}
+use Rattle.tprocesses.specs.Values.{Chosen, Chooses, Value, Context, Stand, Absent, Rests, Runs, Waits, Ended}
+use Rattle.tprocesses.specs.Values.{IsStand, IsFlag}
 use Rattle.tseen.specs.Known.{HasRegisters, HasSaved}
 use Rattle.tseen.specs.Seats.{Interrupted, Queued, Waiting}
 use Rattle.tseen.specs.Processes.{Fits, IsSeated, HasPassed, context_in}
@@ -66,18 +69,29 @@ module _ (n : ℕ) (s s' : State) (run_stays : (q : ℕ) → s' (HasRun n q) ≡
             fits = saved_stays node.machine.store node'.machine.store process d same f;
             has_run = has_run_stays (Rests d) r;
           }
+      by (Chosen d) e f r =
+          record {
+            home = k.home;
+            stand = Chosen d;
+            stands = stays ∙ e;
+            fits = (saved_stays node.machine.store node'.machine.store process d same f.0, f.1);
+            has_run = has_run_stays (Chosen d) r;
+          }
       by Absent e f r = absurd f
       by (Runs d) e f r = absurd f
       by (Waits d) e f r = absurd f
       by Ended e f r = absurd f
+      by (Chooses d) e f r = absurd f
 
   -- and one that waits
   pub waiting_stays : (process : ℕ) (y : Name) → s' (Standing y) ≡ s (Standing y)
       → (HasPassed node process → HasPassed node' process)
+      → (reason_of node.machine.control process ≡ Some waits.Chooses
+      → reason_of node'.machine.control process ≡ Some waits.Chooses)
       → word_at node'.machine.store (word_below (workspace_of process) iptr_word)
       ≡ word_at node.machine.store (word_below (workspace_of process) iptr_word)
       → IsSeated s n node (Waiting process) y → IsSeated s' n node' (Waiting process) y
-  waiting_stays process y stays passed same k = by k.stand k.stands k.fits k.has_run
+  waiting_stays process y stays passed chooses same k = by k.stand k.stands k.fits k.has_run
     where
       by : (stand : Stand) → s (Standing y) ≡ IsStand stand → Fits node (Waiting process) stand
           → IfSome (context_in stand) (λ k. s (HasRun n k.priority) ≡ IsFlag true)
@@ -98,9 +112,22 @@ module _ (n : ℕ) (s s' : State) (run_stays : (q : ℕ) → s' (HasRun n q) ≡
             fits = (saved_stays node.machine.store node'.machine.store process d same f.0, f.1);
             has_run = has_run_stays (Waits d) r;
           }
+      by (Chooses d) e f r =
+          record {
+            home = k.home;
+            stand = Chooses d;
+            stands = stays ∙ e;
+            fits = (
+              saved_stays node.machine.store node'.machine.store process d same f.0,
+              f.1,
+              chooses f.2,
+            );
+            has_run = has_run_stays (Chooses d) r;
+          }
       by Absent e f r = absurd f
       by (Runs d) e f r = absurd f
       by Ended e f r = absurd f
+      by (Chosen d) e f r = absurd f
 
   -- a process that was interrupted
   pub interrupted_stays : (y : Name) → s' (Standing y) ≡ s (Standing y)
@@ -123,6 +150,8 @@ module _ (n : ℕ) (s s' : State) (run_stays : (q : ℕ) → s' (HasRun n q) ≡
       by (Rests d) e f r = absurd f
       by (Waits d) e f r = absurd f
       by Ended e f r = absurd f
+      by (Chooses d) e f r = absurd f
+      by (Chosen d) e f r = absurd f
 
 -- where one process alone stands elsewhere, each other one keeps its seat
 module _ (n : ℕ) (x : Name) (s s' : State)
@@ -138,6 +167,8 @@ module _ (n : ℕ) (x : Name) (s s' : State)
   -- another process that waits
   pub waiting_seated : (process : ℕ) (y : Name) → same_name x y ≡ false
       → (HasPassed node process → HasPassed node' process)
+      → (reason_of node.machine.control process ≡ Some waits.Chooses
+      → reason_of node'.machine.control process ≡ Some waits.Chooses)
       → word_at node'.machine.store (word_below (workspace_of process) iptr_word)
       ≡ word_at node.machine.store (word_below (workspace_of process) iptr_word)
       → IsSeated s n node (Waiting process) y → IsSeated s' n node' (Waiting process) y
@@ -162,6 +193,8 @@ queued_not_running node process Absent f = refl
 queued_not_running node process (Runs d) f = absurd f
 queued_not_running node process (Waits d) f = refl
 queued_not_running node process Ended f = refl
+queued_not_running node process (Chooses d) f = refl
+queued_not_running node process (Chosen d) f = refl
 
 pub waiting_not_running : (node : Node) (process : ℕ) (stand : Stand) → Fits node (Waiting process) stand
     → is_running (IsStand stand) ≡ false
@@ -170,3 +203,5 @@ waiting_not_running node process Absent f = refl
 waiting_not_running node process (Runs d) f = absurd f
 waiting_not_running node process (Waits d) f = refl
 waiting_not_running node process Ended f = refl
+waiting_not_running node process (Chooses d) f = refl
+waiting_not_running node process (Chosen d) f = refl

@@ -1,9 +1,11 @@
 -- A node whose current process went on is shown again.
+use Rattle.tprocesses.specs.Values.{amount_in}
 use Rattle.std.proofs.Common.{◌≡◌, ℕ, ◌+◌, ◌*◌, ◌<◌, ◌≤◌, ◌/◌, ◌%◌, refl, sym, ap, subst, ◌∙◌, Bool, true, false}
 use Rattle.std.proofs.Common.{true≢false, length, Contains, Option, Some, None, Ok, arith, ◌⊎◌, inl, inr, pos, get_or}
 use Rattle.std.specs.Prelude.{IfSome, is_some, slice_range}
 use Rattle.std.specs.Int.{w32, from_le_bytes}
-use Rattle.std.proofs.lemmas.Bool.{eqb-true}
+use Rattle.std.specs.Prelude.{◌==◌, is_none}
+use Rattle.std.proofs.lemmas.Bool.{eqb-true, or_cases}
 use Rattle.std.proofs.lemmas.Option.{IfSome_then}
 use Rattle.std.proofs.lemmas.List.{ext_get_or}
 use Rattle.std.proofs.lemmas.List.Elements.{All-contains}
@@ -25,19 +27,25 @@ use Rattle.tproc.proofs.Placed.{step_keeps_placed}
 use Rattle.tproc.proofs.SavedWords.{saved_words_stand}
 use Rattle.tnet.specs.Rendezvous.{Node}
 use Rattle.tplan.specs.Wires.{end_at}
-use Rattle.tprocesses.specs.Places.{Place, Name, WordAt, Sending, Standing, Half, LinkHalf, Life, Population, HasRun}
+use Rattle.tprocesses.specs.Places.{Place, Name, WordAt, Sending, Standing, Ports}
+use Rattle.tprocesses.specs.Places.{Half, LinkHalf, Life, Population, HasRun}
 use Rattle.tprocesses.specs.Places.{Error, HaltOnError, same_name}
-use Rattle.tprocesses.specs.Values.{Value, Free, Saved, Engaged, Context, Stand, Absent, Rests, Runs, Waits, Ended}
-use Rattle.tprocesses.specs.Values.{IsStand, IsFlag, IsAmount, word_in}
+use Rattle.tprocesses.specs.Values.{Chosen, Chooses, Value, Free, Context, Stand, Absent, Rests, Runs}
+use Rattle.tprocesses.specs.Values.{Waits, Ended}
+use Rattle.tprocesses.specs.Values.{IsStand, IsFlag, IsAmount, word_in, stand_in}
 use Rattle.tprocesses.specs.Touching.{word_number}
 use Rattle.tprocesses.specs.Machine.{site_of, awaits_successor}
 use Rattle.tseen.specs.Known.{HasRegisters, HasSaved}
 use Rattle.tseen.specs.Seats.{Seat, Current, Interrupted, Queued, Waiting, is_taken}
 use Rattle.tseen.specs.Outputs.{Pending}
-use Rattle.tseen.specs.Words.{AreSavedWords, use_at}
+use Rattle.tseen.specs.Words.{AreSavedWords, use_at, is_set_aside}
+use Rattle.tseen.specs.Choices.{alternative_of, alternative_at, is_quiet}
 use Rattle.tseen.specs.Processes.{Fits, IsSeated, IsGone, HasFlags, KeepsFlags, ShowsProcesses, context_in}
 use Rattle.tseen.specs.Shown.{ShowsNode}
 use Rattle.tseen.proofs.After.{State}
+use Rattle.tseen.proofs.Choices.{is_lasting, lasting_not_free, stands_alike, quiet_alike, alternative_alike, none_is}
+use Rattle.tseen.proofs.Choices.{choices_stay}
+use Rattle.tseen.proofs.Unclaimed.{aside_not_free}
 use Rattle.tseen.proofs.Cells.{use_of, Knows, IsWhole, Tells, shows_from, range-at, range-length}
 use Rattle.tseen.proofs.Written.{is_word_of}
 use Rattle.tseen.proofs.Writing.{word_lies}
@@ -76,7 +84,8 @@ module _ (p : Plan) (plan : NodePlan) (n : ℕ) (s t s' : State) (named : Seat �
     (apart : is_some node.machine.control.interrupted ≡ true → same_name x (named Interrupted) ≡ false)
     (kept : KeepsFlags s n) (after : Registers) (count : ℕ) (store' : Store) (c c' : Context)
     (stood : s (Standing x) ≡ IsStand (Runs c)) (level_is : c.priority ≡ level)
-    (knows : HasRegisters level after c')
+    (same_wptr : c.wptr ≡ node.machine.control.registers.wptr) (knows : HasRegisters level after c')
+    (same_choice : c'.choice ≡ c.choice)
     (on : GoesOn n plan.memory s t node.machine.store store')
     (went : WentOn (site_of n plan) x node.machine.control.registers.wptr after c' t s') (ran : Ran)
     (stepped : step node.machine ≡ Ok (
@@ -119,17 +128,14 @@ module _ (p : Plan) (plan : NodePlan) (n : ℕ) (s t s' : State) (named : Seat �
             (on.tells.cells i h);
       }
 
-  -- a channel word stays
-  channel_word : (a : ℕ) → word_place_break (length node.machine.store) a ≡ None → use_at s n a ≡ Engaged
+  -- a word in use as a channel or for an alternative stays
+  lasting_word : (a : ℕ) → word_place_break (length node.machine.store) a ≡ None → is_lasting (use_at s n a) ≡ true
       → word_at store' a ≡ word_at node.machine.store a
-  channel_word a h e =
+  lasting_word a h e =
       let l : (place a ≡ 4 * word_number a) × (most_neg ≤ a) × (4 * word_number a + 4 ≤ plan.memory) =
       word_lies (site_of n plan) whole a (subst (λ z. word_place_break z a ≡ None) shown.size h) in
       word_stays s n plan.memory node.machine.store store' a on.only shown.size on.tells.length l.0 l.2
-      (λ f. not_free (sym e ∙ f))
-    where
-      not_free : Engaged ≡ Free → ⊥
-      not_free e = cc
+      (lasting_not_free e)
 
   -- another process stays where it was
   other_stand : (y : Name) (stand : Stand) → s (Standing y) ≡ IsStand stand → is_running (IsStand stand) ≡ false
@@ -189,10 +195,19 @@ module _ (p : Plan) (plan : NodePlan) (n : ℕ) (s t s' : State) (named : Seat �
             fits = saved_stays process d (queued_descheduled m process taken) f;
             has_run = has_run_stays (Rests d) r;
           }
+      by (Chosen d) e f r =
+          record {
+            home = k.home;
+            stand = Chosen d;
+            stands = other_stand y (Chosen d) e refl;
+            fits = (saved_stays process d (queued_descheduled m process taken) f.0, f.1);
+            has_run = has_run_stays (Chosen d) r;
+          }
       by Absent e f r = absurd f
       by (Runs d) e f r = absurd f
       by (Waits d) e f r = absurd f
       by Ended e f r = absurd f
+      by (Chooses d) e f r = absurd f
 
   waits_seated : (process : ℕ) (y : Name) → is_taken m (Waiting process) ≡ true
       → IsSeated s n node (Waiting process) y → IsSeated s' n node' (Waiting process) y
@@ -217,9 +232,18 @@ module _ (p : Plan) (plan : NodePlan) (n : ℕ) (s t s' : State) (named : Seat �
             fits = (saved_stays process d (waits_descheduled m process taken) f.0, f.1);
             has_run = has_run_stays (Waits d) r;
           }
+      by (Chooses d) e f r =
+          record {
+            home = k.home;
+            stand = Chooses d;
+            stands = other_stand y (Chooses d) e refl;
+            fits = (saved_stays process d (waits_descheduled m process taken) f.0, f.1, f.2);
+            has_run = has_run_stays (Chooses d) r;
+          }
       by Absent e f r = absurd f
       by (Runs d) e f r = absurd f
       by Ended e f r = absurd f
+      by (Chosen d) e f r = absurd f
 
   current_seated : IsSeated s' n node' Current x
   current_seated =
@@ -322,6 +346,8 @@ module _ (p : Plan) (plan : NodePlan) (n : ℕ) (s t s' : State) (named : Seat �
           by_stand (Rests d) f h = absurd f
           by_stand (Waits d) f h = absurd f
           by_stand Ended f h = absurd f
+          by_stand (Chooses d) f h = absurd f
+          by_stand (Chosen d) f h = absurd f
 
           with_seat : IsSeated s' n node' Interrupted (named Interrupted) → s' (HasRun n 1) ≡ IsFlag true
           with_seat q = by_stand q.stand q.fits q.has_run
@@ -356,11 +382,8 @@ module _ (p : Plan) (plan : NodePlan) (n : ℕ) (s t s' : State) (named : Seat �
           live_long m'.control level current ∙ sym (live_long m level current)
 
   -- a saved word stays
-  used_stays : (j : ℕ) → use_of s n j ≡ Saved → s' (WordAt n j) ≡ s (WordAt n j)
-  used_stays j e = went.others (WordAt n j) refl ∙ on.keeps.kept j (λ f. not_free (sym e ∙ f))
-    where
-      not_free : Saved ≡ Free → ⊥
-      not_free e = cc
+  used_stays : (j : ℕ) → is_set_aside (use_of s n j) ≡ true → s' (WordAt n j) ≡ s (WordAt n j)
+  used_stays j e = went.others (WordAt n j) refl ∙ on.keeps.kept j (aside_not_free e)
 
   -- so the node is shown
   pub own_shown : ShowsNode s' n plan named sent node'
@@ -379,8 +402,30 @@ module _ (p : Plan) (plan : NodePlan) (n : ℕ) (s t s' : State) (named : Seat �
             (λ j. ap awaits_successor (uses j) ∙ shown.marks.no_successor j) shown.marks;
         channels = channels_stay s s' n named named node.machine m' (λ w. refl) (λ j e. uses j ∙ e)
             (λ j e. sym (uses j) ∙ e) (λ a side. at (Half n a side) refl refl) (λ q. refl)
-            (on.tells.length ∙ sym shown.size) channel_word shown.channels;
+            (on.tells.length ∙ sym shown.size) (λ a h e. lasting_word a h (ap is_lasting e)) shown.channels;
         links = λ l h. link_stays s s' n named named sent node node' l (λ w. refl)
             (λ side. at (LinkHalf (end_at n l) side) refl refl) refl refl (shown.links l h);
         processes = processes';
+        choices = choices_stay s s' n node.machine.store store'
+            (λ y h. stands_alike p s s' n x (λ y other. at (Standing y) other refl) alternative_stays y)
+            (λ y h e. quiet_alike p s s' n x (λ y other. at (Standing y) other refl) quiet_now y e)
+            (λ y h. at (Ports y) refl refl) (λ a side. at (Half n a side) refl refl)
+            (λ j e z. ap amount_in (at (Sending n j) refl refl) ∙ z) (λ j e. went.others (WordAt n j) refl
+            ∙ on.keeps.kept j (lasting_not_free e))
+            (on.tells.length ∙ sym shown.size) lasting_word shown.choices;
       }
+    where
+      quiet_now : is_quiet (stand_in (s' (Standing x))) ≡ true
+      quiet_now = ap (λ (v : Value). is_quiet (stand_in v)) went.stand
+
+      alternative_stays : alternative_at s' n x ≡ alternative_at s n x
+      alternative_stays =
+          ap (λ (v : Value). alternative_of (stand_in v)) went.stand
+          ∙ alternative_alike c c' same_choice (knows.priority ∙ sym level_is)
+          (by (or_cases (is_none c'.choice) (node.machine.control.registers.wptr == after.wptr) went.stays))
+          ∙ sym (ap (λ (v : Value). alternative_of (stand_in v)) stood)
+        where
+          by : (is_none c'.choice ≡ true) ⊎ ((node.machine.control.registers.wptr == after.wptr) ≡ true)
+              → (c'.choice ≡ None) ⊎ (c'.wptr ≡ c.wptr)
+          by (inl e) = inl (none_is c'.choice e)
+          by (inr e) = inr (knows.wptr ∙ sym (eqb-true _ _ e) ∙ sym same_wptr)

@@ -1,4 +1,15 @@
 -- The instruction of the current process of a node is seen as steps of a run of a plan with a certificate.
+use Rattle.tseen.proofs.AltwtSeen.{awaits_are_seen}
+use Rattle.tseen.proofs.EnbcLaw.{enbc_is_seen}
+use Rattle.tseen.proofs.DiscLaw.{disc_is_seen}
+use Rattle.tseen.proofs.AltendSeen.{altend_is_seen}
+use Rattle.tseen.proofs.DissSeen.{diss_is_seen}
+use Rattle.tseen.proofs.SkipsSeen.{skips_are_seen}
+use Rattle.tseen.proofs.AltSeen.{alts_are_seen}
+use Rattle.tseen.specs.Messages.{FindsOther}
+use Rattle.std.proofs.Common.{Option, None}
+use Rattle.tseen.specs.AgentSteps.{NothingStops, AgentMakes, HasStep}
+use Rattle.tseen.specs.Choices.{enabler_at}
 use Rattle.std.proofs.Common.{◌≡◌, ◌≢◌, ℕ, zero, suc, ◌<◌, refl, sym, subst, ◌∙◌, List, Bool, true}
 use Rattle.std.proofs.Common.{false, Some, arith, ◌⊎◌, inl, inr}
 use Rattle.std.proofs.lemmas.Bool.{cases_eq}
@@ -6,7 +17,8 @@ use Rattle.tword.specs.Words.{plus}
 use Rattle.tcode.specs.declared.instruction.Instruction.{Instruction}
 use Rattle.tcode.specs.declared.instruction.Operation.{Operation}
 use Rattle.tcode.specs.declared.instruction.Operation.TheVariants.{Startp, Endp, Runp, Stopp, Stoperr, Ldpri, In}
-use Rattle.tcode.specs.declared.instruction.Operation.TheVariants.{Out, Outbyte, Outword}
+use Rattle.tcode.specs.declared.instruction.Operation.TheVariants.{Out, Alt, Enbc, Enbs, Altwt, Disc, Diss, Altend}
+use Rattle.tcode.specs.declared.instruction.Operation.TheVariants.{Outbyte, Outword}
 use Rattle.tcpu.specs.declared.registers.Next.{Next}
 use Rattle.tcpu.specs.declared.registers.Next.TheVariants.{Go, Jumped, Schedule, Halt}
 use Rattle.tproc.specs.Machine.{Control}
@@ -19,6 +31,7 @@ use Rattle.tprocesses.specs.Values.{Runs}
 use Rattle.tprocesses.specs.Machine.{Process, Channel, site_of}
 use Rattle.tprocesses.specs.Scheduling.{schedules}
 use Rattle.tprocesses.specs.Certified.{ProcessStep, IsCertificate}
+use Rattle.tseen.specs.Alternatives.{FollowsTwice}
 use Rattle.tseen.specs.Steps.{IsCurrent, Makes, LeadsTo, next_of, yields}
 use Rattle.tseen.specs.Ended.{left_to_end, successor_of}
 use Rattle.tseen.specs.Messages.{is_message, Communicates, channel_of, channel_word}
@@ -33,6 +46,7 @@ use Rattle.tseen.proofs.Stops.{stops_are_seen}
 use Rattle.tseen.proofs.Beginnings.{beginnings_are_seen}
 use Rattle.tseen.proofs.Ended.{ends_are_seen}
 use Rattle.tseen.proofs.Succeeding.{last_ends_are_seen, successors_are_due}
+use Rattle.tseen.proofs.EnabledMessages.{enabled_messages_are_seen}
 use Rattle.tseen.proofs.FirstHalves.{first_halves_are_seen}
 use Rattle.tseen.proofs.LinkOperations.{link_operations_are_seen}
 use Rattle.tseen.proofs.Meetings.{meetings_are_seen, meetings_go_on}
@@ -114,7 +128,7 @@ module _ (p : Plan) (steps : List ProcessStep) (end : State) (k : IsCertificate 
       (λ i decodes pp t. record {
         goes = λ d e u w.
             absurd (go_not_scheduled o (sym e ∙ one_next (sym (next_is p c s n x now i pp t decodes d) ∙ next)));
-        jumps = λ d e u w f.
+        jumps = λ d e u w f still.
             absurd (jumped_not_scheduled o (sym e ∙ one_next (sym (next_is p c s n x now i pp t decodes d) ∙ next)));
         schedules = λ d o' e u w.
             subst (λ z. After (schedules z (site_of n now.plan) x (record running.context {
@@ -145,6 +159,60 @@ module _ (p : Plan) (steps : List ProcessStep) (end : State) (k : IsCertificate 
           leading (ends_are_seen p c s s' n x now next d makes
           (never p steps end k s' first.reached (successor_of n now.node.machine)))
 
+  stops_nowhere : NothingStops p s'
+  stops_nowhere = never p steps end k s' first.reached
+
+  -- a message that another process waits for
+  meeting : (both : Communicates p c s s' n x) → FindsOther both → Leads p c n s r
+  meeting both d =
+      let second : GoesOn p (Channel n (channel_of both)) s' first.reached =
+      on p steps end k s' first.reached (Channel n (channel_of both)) (meetings_go_on p c s s' n x both d).0 in
+      let third : GoesOn p (Process x) second.state second.reached =
+      on p steps end k second.state second.reached (Process x)
+      ((meetings_go_on p c s s' n x both d).1 second.state second.makes) in
+      record {
+        state = third.state;
+        reached = third.reached;
+        leads = meetings_are_seen p c s s' second.state third.state n x both d second.makes third.makes;
+        progress = inl (omega (arith, first.longer, second.longer, third.longer));
+        quiet = λ e. nothing_more p (Process x) second.state second.reached third e refl _
+            (nothing_more p (Channel n (channel_of both)) s' first.reached second e refl _ (first_quiet e));
+      }
+
+  -- a message on a channel that is enabled
+  enabled : (both : Communicates p c s s' n x)
+      → LeadsTo p c n s' ⊎ (HasStep p (Channel n (channel_of both)) s'
+      × ((t : State) → AgentMakes p (Channel n (channel_of both)) s' t → LeadsTo p c n t)) → Leads p c n s r
+  enabled both (inl l) = leading l
+  enabled both (inr l) =
+      let second : GoesOn p (Channel n (channel_of both)) s' first.reached =
+      on p steps end k s' first.reached (Channel n (channel_of both)) l.0 in
+      record {
+        state = second.state;
+        reached = second.reached;
+        leads = l.1 second.state second.makes;
+        progress = inl (omega (arith, first.longer, second.longer));
+        quiet = λ e. nothing_more p (Channel n (channel_of both)) s' first.reached second e refl _ (first_quiet e);
+      }
+
+  -- `altwt`
+  awaiting : LeadsTo p c n s' ⊎ FollowsTwice p c n x s' → Leads p c n s r
+  awaiting (inl l) = leading l
+  awaiting (inr (channel, due, more)) =
+      let second : GoesOn p (Channel n channel) s' first.reached =
+      on p steps end k s' first.reached (Channel n channel) due in
+      let last = more second.state second.makes in
+      let third : GoesOn p (Process x) second.state second.reached =
+      on p steps end k second.state second.reached (Process x) last.0 in
+      record {
+        state = third.state;
+        reached = third.reached;
+        leads = last.1 third.state third.makes;
+        progress = inl (omega (arith, first.longer, second.longer, third.longer));
+        quiet = λ e. nothing_more p (Process x) second.state second.reached third e refl _
+            (nothing_more p (Channel n channel) s' first.reached second e refl _ (first_quiet e));
+      }
+
   -- a message
   message : (o : Operation) → next_of now.node.machine ≡ Some (Schedule o) → is_message o ≡ true → (b : Bool)
       → is_link m.registers.b ≡ b → Leads p c n s r
@@ -165,21 +233,11 @@ module _ (p : Plan) (steps : List ProcessStep) (end : State) (k : IsCertificate 
 
       by : (channel_word both ≡ not_process) ⊎ (channel_word both ≢ not_process) → Leads p c n s r
       by (inl e) = leading (first_halves_are_seen p c s s' n x both e)
-      by (inr d) =
-          let second : GoesOn p (Channel n (channel_of both)) s' first.reached =
-          on p steps end k s' first.reached (Channel n (channel_of both)) (meetings_go_on p c s s' n x both d).0 in
-          let third : GoesOn p (Process x) second.state second.reached =
-          on p steps end k second.state second.reached (Process x)
-          ((meetings_go_on p c s s' n x both d).1 second.state second.makes) in
-          record {
-            state = third.state;
-            reached = third.reached;
-            leads = meetings_are_seen p c s s' second.state third.state n x both d second.makes
-                third.makes;
-            progress = inl (omega (arith, first.longer, second.longer, third.longer));
-            quiet = λ e. nothing_more p (Process x) second.state second.reached third e refl _
-                (nothing_more p (Channel n (channel_of both)) s' first.reached second e refl _ (first_quiet e));
-          }
+      by (inr d) = by_enabler (enabler_at s n (channel_of both)) refl
+        where
+          by_enabler : (o : Option Name) → enabler_at s n (channel_of both) ≡ o → Leads p c n s r
+          by_enabler None e = meeting both (d, e)
+          by_enabler (Some y) e = enabled both (enabled_messages_are_seen p c s s' n x y both e)
 
   operation : (o : Operation) → next_of now.node.machine ≡ Some (Schedule o) → Leads p c n s r
   operation Startp next =
@@ -200,6 +258,13 @@ module _ (p : Plan) (steps : List ProcessStep) (end : State) (k : IsCertificate 
   operation Out next = message Out next refl (is_link m.registers.b) refl
   operation Outbyte next = message Outbyte next refl (is_link m.registers.b) refl
   operation Outword next = message Outword next refl (is_link m.registers.b) refl
+  operation Alt next = leading (alts_are_seen p c s s' n x now next makes stops_nowhere)
+  operation Enbc next = leading (enbc_is_seen p c s s' n x now next makes stops_nowhere)
+  operation Enbs next = leading (skips_are_seen p c s s' n x now next makes stops_nowhere)
+  operation Altwt next = awaiting (awaits_are_seen p c s s' n x now next makes stops_nowhere)
+  operation Disc next = leading (disc_is_seen p c s s' n x now next makes stops_nowhere)
+  operation Diss next = leading (diss_is_seen p c s s' n x now next makes stops_nowhere)
+  operation Altend next = leading (altend_is_seen p c s s' n x now next makes stops_nowhere)
   operation o next = absurd (never_done o next (λ u i. tt))
 
   -- the same holds for each instruction

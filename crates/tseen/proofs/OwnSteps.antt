@@ -9,7 +9,6 @@ use Rattle.tplan.specs.declared.plan.NodePlan.{NodePlan}
 use Rattle.tplan.specs.declared.plan.Plan.{Plan}
 use Rattle.tnet.specs.Rendezvous.{Node, Configuration, node_of}
 use Rattle.tprocesses.specs.Places.{Name}
-use Rattle.tprocesses.specs.Values.{Rests}
 use Rattle.tprocesses.specs.Machine.{Process}
 use Rattle.tprocesses.specs.Certified.{ProcessStep, IsCertificate}
 use Rattle.tseen.specs.Seats.{Current, Queued}
@@ -96,8 +95,10 @@ module _ (p : Plan) (steps : List ProcessStep) (end : State) (k : IsCertificate 
       first : GoesOn p (Process x) s r
       first =
           on p steps end k s r (Process x)
-          (process_due p x s (Rests _)
-          (rests_there p (stepped_aside p c s n x interrupts) s n x (is_next p c s n x interrupts)).stood refl)
+          (process_due p x s
+          (rests_there p (stepped_aside p c s n x interrupts) s n x (is_next p c s n x interrupts)).stand
+          (rests_there p (stepped_aside p c s n x interrupts) s n x (is_next p c s n x interrupts)).stood
+          (rests_there p (stepped_aside p c s n x interrupts) s n x (is_next p c s n x interrupts)).ready)
 
   -- a process is dispatched
   dispatch : (process : ℕ) → m.current ≡ None → next_queued m.interrupted m.high m.low ≡ Some process → Leads p c n s r
@@ -132,7 +133,8 @@ module _ (p : Plan) (steps : List ProcessStep) (end : State) (k : IsCertificate 
       first : GoesOn p (Process x) s r
       first =
           on p steps end k s r (Process x)
-          (process_due p x s (Rests _) (rests_there p c s n x comes).stood refl)
+          (process_due p x s (rests_there p c s n x comes).stand (rests_there p c s n x comes).stood
+          (rests_there p c s n x comes).ready)
 
   -- an interrupted process goes on
   resumption : (t : Suspended) → m.current ≡ None → m.high ≡ [] → m.interrupted ≡ Some t → Leads p c n s r

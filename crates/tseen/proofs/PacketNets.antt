@@ -19,7 +19,8 @@ use Rattle.tseen.specs.Packets.{IsToldOfNet, CertificatesTellOfPackets}
 use Rattle.tseen.proofs.AllRuns.{certificates_tell_of_the_net}
 
 module _ (p : Plan) (steps : List ProcessStep) (end : Place → Value) (built : fault_of p ≡ None)
-    (words : ArePlanWords p) (certificate : IsCertificate p steps end) (events : List Event) (net : NetState)
+    (words : ArePlanWords p) (certificate : IsCertificate p steps end)
+    (events : List Event) (net : NetState)
     (done : after_events events (opening_net p) ≡ Some net) where
   told : IsTold p steps end (view net) (images events (opening_net p)) (notes events (opening_net p))
   told =

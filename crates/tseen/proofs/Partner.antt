@@ -1,8 +1,12 @@
 -- The process that waits at an internal channel to which another comes.
+use Rattle.std.proofs.Common.{◌⊎◌, inl, inr}
+use Rattle.std.proofs.Common.{None}
+use Rattle.tseen.specs.Choices.{enabler_at}
 use Rattle.std.proofs.Common.{◌≡◌, ◌≢◌, ℕ, refl, sym, ap, subst, ◌∙◌, Bool, true, false, Option, Some, arith}
 use Rattle.std.specs.Prelude.{is_some, IfSome}
 use Rattle.std.proofs.lemmas.Bool.{eq-eqb}
 use Rattle.tword.specs.Stores.{Store, word_at}
+use Rattle.tproc.specs.declared.waiter.Reason.TheVariants as waiting
 use Rattle.tproc.specs.declared.channels.Side.{Side}
 use Rattle.tproc.specs.declared.channels.Side.TheVariants.{Input, Output}
 use Rattle.tproc.specs.declared.waiter.Reason.{Reason}
@@ -13,7 +17,8 @@ use Rattle.tproc.specs.ProcessStatus.{reason_of}
 use Rattle.tplan.specs.declared.plan.Plan.{Plan}
 use Rattle.tnet.specs.Rendezvous.{Configuration}
 use Rattle.tprocesses.specs.Places.{Name, Standing, Half, HasRun, same_name, same_place}
-use Rattle.tprocesses.specs.Values.{Value, Context, Stand, Absent, Rests, Runs, Waits, Ended, Request, IsStand}
+use Rattle.tprocesses.specs.Values.{Chosen, Chooses, TakenBy, Value, Context, Stand, Absent, Rests, Runs, Waits}
+use Rattle.tprocesses.specs.Values.{Ended, Request, IsStand}
 use Rattle.tprocesses.specs.Values.{IsHalf}
 use Rattle.tprocesses.specs.Values.{IsFlag}
 use Rattle.tprocesses.specs.Touching.{Site}
@@ -32,7 +37,7 @@ use Rattle.tseen.proofs.Others.{other_name, is_running}
 use Rattle.tseen.proofs.AtOperation.{context_at}
 use Rattle.tseen.proofs.Asked.{side_of, buffer_for}
 use Rattle.tseen.proofs.Meeting.{AreThere}
-use Rattle.tseen.proofs.Taken.{HasTaken, opposite, was_engaged, other_taken}
+use Rattle.tseen.proofs.Taken.{HasTaken, opposite, was_engaged, other_held, OtherTaken}
 use Rattle.tseen.proofs.TakenWords.{at, own_half, tells_before}
 
 -- a process waits there
@@ -46,13 +51,18 @@ pub sides_apart : (n channel : ℕ) (side : Side)
 sides_apart n channel Input = rw (eq-eqb n n refl, eq-eqb channel channel refl) refl
 sides_apart n channel Output = rw (eq-eqb n n refl, eq-eqb channel channel refl) refl
 
+no_choice : (a : Side) (channel : ℕ) (q : Request) → reason_at a channel q.buffer ≡ waiting.Chooses → ⊥
+no_choice Input channel q e = cc
+no_choice Output channel q e = cc
+
 no_link : (a : Side) (channel l : ℕ) (q : Request) → reason_at a channel q.buffer ≡ LinkOutput l → ⊥
 no_link Input channel l q e = cc
 no_link Output channel l q e = cc
 
 module _ (p : Plan) (c : Configuration) (s : State) (n : ℕ) (x : Name) (k : IsCurrent p c s n x) (v : State)
     (h : HasTaken p c s n x k v)
-    (differs : word_at k.node.machine.store k.node.machine.control.registers.b ≢ not_process) where
+    (differs : (word_at k.node.machine.store k.node.machine.control.registers.b ≢ not_process)
+    × (enabler_at s n k.node.machine.control.registers.b ≡ None)) where
   abbrev m : Control
   m = k.node.machine.control
 
@@ -77,15 +87,22 @@ module _ (p : Plan) (c : Configuration) (s : State) (n : ℕ) (x : Name) (k : Is
   abbrev channel : ℕ
   channel = m.registers.b
 
-  met : (q : Request) × (s (Half n channel (opposite side)) ≡ IsHalf (Some q))
+  met : (q : Request) × (s (Half n channel (opposite side)) ≡ IsHalf (TakenBy q))
       × IsTakenHalf s n named k.node.machine channel (opposite side) q
-  met = other_taken p c s n x k v h (was_engaged p c s n x k v h differs)
+  met = by (other_held p c s n x k v h (was_engaged p c s n x k v h differs.0))
+    where
+      nobody : {y : Name} → None ≡ Some y → ⊥
+      nobody e = cc
+
+      by : OtherTaken p c s n x k v h ⊎ ((y : Name) × (enabler_at s n channel ≡ Some y)) → OtherTaken p c s n x k v h
+      by (inl t) = t
+      by (inr (y, e)) = absurd (nobody (sym differs.1 ∙ e))
 
   -- what the two ask for
   pub asked : Request
   asked = met.0
 
-  pub asked_half : s (Half n channel (opposite side)) ≡ IsHalf (Some asked)
+  pub asked_half : s (Half n channel (opposite side)) ≡ IsHalf (TakenBy asked)
   unfolding asked
   asked_half = met.1
 
@@ -147,6 +164,9 @@ module _ (p : Plan) (c : Configuration) (s : State) (n : ℕ) (x : Name) (k : Is
       by_stand q Absent e f r = absurd f
       by_stand q (Runs d) e f r = absurd f
       by_stand q Ended e f r = absurd f
+      by_stand q (Chooses d) e f r =
+          absurd (no_choice (opposite side) channel asked (one_reason (sym waits ∙ f.2)))
+      by_stand q (Chosen d) e f r = absurd f
 
       with_seat : IsSeated s n k.node (Waiting partner) (named (Waiting partner)) → IsPartner
       with_seat q = by_stand q q.stand q.stands q.fits q.has_run

@@ -1,4 +1,10 @@
 -- A node receives: a message comes into the buffer of an input, and its process is ready.
+use Rattle.tprocesses.specs.Values.{amount_in}
+use Rattle.tseen.specs.Words.{is_set_aside}
+use Rattle.tseen.proofs.Choices.{is_lasting, lasting_not_saved, stands_alike, quiet_alike, choices_stay}
+use Rattle.tprocesses.specs.Values.{stand_in}
+use Rattle.tprocesses.specs.Places.{Ports}
+use Rattle.tseen.specs.Choices.{alternative_of, alternative_at, is_quiet}
 use Rattle.std.proofs.Common.{◌≡◌, ◌≢◌, ℕ, zero, suc, ◌+◌, ◌-◌, ◌*◌, ◌<◌, ◌≤◌, ◌/◌, ◌%◌, refl, sym, ap, subst, ◌∙◌}
 use Rattle.std.proofs.Common.{Bool, true, false, true≢false, List, [], ◌∷◌, ◌++◌, length, length-append, get_or, cond}
 use Rattle.std.proofs.Common.{Contains, Option, Some, None, arith, ◌⊎◌, inl, inr}
@@ -21,6 +27,7 @@ use Rattle.tlink.specs.Roles.{Role, Processor, role_filled, filled}
 use Rattle.tplan.specs.declared.plan.End.{End}
 use Rattle.tplan.specs.declared.plan.NodePlan.{NodePlan}
 use Rattle.tplan.specs.declared.plan.Plan.{Plan}
+use Rattle.tproc.specs.declared.waiter.Reason.TheVariants as waiting
 use Rattle.tproc.specs.declared.offer.Offer.{Offer}
 use Rattle.tproc.specs.declared.channels.Side.{Side}
 use Rattle.tproc.specs.declared.channels.Side.TheVariants.{Input, Output}
@@ -427,9 +434,12 @@ module _ (p : Plan) (s : State) (n : ℕ) (plan : NodePlan) (named : Seat → Na
         differ : Saved ≡ Receiving → ⊥
         differ e = cc
 
+    aside_not_receiving : {u : Use} → is_set_aside u ≡ true → u ≡ Receiving → ⊥
+    aside_not_receiving e f = true≢false (sym e ∙ ap is_set_aside f)
+
     saved_of : (v : ℕ) → Contains (descheduled m) v → AreSavedWords t n v
     saved_of v h =
-        saved_words_stay s t n v (λ j e. word_stays j (saved_not_receiving e))
+        saved_words_stay s t n v (λ j e. word_stays j (aside_not_receiving e))
         (All-contains (AreSavedWords s n) (descheduled m) v shown.marks.saved h)
 
     lies_under : (v j : ℕ) → (1 ≤ j) × (j ≤ 3) → Contains (descheduled m) v → LiesWord (length store) (word_below v j)
@@ -522,10 +532,16 @@ module _ (p : Plan) (s : State) (n : ℕ) (plan : NodePlan) (named : Seat → Na
         rests_is : {a b : Context} → IsStand (Rests a) ≡ IsStand (Waits b) → ⊥
         rests_is e = cc
 
+        differ : Some (LinkInput l) ≡ Some waiting.Chooses → ⊥
+        differ e = cc
+
         by : ((stood_there t).stand ≡ Rests (stood_there t).context)
-            ⊎ ((stood_there t).stand ≡ Waits (stood_there t).context) → (stood_there t).context ≡ k.context
+            ⊎ (((stood_there t).stand ≡ Waits (stood_there t).context)
+            ⊎ (reason_of m process ≡ Some waiting.Chooses)) → (stood_there t).context ≡ k.context
         by (inl e) = absurd (rests_is (sym (ap IsStand e) ∙ sym (stood_there t).stood ∙ k.stood))
-        by (inr e) = waits_is (sym (ap IsStand e) ∙ sym (stood_there t).stood ∙ k.stood)
+        by (inr (inr e)) =
+            absurd (differ (sym (reason_before m process (LinkInput l) waits placed.claimed.distinct ls) ∙ e))
+        by (inr (inl e)) = waits_is (sym (ap IsStand e) ∙ sym (stood_there t).stood ∙ k.stood)
 
     pub woken_there : IsWoken p s t n plan named sent node shown placed process (LinkInput l) waits ls store'
         node.copied None
@@ -643,6 +659,13 @@ module _ (p : Plan) (s : State) (n : ℕ) (plan : NodePlan) (named : Seat → Na
         differ : Engaged ≡ Receiving → ⊥
         differ e = cc
 
+    lasting_not_receiving : {u : Use} → is_lasting u ≡ true → u ≡ Receiving → ⊥
+    lasting_not_receiving e f = true≢false (sym e ∙ ap is_lasting f)
+
+    -- a word in use as a channel or for an alternative stays
+    lasting_to : (j : ℕ) → is_lasting (use_of s n j) ≡ true → use_of t n j ≡ use_of s n j
+    lasting_to j f = ap (λ (v : Value). (word_in v).used) (word_stays j (lasting_not_receiving f))
+
     engaged_to : (j : ℕ) → use_of s n j ≡ Engaged → use_of t n j ≡ Engaged
     engaged_to j f = ap (λ (v : Value). (word_in v).used) (word_stays j (not_receiving f)) ∙ f
 
@@ -656,9 +679,9 @@ module _ (p : Plan) (s : State) (n : ℕ) (plan : NodePlan) (named : Seat → Na
             differ e = cc
         by (inr g) = ap (λ (v : Value). (word_in v).used) (sym g) ∙ f
 
-    channel_word : (c : ℕ) → word_place_break (length store) c ≡ None → use_at s n c ≡ Engaged
+    lasting_word : (c : ℕ) → word_place_break (length store) c ≡ None → is_lasting (use_at s n c) ≡ true
         → word_at store' c ≡ word_at store c
-    channel_word c h f =
+    lasting_word c h f =
         let at : (place c ≡ 4 * word_number c) × (most_neg ≤ c) × (4 * word_number c + 4 ≤ plan.memory) =
         word_lies site whole c (subst (λ z. word_place_break z c ≡ None) shown.size h) in
         word_alike store store' c size'
@@ -669,11 +692,8 @@ module _ (p : Plan) (s : State) (n : ℕ) (plan : NodePlan) (named : Seat → Na
         }) (λ j b.
         let word : (place c + j) / 4 ≡ word_number c = omega (arith, at.0, b) in
         linked_store.only (place c + j) (λ g.
-        differ (sym (engaged_to (word_number c) f) ∙ ap (use_of t n) (sym word) ∙ g))
-        ∙ other_byte (place c + j) (not_receiving (ap (use_of s n) word ∙ f)))
-      where
-        differ : Engaged ≡ Saved → ⊥
-        differ e = cc
+        lasting_not_saved (ap is_lasting (lasting_to (word_number c) f) ∙ f) (ap (use_of t n) (sym word) ∙ g))
+        ∙ other_byte (place c + j) (lasting_not_receiving (ap is_lasting (ap (use_of s n) word) ∙ f)))
 
     no_channel : (side : Side) (channel : ℕ) (buffer : Span)
         → Some (LinkInput l) ≡ Some (reason_at side channel buffer) → ⊥
@@ -763,13 +783,32 @@ module _ (p : Plan) (s : State) (n : ℕ) (plan : NodePlan) (named : Seat → Na
             engaged_back = engaged_back;
             halves = λ c side. stays (Half n c side) refl;
             size = size';
-            words = channel_word;
+            words = λ c h e. lasting_word c h (ap is_lasting e);
           }) shown.channels;
           links = link_received;
           processes = processes_woken p s t n plan named sent node shown placed process (LinkInput l) waits ls store'
               node.copied None woken_there;
+          choices = choices_stay s t n store store'
+              (λ y h. stands_alike p s t n x stand_stays (alternative_now ∙ sym alternative_before) y)
+              (λ y h e. quiet_alike p s t n x stand_stays quiet_now y e) (λ y h. stays (Ports y) refl)
+              (λ a side. stays (Half n a side) refl) (λ j e z. ap amount_in (stays (Sending n j) refl) ∙ z)
+              (λ j e. word_stays j (lasting_not_receiving e)) size' lasting_word shown.choices;
         }
       where
+        stand_stays : (y : Name) → same_name x y ≡ false → t (Standing y) ≡ s (Standing y)
+        stand_stays y h = stays (Standing y) h
+
+        alternative_now : alternative_at t n x ≡ None
+        alternative_now = ap (λ (v : Value). alternative_of (stand_in v)) k.rests.is
+
+        alternative_before : alternative_at s n x ≡ None
+        alternative_before = ap (λ (v : Value). alternative_of (stand_in v)) k.stood
+
+        quiet_now : is_quiet (stand_in (t (Standing x))) ≡ true
+        quiet_now =
+            ap (λ (v : Value). is_quiet (stand_in v)) k.rests.is
+            ∙ sym (ap (λ (v : Value). is_quiet (stand_in v)) k.stood) ∙ shown.choices.quiet x (stood_there t).home
+
         nobody : {X : Type 0} {x : X} → None ≡ Some x → ⊥
         nobody e = cc
 

@@ -27,14 +27,16 @@ use Rattle.tplan.specs.Wires.{end_at, far_end, same_end}
 use Rattle.treduction.specs.Ends.{IsOver as IsAtEnd}
 use Rattle.tagents.specs.Walks.{are_open}
 use Rattle.tprocesses.specs.Places.{Place, Name, WordAt, LinkHalf, Messages, Kept, Standing}
-use Rattle.tprocesses.specs.Values.{Value, Lent, Stand, Absent, Rests, Runs, Waits, Ended, Request, Link, Empty}
+use Rattle.tprocesses.specs.Values.{Chosen, Chooses, Value, Lent, Stand, Absent, Rests, Runs, Waits, Ended, Request}
+use Rattle.tprocesses.specs.Values.{Link, Empty}
 use Rattle.tprocesses.specs.Values.{Offered, Copied, IsStand, IsLink, AreMessages, AreKept, link_in, stand_in}
 use Rattle.tprocesses.specs.Changes.{Put}
 use Rattle.tprocesses.specs.Parts.{Doing, change, require, telling, done, FullSink, ◌>>=◌, ◌>>◌}
 use Rattle.tprocesses.specs.Touching.{touch, part_of}
 use Rattle.tprocesses.specs.Standing.{wakes, ready}
 use Rattle.tprocesses.specs.LinkMessages.{sent_by, keeps}
-use Rattle.tprocesses.specs.Machine.{Agent, Process, Channel, Successor, Wire, Processor, Source, Sink, process_machine}
+use Rattle.tprocesses.specs.Machine.{Agent, Process, Channel, Successor, Wire, Processor, Source, Sink}
+use Rattle.tprocesses.specs.Machine.{process_machine}
 use Rattle.tprocesses.specs.Machine.{step_of, role_at, site_of, sender_to, joined_to, if_joined, gates_between}
 use Rattle.tprocesses.specs.Machine.{offer_place, take_place, is_passable, sends, receives, passes, Role as EndRole}
 use Rattle.tseen.specs.Outputs.{Pending, half_with}
@@ -47,7 +49,8 @@ use Rattle.tseen.specs.AgentSteps.{NothingStops}
 use Rattle.tseen.proofs.After.{State, changed, After, after_bind, after_all}
 use Rattle.tseen.proofs.Cells.{IsWhole, tells_from}
 use Rattle.tseen.proofs.Writing.{touch_then, span_read, part-length}
-use Rattle.tseen.proofs.Resting.{over_from, stopped_shut, process_shut, channel_shut, successor_shut, node, here}
+use Rattle.tseen.proofs.Resting.{over_from, stopped_shut, process_shut, channel_shut, successor_shut}
+use Rattle.tseen.proofs.Resting.{node, here}
 use Rattle.tseen.proofs.Resting.{shown}
 use Rattle.tseen.proofs.Resting.{is_steady}
 use Rattle.tseen.proofs.WireEnds.{IsNodeEnd, AreJoined, wire_joins}
@@ -91,6 +94,8 @@ wakes_then x lent e s Q h = by (stand_in (s (Standing x)))
     by (Rests d) = tt
     by (Runs d) = tt
     by Ended = tt
+    by (Chooses d) = tt
+    by (Chosen d) = tt
 
 module _ (p : Plan) (c : Configuration) (s : State) (none : fault_of p ≡ None) (shows : Shows p c s)
     (steady : AreSteady c) (over : IsAtEnd c) (never : NothingStops p s) where

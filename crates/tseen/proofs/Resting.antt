@@ -1,10 +1,14 @@
 -- Where no step of the rendezvous machine is lawful, processors are idle, and no process, channel or successor has a
 -- step.
+use Rattle.tseen.specs.Choices.{alternative}
+use Rattle.tprocesses.specs.Values.{Context, Choice}
+use Rattle.tprocesses.specs.Values.{stand_in, half_in}
+use Rattle.tseen.specs.Choices.{IsEnabled, enabler, alternative_of, Alternative}
 use Rattle.std.proofs.Common.{◌≡◌, ℕ, zero, suc, refl, sym, ap, subst, ◌∙◌, List, [], ◌∷◌, Bool, true}
 use Rattle.std.proofs.Common.{false, true≢false, not, length, cond, Contains, Result, Ok, Err, Option, Some, None}
 use Rattle.std.proofs.Common.{arith, ◌⊎◌, inl, inr}
 use Rattle.std.specs.Prelude.{◌==◌, ◌&&◌, ◌||◌, is_some, is_none, find, option_map, slice_get}
-use Rattle.std.proofs.lemmas.Bool.{and_parts, eqb-true}
+use Rattle.std.proofs.lemmas.Bool.{and_parts, and_from, eqb-true}
 use Rattle.std.proofs.lemmas.List.Elements.{All-contains}
 use Rattle.tword.specs.declared.breaks.Break.{Break}
 use Rattle.tproc.specs.declared.offer.Offer.{Offer}
@@ -29,8 +33,11 @@ use Rattle.treduction.specs.Ends.{IsOver as IsAtEnd}
 use Rattle.tagents.specs.Agents.{IsOver, Does}
 use Rattle.tagents.specs.Walks.{are_open, label_of, state_after}
 use Rattle.tprocesses.specs.Places.{Name, WordAt, Standing, Half}
-use Rattle.tprocesses.specs.Values.{Value, Stand, Absent, Rests, Runs, Waits, Ended, IsStand, IsHalf, IsWord, Request}
+use Rattle.tprocesses.specs.Values.{EnabledBy, AwaitedBy, Nobody, Holder, Chosen, Chooses}
+use Rattle.tprocesses.specs.Values.{TakenBy, Value, Stand, Absent, Rests}
+use Rattle.tprocesses.specs.Values.{Runs, Waits, Ended, IsStand, IsHalf, IsWord, Request}
 use Rattle.tprocesses.specs.Values.{word_in}
+use Rattle.tprocesses.specs.Choosing.{is_taken as is_filled, is_awaited}
 use Rattle.tprocesses.specs.Machine.{Agent, Process, Channel, Successor, process_machine, step_of, is_open, is_ready}
 use Rattle.tprocesses.specs.Machine.{awaits_successor}
 use Rattle.tprocesses.specs.Certified.{ProcessStep, machine_of}
@@ -40,6 +47,32 @@ use Rattle.tseen.specs.Shown.{Shows, ShowsNode}
 use Rattle.tseen.specs.Steps.{AreSteady, IsSteady}
 use Rattle.tseen.specs.AgentSteps.{NothingStops}
 use Rattle.tseen.proofs.After.{State, After, after_agent_step, if_open}
+
+-- a process waits for its alternative
+abbrev waits_for_choice : Stand → Bool
+waits_for_choice (Chooses d) = true
+waits_for_choice _ = false
+
+-- its alternative says so
+waits_for_it : (d : Context) (a : Alternative) → alternative false true d ≡ Some a → a.waits ≡ true
+waits_for_it d a e = by d.choice e
+  where
+    by : (o : Option Choice) → option_map (λ choice. record {
+      skips = choice.skips;
+      wptr = d.wptr;
+      priority = d.priority;
+      runs = false;
+      waits = true;
+    }) o ≡ Some a → a.waits ≡ true
+    by None f = absurd (differ f)
+      where
+        differ : None ≡ Some a → ⊥
+        differ g = cc
+    by (Some choice) f = ap waits_in (sym f)
+      where
+        waits_in : Option Alternative → Bool
+        waits_in (Some b) = b.waits
+        waits_in None = true
 
 -- who waits for something is among those that wait
 waits_for : (ws : List Waiter) (b : ℕ) (r : Reason)
@@ -200,6 +233,7 @@ module _ (p : Plan) (c : Configuration) (s : State) (shows : Shows p c s) (stead
         both (Some i) h k = true≢false (sym h)
     waits (Queued b) stand taken f = absurd (true≢false (sym taken ∙ none_queued b))
     waits (Waiting b) (Waits d) taken f = refl
+    waits (Waiting b) (Chooses d) taken f = refl
     waits (Waiting b) (Rests d) taken f =
         let l : ℕ = f.1.0 in
         let there : HasOffer m b (LinkOutput l) =
@@ -210,6 +244,7 @@ module _ (p : Plan) (c : Configuration) (s : State) (shows : Shows p c s) (stead
     waits (Waiting b) Absent taken f = absurd f
     waits (Waiting b) (Runs d) taken f = absurd f
     waits (Waiting b) Ended taken f = absurd f
+    waits (Waiting b) (Chosen d) taken f = absurd f
 
     -- no process of the node is ready
     pub none_ready : (x : Name) → x.node ≡ n → (stand : Stand) × (s (Standing x) ≡ IsStand stand)
@@ -228,8 +263,8 @@ module _ (p : Plan) (c : Configuration) (s : State) (shows : Shows p c s) (stead
             with_seat q taken (subst (IsSeated s n node q) e (shown.processes.seated q taken))
 
     -- no two halves of a channel are taken
-    pub none_meet : (a : ℕ) (i o : Request) → s (Half n a Input) ≡ IsHalf (Some i)
-        → s (Half n a Output) ≡ IsHalf (Some o) → ⊥
+    pub none_meet : (a : ℕ) (i o : Request) → s (Half n a Input) ≡ IsHalf (TakenBy i)
+        → s (Half n a Output) ≡ IsHalf (TakenBy o) → ⊥
     none_meet a i o e f =
         let input = shown.channels.taken a Input i e in
         let output = shown.channels.taken a Output o f in
@@ -260,14 +295,63 @@ module _ (p : Plan) (c : Configuration) (s : State) (shows : Shows p c s) (stead
   pub channel_shut : (n a : ℕ) → are_open (process_machine p) (Channel n a) s ≡ true → ⊥
   channel_shut n a opened = by (slice_get p.nodes n) refl
     where
-      meet : (plan : NodePlan) → slice_get p.nodes n ≡ Some plan → (i o : Option Request)
+      closed : (i o : Holder) → s (Half n a Input) ≡ IsHalf i → s (Half n a Output) ≡ IsHalf o
+          → ((is_filled i || is_awaited i) && is_filled o) ≡ false → ⊥
+      closed i o e f h =
+          let parts = and_parts (is_open p (Channel n a) (Half n a Input) (s (Half n a Input)))
+          (is_open p (Channel n a) (Half n a Output) (s (Half n a Output)) && true) opened in
+          let second = and_parts (is_open p (Channel n a) (Half n a Output) (s (Half n a Output))) true parts.1 in
+          true≢false (sym (and_from (is_filled i || is_awaited i) (is_filled o)
+          (sym (ap (is_open p (Channel n a) (Half n a Input)) e) ∙ parts.0)
+          (sym (ap (is_open p (Channel n a) (Half n a Output)) f) ∙ second.0)) ∙ h)
+
+      -- a process that waits for its alternative would have gone on, and one that does not stops the channel
+      awaited : (plan : NodePlan) → slice_get p.nodes n ≡ Some plan → (y : Name) (q : Request)
+          → s (Half n a Input) ≡ IsHalf (AwaitedBy y) → s (Half n a Output) ≡ IsHalf (TakenBy q)
+          → (stand : Stand) → stand_in (s (Standing y)) ≡ stand → ⊥
+      awaited plan planned y q e f stand g = by stand g
+        where
+          it : IsEnabled s n (node n plan planned).machine.store a y
+          it = (shown n plan planned).choices.enabled a y (ap (λ (v : Value). enabler (half_in v)) e)
+
+          stops : (stand : Stand) → stand_in (s (Standing y)) ≡ stand → waits_for_choice stand ≡ false → ⊥
+          stops stand g h = stopped_shut p s (Channel n a) never (step stand g h) opened
+            where
+              step : (stand : Stand) → stand_in (s (Standing y)) ≡ stand → waits_for_choice stand ≡ false
+                  → After (step_of p (Channel n a)) s (λ _ _. ⊥)
+              step (Chooses d) g h = absurd (true≢false h)
+              step Absent g h = rw (planned, e, f, g, After) tt
+              step (Rests d) g h = rw (planned, e, f, g, After) tt
+              step (Runs d) g h = rw (planned, e, f, g, After) tt
+              step (Waits d) g h = rw (planned, e, f, g, After) tt
+              step (Chosen d) g h = rw (planned, e, f, g, After) tt
+              step Ended g h = rw (planned, e, f, g, After) tt
+
+          by : (stand : Stand) → stand_in (s (Standing y)) ≡ stand → ⊥
+          by (Chooses d) g =
+              let own = (shown n plan planned).choices.owner y a it.home it.port in
+              let waits : own.0.waits ≡ true = waits_for_it d own.0 (sym (ap alternative_of g) ∙ own.1) in
+              let unready = ((shown n plan planned).choices.choices y own.0 it.home own.1).unready waits in
+              true≢false (sym (ap (λ (v : Value). is_filled (half_in v)) f) ∙ unready.1 a it.port)
+          by Absent g = stops Absent g refl
+          by (Rests d) g = stops (Rests d) g refl
+          by (Runs d) g = stops (Runs d) g refl
+          by (Waits d) g = stops (Waits d) g refl
+          by (Chosen d) g = stops (Chosen d) g refl
+          by Ended g = stops Ended g refl
+
+      meet : (plan : NodePlan) → slice_get p.nodes n ≡ Some plan → (i o : Holder)
           → s (Half n a Input) ≡ IsHalf i → s (Half n a Output) ≡ IsHalf o → ⊥
-      meet plan planned (Some i) (Some o) e f = none_meet n plan planned a i o e f
-      meet plan planned None o e f =
-          true≢false (sym (and_parts _ _ opened).0 ∙ ap (is_open p (Channel n a) (Half n a Input)) e)
-      meet plan planned (Some i) None e f =
-          true≢false (sym (and_parts _ _ (and_parts _ _ opened).1).0
-          ∙ ap (is_open p (Channel n a) (Half n a Output)) f)
+      meet plan planned (TakenBy i) (TakenBy o) e f = none_meet n plan planned a i o e f
+      meet plan planned (AwaitedBy y) (TakenBy q) e f = awaited plan planned y q e f (stand_in (s (Standing y))) refl
+      meet plan planned (AwaitedBy y) Nobody e f = closed (AwaitedBy y) Nobody e f refl
+      meet plan planned (AwaitedBy y) (EnabledBy z) e f = closed (AwaitedBy y) (EnabledBy z) e f refl
+      meet plan planned (AwaitedBy y) (AwaitedBy z) e f = closed (AwaitedBy y) (AwaitedBy z) e f refl
+      meet plan planned (TakenBy i) (AwaitedBy z) e f = closed (TakenBy i) (AwaitedBy z) e f refl
+      meet plan planned Nobody o e f = closed Nobody o e f refl
+      meet plan planned (EnabledBy y) o e f = closed (EnabledBy y) o e f refl
+      meet plan planned (TakenBy i) Nobody e f = closed (TakenBy i) Nobody e f refl
+      meet plan planned (TakenBy i) (EnabledBy y) e f = closed (TakenBy i) (EnabledBy y) e f refl
 
       by : (o : Option NodePlan) → slice_get p.nodes n ≡ o → ⊥
       by None e = stopped_shut p s (Channel n a) never (rw (e, After) tt) opened

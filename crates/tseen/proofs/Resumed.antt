@@ -106,21 +106,6 @@ module _ (site : Site) (whole : site.size % 4 ≡ 0) (w : ℕ) (s v : State) (fr
       by (inr a) (inr b) (inr c) =
           other j a b c (freed.set.rest (WordAt n j) (other_number n w j a b c))
 
-  -- what is not saved stays
-  pub unsaved_stays : (j : ℕ) → (use_of s n j ≡ Saved → ⊥) → v (WordAt n j) ≡ s (WordAt n j)
-  unsaved_stays =
-      by_freed (λ j. (use_of s n j ≡ Saved → ⊥) → v (WordAt n j) ≡ s (WordAt n j)) (λ h. absurd (h one))
-      (λ h. absurd (h two)) (λ h. absurd (h freed.saved_three)) (λ j a b c e h. e)
-
-  -- its use: free, or as before
-  pub used_then : (j : ℕ) → (use_of v n j ≡ Free) ⊎ (use_of v n j ≡ use_of s n j)
-  used_then =
-      by_freed (λ j. (use_of v n j ≡ Free) ⊎ (use_of v n j ≡ use_of s n j))
-      (inl (ap (λ (z : Value). (word_in z).used) freed.set.one))
-      (inl (ap (λ (z : Value). (word_in z).used) freed.set.two))
-      (inl (ap (λ (z : Value). (word_in z).used) freed.set.three))
-      (λ j a b c e. inr (ap (λ (z : Value). (word_in z).used) e))
-
   -- its cells are what they were
   pub cells_then : (j : ℕ) → (word_of v n j).cells ≡ (word_of s n j).cells
   cells_then =

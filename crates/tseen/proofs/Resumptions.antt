@@ -12,7 +12,7 @@ use Rattle.tproc.specs.Steps.{step}
 use Rattle.tplan.specs.declared.plan.Plan.{Plan}
 use Rattle.tnet.specs.Rendezvous.{Node, Configuration}
 use Rattle.tprocesses.specs.Places.{Name}
-use Rattle.tprocesses.specs.Values.{Stand, Absent, Rests, Runs, Waits, Ended}
+use Rattle.tprocesses.specs.Values.{Chosen, Chooses, Stand, Absent, Rests, Runs, Waits, Ended}
 use Rattle.tseen.specs.Known.{HasRegisters}
 use Rattle.tseen.specs.Seats.{Seat, Current, Interrupted, Queued, Waiting, is_taken}
 use Rattle.tseen.specs.Processes.{Fits, IsSeated, IsGone, HasFlags, ShowsProcesses}
@@ -88,6 +88,8 @@ module _ (p : Plan) (c : Configuration) (s : State) (n : ℕ) (k : IsResuming p 
       by (Rests d) f = absurd f
       by (Waits d) f = absurd f
       by Ended f = absurd f
+      by (Chooses d) f = absurd f
+      by (Chosen d) f = absurd f
 
   seated : (q : Seat) → is_taken now.control q ≡ true → IsSeated s n node' q (named' q)
   seated Current h = current_seated
@@ -170,6 +172,7 @@ module _ (p : Plan) (c : Configuration) (s : State) (n : ℕ) (k : IsResuming p 
         links = λ l h. link_stays s s n named named' (k.shows.sent n) k.node node' l (λ w. refl) (λ side. refl)
             refl refl (shown.links l h);
         processes = processes_now;
+        choices = shown.choices;
       }
 
   leads_on : LeadsTo p c n s

@@ -8,13 +8,14 @@ use Rattle.tprocesses.specs.Places.{WordAt}
 use Rattle.tprocesses.specs.Values.{Value, Use, Free, Saved, Receiving, IsWord, word_in, unknown}
 use Rattle.tprocesses.specs.Touching.{kept}
 use Rattle.tprocesses.specs.Machine.{site_of, awaits_successor}
-use Rattle.tseen.specs.Words.{AreSavedWords}
+use Rattle.tseen.specs.Words.{AreSavedWords, is_set_aside}
 use Rattle.tseen.proofs.After.{State}
 use Rattle.tseen.proofs.Cells.{word_of, use_of, cell, Knows, IsWhole, four_of}
 use Rattle.tseen.proofs.Stored.{GoesOn}
 use Rattle.tseen.proofs.Saving.{below, other_number, IsSaved}
 use Rattle.tseen.proofs.Softened.{none_at}
 use Rattle.tseen.proofs.Staying.{saved_words, saved_words_stay, used_one}
+use Rattle.tseen.proofs.Unclaimed.{aside_not_free}
 
 -- what was saved is not free
 pub saved_not_free : {used : Use} → used ≡ Saved → used ≡ Free → ⊥
@@ -131,11 +132,11 @@ module _ {n : ℕ} {plan : NodePlan} {s last : State} {w : ℕ} (k : HasSaved n 
   pub saved_each : (ws : List ℕ) → ((a : ℕ) → Contains ws a → AreSavedWords s n a) → (a : ℕ)
       → Contains ws a ⊎ (w ≡ a) → AreSavedWords last n a
   saved_each ws old a (inl h) =
-      saved_words_stay s last n a (λ j e. unfree_stays j (saved_not_free e)) (old a h)
+      saved_words_stay s last n a (λ j e. unfree_stays j (aside_not_free e)) (old a h)
   saved_each ws old a (inr e) =
       subst (AreSavedWords last n) e
       (saved_words last n w (ap (λ (z : Value). (word_in z).used) one_is)
-      (ap (λ (z : Value). (word_in z).used) two_is) (ap (λ (z : Value). (word_in z).used) three_is)
+      (ap (λ (z : Value). (word_in z).used) two_is) (ap (λ (z : Value). is_set_aside (word_in z).used) three_is)
       (ap (λ (z : Value). (word_in z).cells) one_is) (ap (λ (z : Value). (word_in z).cells) two_is))
 
   -- who has saved words has another workspace

@@ -1,12 +1,14 @@
 -- The words below a workspace become saved words, and words for programs again.
+use Rattle.tprocesses.specs.Values.{Awaiting}
 use Rattle.std.proofs.Common.{◌≡◌, ◌≢◌, ℕ, refl, sym, ap, ◌∙◌, true, false, true≢false, ◌⊎◌, inl, inr, ◌%◌}
 use Rattle.std.proofs.lemmas.Bool.{eq-eqb, ne_eqb, cases_eq}
 use Rattle.tword.specs.Stores.{Store}
 use Rattle.tword.specs.Words.{word_below}
 use Rattle.tword.specs.Touches.{Writes}
-use Rattle.tprocesses.specs.Places.{Place, WordAt, Sending, Standing, Half, LinkHalf, Error, HaltOnError, Life}
+use Rattle.tprocesses.specs.Places.{Place, WordAt, Sending, Standing, Ports, Half, LinkHalf, Error, HaltOnError, Life}
 use Rattle.tprocesses.specs.Places.{Successions, Messages, Kept, Population, HasRun, FlagChanged}
-use Rattle.tprocesses.specs.Values.{Value, Word, Use, Free, Saved, Receiving, Engaged, Last, Spoilt, IsWord, word_in}
+use Rattle.tprocesses.specs.Values.{Choosing, Value, Word, Use, Free, Saved, Receiving, Engaged, Last, Spoilt, IsWord}
+use Rattle.tprocesses.specs.Values.{word_in}
 use Rattle.tprocesses.specs.Values.{unknown}
 use Rattle.tprocesses.specs.Changes.{Change, Put}
 use Rattle.tprocesses.specs.Parts.{WordInUse, require}
@@ -29,6 +31,7 @@ changed_at n k c s (WordAt m l) h = by (cases_eq n m) (cases_eq k l)
     by (inr e) d = rw (ne_eqb n m e) refl
 changed_at n k c s (Sending m l) h = refl
 changed_at n k c s (Standing x) h = refl
+changed_at n k c s (Ports x) h = refl
 changed_at n k c s (Half m d side) h = refl
 changed_at n k c s (LinkHalf m side) h = refl
 changed_at n k c s (Error m) h = refl
@@ -73,6 +76,8 @@ same_saved Saved h = refl
 same_saved Free h = absurd (true≢false (sym h))
 same_saved Receiving h = absurd (true≢false (sym h))
 same_saved Engaged h = absurd (true≢false (sym h))
+same_saved Choosing h = absurd (true≢false (sym h))
+same_saved Awaiting h = absurd (true≢false (sym h))
 same_saved (Last p) h = absurd (true≢false (sym h))
 same_saved Spoilt h = absurd (true≢false (sym h))
 
@@ -87,14 +92,14 @@ module _ (site : Site) (whole : site.size % 4 ≡ 0) where
   abbrev pub with_used : ℕ → Store → Use → State → State
   with_used k cells used s = changed (WordAt n k) (putting cells used) s
 
-  save_word_then : (a : ℕ) (new : Store → Store) (s : State) (Q : Unit {0} → State → Type 0)
+  pub save_word_then : (a : ℕ) (new : Store → Store) (s : State) (Q : Unit {0} → State → Type 0)
       → (IsWordTouched site whole s Writes a
       → Q tt (with_used (word_number a) (new (word_of s n (word_number a)).cells) Saved s))
       → After (save_word site a new) s Q
   save_word_then a new s Q h =
       after_bind (touch_word_at site Writes a) _ s Q (touch_word_at_then site whole Writes a s _ h)
 
-  unsave_word_then : (a : ℕ) (s : State) (Q : Unit {0} → State → Type 0)
+  pub unsave_word_then : (a : ℕ) (s : State) (Q : Unit {0} → State → Type 0)
       → (use_of s n (word_number a) ≡ Saved
       → Q tt (with_used (word_number a) (word_of s n (word_number a)).cells Free s))
       → After (unsave_word site a) s Q
@@ -126,12 +131,12 @@ module _ (site : Site) (whole : site.size % 4 ≡ 0) where
 
   -- a word that is touched after another was set for another use is another, and was touched as it was
   module _ (k : ℕ) (cells : Store) (s : State) where
-    other_touched : (a : ℕ) → IsWordTouched site whole (with_used k cells Saved s) Writes a → k ≢ word_number a
+    pub other_touched : (a : ℕ) → IsWordTouched site whole (with_used k cells Saved s) Writes a → k ≢ word_number a
     other_touched a t e =
         not_used (sym (ap (λ (v : Value). (word_in v).used) (changed_there n k (putting cells Saved) s))
         ∙ ap (use_of (with_used k cells Saved s) n) e ∙ t.touched.free)
 
-    touched_before : (a : ℕ) → IsWordTouched site whole (with_used k cells Saved s) Writes a
+    pub touched_before : (a : ℕ) → IsWordTouched site whole (with_used k cells Saved s) Writes a
         → IsWordTouched site whole s Writes a
     touched_before a t =
         record {

@@ -1,4 +1,9 @@
 -- Operations of the scheduler after which the process goes on, and which change no queue.
+use Rattle.std.proofs.lemmas.Bool.{or_right, eq-eqb}
+use Rattle.std.proofs.Common.{true}
+use Rattle.std.specs.Prelude.{◌==◌}
+use Rattle.std.proofs.Common.{◌||◌}
+use Rattle.std.proofs.Common.{is_none}
 use Rattle.std.proofs.Common.{◌≡◌, ℕ, zero, suc, ◌<◌, refl, sym, ap, subst, ◌∙◌, false, Ok, Some, arith, inr}
 use Rattle.std.specs.Prelude.{if◌then◌else◌}
 use Rattle.tword.specs.declared.kind.Kind.{Kind}
@@ -115,6 +120,12 @@ module _ (p : Plan) (c : Configuration) (s : State) (n : ℕ) (x : Name) (k : Is
   abbrev pub control_there : ℕ → Control
   control_there count = record m { registers = at_operation; count = count }
 
+  -- the workspace stays
+  pub same_workspace : (is_none running.context.choice || (running.context.wptr == d.after.wptr)) ≡ true
+  same_workspace =
+      or_right (is_none running.context.choice) (running.context.wptr == d.after.wptr)
+      (eq-eqb running.context.wptr d.after.wptr registers_there.wptr)
+
   module _ (u v : State) (moved_on : HasMoved site running.context.wptr d.after.wptr t u) where
     -- `ldpri`
     pub priority_loaded : o ≡ Ldpri
@@ -135,9 +146,10 @@ module _ (p : Plan) (c : Configuration) (s : State) (n : ℕ) (x : Name) (k : Is
           b = registers_there.a;
           c = registers_there.b;
           nothing_lent = registers_there.nothing_lent;
-        })
+        }) refl
         (went site x running.context.wptr (push (rank running.level) at_operation)
-        (push_context (Some running.context.priority) context_there) t t u v flags_there moved_on stands)
+        (push_context (Some running.context.priority) context_there) t t u v flags_there moved_on stands
+        same_workspace)
       where
         same_rank : (level : ℕ) → level < 2 → level ≡ rank level
         same_rank zero h = refl
@@ -152,8 +164,9 @@ module _ (p : Plan) (c : Configuration) (s : State) (n : ℕ) (x : Name) (k : Is
         leads p c s n x k at_operation d.store' (raised (rank running.level) m.count m.timeslice) v t
         (step_is p c s n x k i pp t d (control_there (raised (rank running.level) m.count m.timeslice)) d.store' decodes
         (let f : d.after.error ≡ false = ap (λ (r : Registers). r.error) unchanged ∙ clear in rw (is, e, f) refl)) d.on
-        context_there registers_there
-        (went site x running.context.wptr at_operation context_there t t u v flags_there moved_on stands)
+        context_there registers_there refl
+        (went site x running.context.wptr at_operation context_there t t u v flags_there moved_on stands
+        same_workspace)
 
 -- `ldpri` is seen
 pub loaded_priorities_are_seen : LoadedPrioritiesAreSeen
@@ -162,7 +175,7 @@ loaded_priorities_are_seen p c s s' n x k next makes =
     (λ i decodes pp t. record {
       goes = λ d e u w.
           absurd (go_not_scheduled Ldpri (sym e ∙ one_next (sym (next_is p c s n x k i pp t decodes d) ∙ next)));
-      jumps = λ d e u m f.
+      jumps = λ d e u m f still.
           absurd (jumped_not_scheduled Ldpri (sym e ∙ one_next (sym (next_is p c s n x k i pp t decodes d) ∙ next)));
       schedules = λ d o e u m.
           let is : o ≡ Ldpri =
@@ -181,7 +194,7 @@ unstopped_are_seen p c s s' n x k next clear makes =
     (λ i decodes pp t. record {
       goes = λ d e u w.
           absurd (go_not_scheduled Stoperr (sym e ∙ one_next (sym (next_is p c s n x k i pp t decodes d) ∙ next)));
-      jumps = λ d e u m f.
+      jumps = λ d e u m f still.
           absurd (jumped_not_scheduled Stoperr (sym e ∙ one_next (sym (next_is p c s n x k i pp t decodes d) ∙ next)));
       schedules = λ d o e u m.
           let is : o ≡ Stoperr =

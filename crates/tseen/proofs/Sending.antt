@@ -1,4 +1,8 @@
 -- A node sends: the message of an output goes over, and its process rests, with its output still pending.
+use Rattle.tprocesses.specs.Values.{amount_in}
+use Rattle.tseen.proofs.Choices.{stands_alike, quiet_alike, choices_stay}
+use Rattle.tprocesses.specs.Places.{Ports}
+use Rattle.tseen.specs.Choices.{alternative_of, alternative_at, is_quiet}
 use Rattle.std.proofs.Common.{◌≡◌, ◌≢◌, ℕ, ◌+◌, ◌<◌, ◌%◌, refl, sym, ap, subst, ◌∙◌, Bool, true, false, true≢false}
 use Rattle.std.proofs.Common.{length, get_or, cond, Option, Some, None, arith, ◌⊎◌, inl, inr, pos}
 use Rattle.std.specs.Prelude.{◌==◌, ◌&&◌, IfSome, is_some}
@@ -12,6 +16,7 @@ use Rattle.tword.specs.Touches.{Reads}
 use Rattle.tplan.specs.declared.plan.End.{End}
 use Rattle.tplan.specs.declared.plan.NodePlan.{NodePlan}
 use Rattle.tplan.specs.declared.plan.Plan.{Plan}
+use Rattle.tproc.specs.declared.waiter.Reason.TheVariants as waiting
 use Rattle.tproc.specs.declared.offer.Offer.{Offer}
 use Rattle.tproc.specs.declared.channels.Side.TheVariants.{Input, Output}
 use Rattle.tproc.specs.declared.waiter.Reason.{Reason}
@@ -25,7 +30,8 @@ use Rattle.tnet.specs.Rendezvous.{Node, marked, was_copied}
 use Rattle.tplan.specs.Wires.{end_at, same_end}
 use Rattle.tprocesses.specs.Places.{Place, Name, WordAt, Sending, Standing, Half, LinkHalf, Error, HaltOnError, Life}
 use Rattle.tprocesses.specs.Places.{Population, HasRun, FlagChanged, same_name}
-use Rattle.tprocesses.specs.Values.{Value, Context, Lent, Stand, Absent, Rests, Runs, Waits, Ended, Copied, Offered}
+use Rattle.tprocesses.specs.Values.{Chosen, Chooses, Value, Context, Lent, Stand, Absent, Rests, Runs, Waits, Ended}
+use Rattle.tprocesses.specs.Values.{Copied, Offered}
 use Rattle.tprocesses.specs.Values.{IsStand, IsLink, IsFlag, IsAmount, link_in, stand_in, word_in}
 use Rattle.tprocesses.specs.Changes.{Put}
 use Rattle.tprocesses.specs.Touching.{Site, touch, part_of}
@@ -70,6 +76,8 @@ wakes_then site p x stand lent s Q stood h =
     by (Rests c) h = tt
     by (Runs c) h = tt
     by Ended h = tt
+    by (Chooses d) h = tt
+    by (Chosen d) h = tt
 
 -- as many outputs have a byte of a word where each link has the same buffer
 pub sendings_alike : (a b : ℕ → Option Pending) (k : ℕ) → ((l : ℕ) → is_sending k (a l) ≡ is_sending k (b l))
@@ -285,21 +293,29 @@ module _ (p : Plan) (s : State) (n : ℕ) (plan : NodePlan) (named : Seat → Na
     fits Current (Waits c) h = h
     fits Current Absent h = h
     fits Current Ended h = h
+    fits Current (Chooses d) h = h
+    fits Current (Chosen d) h = h
     fits Interrupted (Runs c) h = h
     fits Interrupted (Rests c) h = h
     fits Interrupted (Waits c) h = h
     fits Interrupted Absent h = h
     fits Interrupted Ended h = h
+    fits Interrupted (Chooses d) h = h
+    fits Interrupted (Chosen d) h = h
     fits (Queued process) (Runs c) h = h
     fits (Queued process) (Rests c) h = h
     fits (Queued process) (Waits c) h = h
     fits (Queued process) Absent h = h
     fits (Queued process) Ended h = h
+    fits (Queued process) (Chooses d) h = h
+    fits (Queued process) (Chosen d) h = h
     fits (Waiting process) (Runs c) h = h
     fits (Waiting process) (Rests c) h = (h.0, passes process h.1)
     fits (Waiting process) (Waits c) h = h
     fits (Waiting process) Absent h = h
     fits (Waiting process) Ended h = h
+    fits (Waiting process) (Chooses d) h = h
+    fits (Waiting process) (Chosen d) h = h
 
     other_seated : (q : Seat) (y : Name) → same_name x y ≡ false → IsSeated s n node q y → IsSeated t n node' q y
     other_seated q y other z =
@@ -320,9 +336,14 @@ module _ (p : Plan) (s : State) (n : ℕ) (plan : NodePlan) (named : Seat → Na
         rests : {a b : Context} → IsStand (Rests a) ≡ IsStand (Waits b) → ⊥
         rests e = cc
 
-        by : (there.stand ≡ Rests there.context) ⊎ (there.stand ≡ Waits there.context) → there.context ≡ k.context
+        differ : Some (LinkOutput l) ≡ Some waiting.Chooses → ⊥
+        differ e = cc
+
+        by : (there.stand ≡ Rests there.context) ⊎ ((there.stand ≡ Waits there.context)
+            ⊎ (reason_of m out.wdesc ≡ Some waiting.Chooses)) → there.context ≡ k.context
         by (inl e) = absurd (rests (sym (ap IsStand e) ∙ sym there.stood ∙ k.stood))
-        by (inr e) = waits (sym (ap IsStand e) ∙ sym there.stood ∙ k.stood)
+        by (inr (inr e)) = absurd (differ (sym reason_there ∙ e))
+        by (inr (inl e)) = waits (sym (ap IsStand e) ∙ sym there.stood ∙ k.stood)
 
     own_seated : IsSeated t n node' (Waiting out.wdesc) x
     own_seated =
@@ -359,6 +380,8 @@ module _ (p : Plan) (s : State) (n : ℕ) (plan : NodePlan) (named : Seat → Na
     current_runs (Waits d) h = absurd h
     current_runs Absent h = absurd h
     current_runs Ended h = absurd h
+    current_runs (Chooses d) h = absurd h
+    current_runs (Chosen d) h = absurd h
 
     interrupted_runs : (stand : Stand) → Fits node Interrupted stand → (d : Context) × (stand ≡ Runs d)
     interrupted_runs (Runs d) h = (d, refl)
@@ -366,6 +389,8 @@ module _ (p : Plan) (s : State) (n : ℕ) (plan : NodePlan) (named : Seat → Na
     interrupted_runs (Waits d) h = absurd h
     interrupted_runs Absent h = absurd h
     interrupted_runs Ended h = absurd h
+    interrupted_runs (Chooses d) h = absurd h
+    interrupted_runs (Chosen d) h = absurd h
 
     seated : (q : Seat) → is_taken m q ≡ true → IsSeated t n node' q (named q)
     seated Current h =
@@ -519,7 +544,24 @@ module _ (p : Plan) (s : State) (n : ℕ) (plan : NodePlan) (named : Seat → Na
               (λ q. refl) refl (λ c h e. refl) shown.channels;
           links = link_now;
           processes = processes_now;
+          choices = choices_stay s t n store store
+              (λ y h. stands_alike p s t n x stand_stays (alternative_now ∙ sym alternative_before) y)
+              (λ y h e. quiet_alike p s t n x stand_stays quiet_now y e) (λ y h. stay (Ports y) refl refl)
+              (λ a side. stay (Half n a side) refl refl) (λ j e z. ap amount_in (stay (Sending n j) refl refl) ∙ z)
+              (λ j e. stay (WordAt n j) refl refl) refl (λ a h e. refl)
+              shown.choices;
         }
+      where
+        alternative_now : alternative_at t n x ≡ None
+        alternative_now = ap (λ (v : Value). alternative_of (stand_in v)) k.rests.is
+
+        alternative_before : alternative_at s n x ≡ None
+        alternative_before = ap (λ (v : Value). alternative_of (stand_in v)) k.stood
+
+        quiet_now : is_quiet (stand_in (t (Standing x))) ≡ true
+        quiet_now =
+            ap (λ (v : Value). is_quiet (stand_in v)) k.rests.is
+            ∙ sym (ap (λ (v : Value). is_quiet (stand_in v)) k.stood) ∙ shown.choices.quiet x there.home
 
     -- other nodes stay
     pub sent_elsewhere : (q : Place) → node_at q ≢ n → t q ≡ s q

@@ -1,6 +1,6 @@
 -- What is shown of marks, channels and links stays shown where what it looks at stays.
 use Rattle.std.proofs.Common.{◌⊎◌, inl, inr, ◌≡◌, ℕ, refl, sym, ap, ◌∙◌, List, [], ◌∷◌, length, pos, false, All}
-use Rattle.std.proofs.Common.{Contains, get_or, arith, Option, Some, None}
+use Rattle.std.proofs.Common.{Contains, get_or, arith, Option, Some, None, true}
 use Rattle.std.proofs.lemmas.List.Elements.{All-cons, All-nil, Contains-get_or}
 use Rattle.tword.specs.Stores.{word_at}
 use Rattle.tword.specs.Words.{word_below}
@@ -20,7 +20,7 @@ use Rattle.tprocesses.specs.Touching.{word_number}
 use Rattle.tprocesses.specs.Machine.{awaits_successor}
 use Rattle.tseen.specs.Seats.{Seat, Waiting}
 use Rattle.tseen.specs.Outputs.{Pending, sendings}
-use Rattle.tseen.specs.Words.{AreMarked, AreSavedWords, use_at, cells_at}
+use Rattle.tseen.specs.Words.{AreMarked, AreSavedWords, use_at, cells_at, is_set_aside}
 use Rattle.tseen.specs.Halves.{ShowsChannels, ShowsLink, request_of, half_asking}
 use Rattle.tseen.proofs.After.{State}
 use Rattle.tseen.proofs.Cells.{use_of}
@@ -29,13 +29,14 @@ use Rattle.tseen.proofs.ChannelsKept.{channels_kept}
 module _ (s : State) (n w : ℕ) where
   -- the saved words below a workspace, one by one
   pub saved_words : use_at s n (word_below w 1) ≡ Saved → use_at s n (word_below w 2) ≡ Saved
-      → use_at s n (word_below w 3) ≡ Saved → cells_at s n (word_below w 1) ≡ unknown
+      → is_set_aside (use_at s n (word_below w 3)) ≡ true → cells_at s n (word_below w 1) ≡ unknown
       → cells_at s n (word_below w 2) ≡ unknown → AreSavedWords s n w
   saved_words one two three none none' =
       let P : ℕ → Type 0 = λ k. use_at s n (word_below w k) ≡ Saved in
       let R : ℕ → Type 0 = λ k. cells_at s n (word_below w k) ≡ unknown in
       record {
-        used = All-cons P 1 (2 ∷ 3 ∷ []) one (All-cons P 2 (3 ∷ []) two (All-cons P 3 [] three (All-nil P)));
+        used = All-cons P 1 (2 ∷ []) one (All-cons P 2 [] two (All-nil P));
+        third = three;
         unknown = All-cons R 1 (2 ∷ []) none (All-cons R 2 [] none' (All-nil R));
       }
 
@@ -44,9 +45,6 @@ module _ (s : State) (n w : ℕ) where
 
   pub used_two : AreSavedWords s n w → use_at s n (word_below w 2) ≡ Saved
   used_two h = h.used 1 1 (omega arith)
-
-  pub used_three : AreSavedWords s n w → use_at s n (word_below w 3) ≡ Saved
-  used_three h = h.used 2 1 (omega arith)
 
   pub unknown_one : AreSavedWords s n w → cells_at s n (word_below w 1) ≡ unknown
   unknown_one h = h.unknown 0 1 (omega arith)
@@ -63,16 +61,16 @@ pub saved_words_alike : (s s' : State) (n w : ℕ)
 saved_words_alike s s' n w one two three h =
     saved_words s' n w (ap (λ (v : Value). (word_in v).used) one ∙ used_one s n w h)
     (ap (λ (v : Value). (word_in v).used) two ∙ used_two s n w h)
-    (ap (λ (v : Value). (word_in v).used) three ∙ used_three s n w h)
+    (ap (λ (v : Value). is_set_aside (word_in v).used) three ∙ h.third)
     (ap (λ (v : Value). (word_in v).cells) one ∙ unknown_one s n w h)
     (ap (λ (v : Value). (word_in v).cells) two ∙ unknown_two s n w h)
 
 pub saved_words_stay : (s s' : State) (n w : ℕ)
-    → ((k : ℕ) → use_of s n k ≡ Saved → s' (WordAt n k) ≡ s (WordAt n k))
+    → ((k : ℕ) → is_set_aside (use_of s n k) ≡ true → s' (WordAt n k) ≡ s (WordAt n k))
     → AreSavedWords s n w → AreSavedWords s' n w
 saved_words_stay s s' n w stays h =
-    saved_words_alike s s' n w (stays _ (used_one s n w h)) (stays _ (used_two s n w h))
-    (stays _ (used_three s n w h)) h
+    saved_words_alike s s' n w (stays _ (ap is_set_aside (used_one s n w h)))
+    (stays _ (ap is_set_aside (used_two s n w h))) (stays _ h.third) h
 
 -- what holds of each one that a list contains
 pub each_contained : {X : Type 0} (P : X → Type 0) (xs : List X) → ((x : X) → Contains xs x → P x) → All P xs

@@ -237,9 +237,9 @@ module _ (p : Plan) (c : Configuration) (s : State) (n : ℕ) (x : Name) (k : Is
   pub leads : (after : Registers) (store' : Store) (count : ℕ) (s' : State) (u : State)
       → step k.node.machine ≡ Ok (made after store' count, ran.Instruction)
       → GoesOn n k.plan.memory s u k.node.machine.store store'
-      → (c' : Context) → HasRegisters there.level after c'
+      → (c' : Context) → HasRegisters there.level after c' → c'.choice ≡ there.context.choice
       → WentOn site x there.context.wptr after c' u s' → LeadsTo p c n s'
-  leads after store' count s' u stepped on c' knows went =
+  leads after store' count s' u stepped on c' knows same_choice went =
       leads_there (made after store' count) s' (k.shows.named n) (k.shows.sent n) stepped same own
       (elsewhere site k.plan.memory x there.context.wptr after c' s u s' k.node.machine.store store' there.home on went)
     where
@@ -248,7 +248,7 @@ module _ (p : Plan) (c : Configuration) (s : State) (n : ℕ) (x : Name) (k : Is
       own =
           own_shown p k.plan n s u s' (k.shows.named n) (k.shows.sent n) k.node shown_node k.steady.placed there.whole
           x there.home there.level there.current k.name apart k.kept after count store' there.context c' there.stood
-          there.registers.priority knows on
+          there.registers.priority there.registers.wptr knows same_choice on
           (subst (λ w. WentOn site x w after c' u s') there.registers.wptr went) ran.Instruction stepped
 
       same : hidden (made after store' count) ≡ made after store' count
@@ -312,8 +312,8 @@ local_instructions_are_seen p c s s' n x k next makes =
       goes = λ d e u went.
           leads p c s n x k d.after d.store' (gone_on p c s n x k d.after).count u t
           (step_is p c s n x k i pp t d (gone_on p c s n x k d.after) d.store' decodes
-          (rw e refl)) d.on (left p c s n x k i pp) d.knows went;
-      jumps = λ d e u moved flagged.
+          (rw e refl)) d.on (left p c s n x k i pp) d.knows refl went;
+      jumps = λ d e u moved flagged still.
           absurd (jumped_not_go (sym e ∙ one_next (sym (next_is p c s n x k i pp t decodes d) ∙ next)));
       schedules = λ d o e u moved.
           absurd (scheduled_not_go o (sym e ∙ one_next (sym (next_is p c s n x k i pp t decodes d) ∙ next)));

@@ -67,6 +67,7 @@ module _ (p : Plan) (c : Configuration) (s : State) (n : ℕ) (x : Name) (k : Is
     (d : Executed p c s n x k i pp t) (o : Operation) (is : d.next ≡ Schedule o)
     (stops : stops_process k.node.machine.control.registers o ≡ true) (u v s' : State)
     (moved_on : HasMoved (site_of n k.plan) (there p c s n x k).context.wptr d.after.wptr t u)
+    (plain : (there p c s n x k).context.choice ≡ None)
     (written : IsWordWritten (site_of n k.plan) (there p c s n x k).whole u v (word_below d.after.wptr 1)
     (as_cells (to_le_bytes w32 (context_there p c s n x k i decodes pp t d o is).iptr)))
     (ended : StandsNow (site_of n k.plan) x Ended (changed (Life n d.after.wptr) (Add (negsuc 0)) v) s') where
@@ -143,6 +144,7 @@ module _ (p : Plan) (c : Configuration) (s : State) (n : ℕ) (x : Name) (k : Is
       left_leads p c s n x k s' last
       (record {
         before = v;
+        plain = plain;
         on = goes_on_more n k.plan.memory s u v store d.store' last on_before on;
         ended = subst (λ b. StandsNow site x Ended (changed (Life n b) (Add (negsuc 0)) v) s') own ended;
       }) stepped

@@ -1,6 +1,7 @@
 -- Operations that end their process are seen.
+use Rattle.tseen.proofs.Choices.{none_is}
 use Rattle.std.proofs.Common.{◌≡◌, ℕ, refl, sym, ap, subst, ◌∙◌, true, true≢false, Ok}
-use Rattle.std.specs.Prelude.{negsuc, if◌then◌else◌}
+use Rattle.std.specs.Prelude.{is_none, negsuc, if◌then◌else◌}
 use Rattle.std.specs.Int.{w32, to_le_bytes}
 use Rattle.tword.specs.Words.{word_below}
 use Rattle.tword.specs.Stores.{as_cells}
@@ -17,13 +18,14 @@ use Rattle.tnet.specs.Rendezvous.{Configuration}
 use Rattle.tprocesses.specs.Places.{Name, Error, Life}
 use Rattle.tprocesses.specs.Values.{Value, Context, Ended, IsFlag, flag_in}
 use Rattle.tprocesses.specs.Changes.{Add}
+use Rattle.tprocesses.specs.Parts.{require, WordInUse}
 use Rattle.tprocesses.specs.Performing.{Performed}
 use Rattle.tprocesses.specs.Touching.{Site, write_word_at}
 use Rattle.tprocesses.specs.Standing.{goes_on}
 use Rattle.tprocesses.specs.Scheduling.{schedules, stops_itself}
 use Rattle.tprocesses.specs.Machine.{site_of}
 use Rattle.tseen.specs.Steps.{IsCurrent, LeadsTo, stops_process, StopsAreSeen}
-use Rattle.tseen.proofs.After.{State, changed, After, after_bind, after_step}
+use Rattle.tseen.proofs.After.{after_require, State, changed, After, after_bind, after_step}
 use Rattle.tseen.proofs.Writing.{IsWordWritten, write_word_at_then}
 use Rattle.tseen.proofs.Finished.{HasMoved, StandsNow, stands_then}
 use Rattle.tseen.proofs.Stepped.{there, step_then, Executed, next_is, one_next}
@@ -52,11 +54,13 @@ module _ (p : Plan) (c : Configuration) (s : State) (n : ℕ) (x : Name) (k : Is
       after_bind (write_word_at site (word_below context.wptr 1) (as_cells (to_le_bytes w32 context.iptr))) _ u Leads
       (write_word_at_then site (there p c s n x k).whole (word_below context.wptr 1)
       (as_cells (to_le_bytes w32 context.iptr)) u _ refl (λ v written.
+      after_bind (require (is_none context.choice) WordInUse) _ v Leads
+      (after_require (is_none context.choice) WordInUse v _ (λ none.
       stands_then site p x Ended (changed (Life n context.wptr) (Add (negsuc 0)) v) Leads (λ s' ended.
-      stop_leads p c s n x k i decodes pp t d o is stops u v s' moved_on
+      stop_leads p c s n x k i decodes pp t d o is stops u v s' moved_on (none_is context.choice none)
       (subst (λ w. IsWordWritten site (there p c s n x k).whole u v (word_below w 1)
       (as_cells (to_le_bytes w32 context.iptr))) same written)
-      (subst (λ w. StandsNow site x Ended (changed (Life n w) (Add (negsuc 0)) v) s') same ended))))
+      (subst (λ w. StandsNow site x Ended (changed (Life n w) (Add (negsuc 0)) v) s') same ended))))))
     where
       same : context.wptr ≡ d.after.wptr
       same = (registers_there p c s n x k i decodes pp t d o is).wptr
@@ -83,7 +87,7 @@ stops_are_seen p c s s' n x o k next stops makes =
     (λ i decodes pp t. record {
       goes = λ d e u w.
           absurd (go_not_scheduled o (sym e ∙ one_next (sym (next_is p c s n x k i pp t decodes d) ∙ next)));
-      jumps = λ d e u m f.
+      jumps = λ d e u m f still.
           absurd (jumped_not_scheduled o (sym e ∙ one_next (sym (next_is p c s n x k i pp t decodes d) ∙ next)));
       schedules = λ d o' e u m.
           let same : o' ≡ o = one_operation (sym e ∙ one_next (sym (next_is p c s n x k i pp t decodes d) ∙ next)) in

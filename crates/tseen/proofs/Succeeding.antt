@@ -320,7 +320,7 @@ module _ (p : Plan) (c : Configuration) (s : State) (n : ℕ) (x : Name) (k : Is
           halting = arrived.others (HaltOnError n) refl
               ∙ left_stays p c s n x k freed last the_left (HaltOnError n) refl refl refl
               ∙ (running p c s n x k).flags.halting;
-        }) arrived) elsewhere
+        }) refl arrived) elsewhere
       where
         aligned : a p c s n x k % 4 ≡ 0
         aligned = eqb-true _ _ (word_placed k.plan.memory (a p c s n x k) h.read.placed).0

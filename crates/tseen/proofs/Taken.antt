@@ -1,4 +1,12 @@
 -- A current process that has taken its half of an internal channel: what this tells of the state and the store before.
+use Rattle.std.specs.Prelude.{◌%◌, ◌+◌}
+use Rattle.std.specs.Prelude.{◌-◌}
+use Rattle.std.specs.Prelude.{◌^◌}
+use Rattle.tprocesses.specs.Choosing.{is_taken}
+use Rattle.std.proofs.Common.{true≢false}
+use Rattle.tprocesses.specs.Values.{Holder, EnabledBy, AwaitedBy}
+use Rattle.tseen.specs.Halves.{HasHolder}
+use Rattle.tseen.specs.Choices.{enabler_at, is_sent, IsEnabled, HasChoice}
 use Rattle.std.proofs.Common.{◌≡◌, ◌≢◌, ℕ, ◌+◌, ◌*◌, ◌≤◌, ◌<◌, ◌/◌, ◌%◌, refl, sym, ap, subst, ◌∙◌, Bool, true, false}
 use Rattle.std.proofs.Common.{length, Contains, Option, Some, None, Ok, arith, ◌⊎◌, inl, inr, pos}
 use Rattle.std.specs.Prelude.{is_some, if◌then◌else◌}
@@ -25,13 +33,15 @@ use Rattle.tplan.specs.declared.plan.Plan.{Plan}
 use Rattle.tnet.specs.Rendezvous.{Configuration}
 use Rattle.treduction.specs.Plain.{rank}
 use Rattle.tprocesses.specs.Places.{Name, WordAt, Sending, Half}
-use Rattle.tprocesses.specs.Values.{Value, Word, Free, Saved, Engaged, Spoilt, Request, IsWord, IsHalf, word_in}
+use Rattle.tprocesses.specs.Values.{Nobody, TakenBy, Value, Word, Free}
+use Rattle.tprocesses.specs.Values.{Saved, Receiving, Engaged, Spoilt, Request, IsWord}
+use Rattle.tprocesses.specs.Values.{IsHalf, word_in}
 use Rattle.tprocesses.specs.Values.{half_in, amount_in}
 use Rattle.tprocesses.specs.Changes.{are_known}
 use Rattle.tprocesses.specs.Touching.{Site, word_number, word_count}
 use Rattle.tprocesses.specs.Machine.{site_of}
 use Rattle.tseen.specs.Seats.{Seat}
-use Rattle.tseen.specs.Words.{AreSavedWords}
+use Rattle.tseen.specs.Words.{AreSavedWords, is_set_aside}
 use Rattle.tseen.specs.Halves.{IsTakenHalf}
 use Rattle.tseen.specs.Shown.{ShowsNode}
 use Rattle.tseen.specs.Steps.{IsCurrent}
@@ -217,35 +227,46 @@ module _ (p : Plan) (c : Configuration) (s : State) (n : ℕ) (x : Name) (k : Is
   unsent = ap amount_in (sym (asked.on.keeps.others (Sending n j) refl)) ∙ taken.unsent
 
   -- its own half was not taken
-  pub own_empty : half_in (s (Half n channel (side_of o))) ≡ None
+  pub own_empty : half_in (s (Half n channel (side_of o))) ≡ Nobody
   own_empty = ap half_in (sym (asked.on.keeps.others (Half n channel (side_of o)) refl)) ∙ taken.empty
 
-  -- a channel whose word is in use has the other half taken
-  pub other_taken : use_of s n j ≡ Engaged
-      → (q : Request) × (s (Half n channel (opposite (side_of o))) ≡ IsHalf (Some q))
+  -- the other half is taken
+  abbrev pub OtherTaken : Type 0
+  OtherTaken =
+      (q : Request) × (s (Half n channel (opposite (side_of o))) ≡ IsHalf (TakenBy q))
       × IsTakenHalf s n named k.node.machine channel (opposite (side_of o)) q
-  other_taken e = of (shown.channels.engaged j e)
+
+  -- a channel whose word is in use has the other half taken, or it is enabled
+  pub other_held : use_of s n j ≡ Engaged → OtherTaken ⊎ ((y : Name) × (enabler_at s n channel ≡ Some y))
+  other_held e = (let h = shown.channels.engaged j e in of h.0 h.1 h.2)
     where
-      of : (a : ℕ) × (side : Side) × (q : Request) × (word_number a ≡ j) × (s (Half n a side) ≡ IsHalf (Some q))
-          → (q : Request) × (s (Half n channel (opposite (side_of o))) ≡ IsHalf (Some q))
-          × IsTakenHalf s n named k.node.machine channel (opposite (side_of o)) q
-      of (a, side, q, number, half) =
-          let t : IsTakenHalf s n named k.node.machine a side q = shown.channels.taken a side q half in
+      at_channel : (a : ℕ) → word_number a ≡ j → word_place_break (length store) a ≡ None → a ≡ channel
+      at_channel a number there =
           let l : (place a ≡ 4 * word_number a) × (most_neg ≤ a) × (4 * word_number a + 4 ≤ k.plan.memory) =
-          word_lies site running.whole a (subst (λ z. word_place_break z a ≡ None) same_size t.placed) in
-          let same : a ≡ channel = omega (arith, number, l.0, l.1, lies.0, lies.1) in
-          let here : s (Half n channel side) ≡ IsHalf (Some q) = subst (λ z. s (Half n z side) ≡ IsHalf (Some q)) same
-          half in
+          word_lies site running.whole a (subst (λ z. word_place_break z a ≡ None) same_size there) in
+          omega (arith, number, l.0, l.1, lies.0, lies.1)
+
+      of : (a : ℕ) → word_number a ≡ j → HasHolder s n named a
+          → OtherTaken ⊎ ((y : Name) × (enabler_at s n channel ≡ Some y))
+      of a number (inr (y, e)) =
+          let same : a ≡ channel = at_channel a number (shown.choices.enabled a y e).placed in
+          inr (y, ap (enabler_at s n) (sym same) ∙ e)
+      of a number (inl (side, q, half)) =
+          let t : IsTakenHalf s n named k.node.machine a side q = shown.channels.taken a side q half in
+          let same : a ≡ channel = at_channel a number t.placed in
+          let here : s (Half n channel side) ≡ IsHalf (TakenBy q) =
+          subst (λ z. s (Half n z side) ≡ IsHalf (TakenBy q)) same half in
           let other : side ≡ opposite (side_of o) =
           other_side (side_of o) side (λ f. filled (sym own_empty ∙ ap (λ z. half_in (s (Half n channel z))) (sym f)
-          ∙ ap half_in here)) in (
+          ∙ ap half_in here)) in
+          inl (
             q,
-            subst (λ z. s (Half n channel z) ≡ IsHalf (Some q)) other here,
+            subst (λ z. s (Half n channel z) ≡ IsHalf (TakenBy q)) other here,
             subst (λ z. IsTakenHalf s n named k.node.machine channel z q) other
                 (subst (λ z. IsTakenHalf s n named k.node.machine z side q) same t),
           )
         where
-          filled : {r : Request} → None ≡ Some r → ⊥
+          filled : {r : Request} → Nobody ≡ TakenBy r → ⊥
           filled e = cc
 
   -- a process that waits is none that a channel word may have at rest
@@ -263,15 +284,78 @@ module _ (p : Plan) (c : Configuration) (s : State) (n : ℕ) (x : Name) (k : Is
       let up : most_neg ≤ word_below most_neg 3 = subst (λ z. most_neg ≤ word_below z 3) b l.above in
       omega (arith, up)
 
+  -- a channel word that is enabled names a process
+  pub enabled_above : (y : Name) → enabler_at s n channel ≡ Some y → word_at store channel ≡ not_process → ⊥
+  enabled_above y g e = by (is_sent s n channel) refl
+    where
+      it : IsEnabled s n store channel y
+      it = shown.choices.enabled channel y g
+
+      by : (b : Bool) → is_sent s n channel ≡ b → ⊥
+      by false f =
+          let own = shown.choices.owner y channel it.home it.port in
+          let there : HasChoice s n store y own.0 = shown.choices.choices y own.0 it.home own.1 in
+          let l : (place (word_below own.0.wptr 3) ≡ 4 * word_number (word_below own.0.wptr 3))
+          × (most_neg ≤ word_below own.0.wptr 3)
+          × (4 * word_number (word_below own.0.wptr 3) + 4 ≤ k.plan.memory) =
+          word_lies site running.whole (word_below own.0.wptr 3)
+          (subst (λ z. word_place_break z (word_below own.0.wptr 3) ≡ None) same_size there.placed) in
+          let below_is : (own.0.wptr + (2 ^ 32 - 12)) % 2 ^ 32 ≡ word_below own.0.wptr 3 = refl in
+          omega (arith, there.small.0, sym (it.names f own.0 own.1) ∙ e, l.0, l.1, below_is)
+      by true f = sent_by (half_in (s (Half n channel Output))) refl f
+        where
+          sent_by : (t : Holder) → half_in (s (Half n channel Output)) ≡ t → is_taken t ≡ true → ⊥
+          sent_by (TakenBy q) i f =
+              let t = shown.channels.taken channel Output q (half_is i) in
+              waits_above t.process _ t.waits (sym t.channel_word ∙ e)
+            where
+              half_is : half_in (s (Half n channel Output)) ≡ TakenBy q
+                  → s (Half n channel Output) ≡ IsHalf (TakenBy q)
+              half_is i = (let o = shown.channels.halves channel Output in
+                  o.1 ∙ ap IsHalf (sym (ap half_in o.1) ∙ i))
+          sent_by Nobody i f = absurd (true≢false (sym f))
+          sent_by (EnabledBy z) i f = absurd (true≢false (sym f))
+          sent_by (AwaitedBy z) i f = absurd (true≢false (sym f))
+
+  -- its word was free, or in use as a channel
+  pub was_open : (use_of s n j ≡ Free) ⊎ (use_of s n j ≡ Engaged)
+  was_open = by was_found
+    where
+      by : IsFound (word_of u n j) → (use_of s n j ≡ Free) ⊎ (use_of s n j ≡ Engaged)
+      by (inl f) = inl (sym (used_before j) ∙ f.0)
+      by (inr f) = inr (sym (used_before j) ∙ f)
+
+  pub not_aside : is_set_aside (use_of s n j) ≡ false
+  not_aside = by was_open
+    where
+      by : (use_of s n j ≡ Free) ⊎ (use_of s n j ≡ Engaged) → is_set_aside (use_of s n j) ≡ false
+      by (inl e) = ap is_set_aside e
+      by (inr e) = ap is_set_aside e
+
+  pub not_received : use_of s n j ≡ Receiving → ⊥
+  not_received e = by was_open
+    where
+      free_not : Free ≡ Receiving → ⊥
+      free_not f = cc
+
+      engaged_not : Engaged ≡ Receiving → ⊥
+      engaged_not f = cc
+
+      by : (use_of s n j ≡ Free) ⊎ (use_of s n j ≡ Engaged) → ⊥
+      by (inl f) = free_not (sym f ∙ e)
+      by (inr f) = engaged_not (sym f ∙ e)
+
   -- a channel word that names no process was free
   pub was_free : word_at store channel ≡ not_process → use_of s n j ≡ Free
   was_free e = by was_found
     where
       by : IsFound (word_of u n j) → use_of s n j ≡ Free
       by (inl f) = sym (used_before j) ∙ f.0
-      by (inr f) =
-          let t = other_taken (sym (used_before j) ∙ f) in
-          absurd (waits_above t.2.process _ t.2.waits (sym t.2.channel_word ∙ e))
+      by (inr f) = absurd (names_somebody (other_held (sym (used_before j) ∙ f)))
+        where
+          names_somebody : OtherTaken ⊎ ((y : Name) × (enabler_at s n channel ≡ Some y)) → ⊥
+          names_somebody (inl t) = waits_above t.2.process _ t.2.waits (sym t.2.channel_word ∙ e)
+          names_somebody (inr (y, g)) = enabled_above y g e
 
   -- and one that names a process was in use
   pub was_engaged : word_at store channel ≢ not_process → use_of s n j ≡ Engaged

@@ -1,4 +1,14 @@
 -- A process has taken its half of a link: its node is shown.
+use Rattle.tseen.proofs.Choices.{is_state, state_lasts}
+use Rattle.tprocesses.specs.Values.{amount_in}
+use Rattle.tseen.proofs.LinkTaken.{free_three}
+use Rattle.std.proofs.Common.{is_none}
+use Rattle.tseen.proofs.Unclaimed.{aside_not_free}
+use Rattle.tprocesses.specs.Values.{stand_in}
+use Rattle.tprocesses.specs.Places.{Ports}
+use Rattle.tseen.specs.Choices.{alternative_of, alternative_at, is_quiet}
+use Rattle.tseen.proofs.Choices.{is_lasting, lasting_not_free, stands_alike, quiet_alike}
+use Rattle.tseen.proofs.Choices.{alternative_none, no_choice, choices_stay}
 use Rattle.std.proofs.Common.{◌≡◌, ◌≢◌, ℕ, zero, suc, ◌+◌, ◌-◌, ◌*◌, ◌<◌, ◌≤◌, ◌%◌, ◌^◌, refl, sym, ap, subst, ◌∙◌}
 use Rattle.std.proofs.Common.{Bool, true, false, true≢false, cond, List, [], ◌∷◌, ◌++◌, length, Contains, Option, Some}
 use Rattle.std.proofs.Common.{None, arith, not, ◌⊎◌, inl, inr, pos, Ok, map, append_assoc}
@@ -99,7 +109,8 @@ module _ (p : Plan) (c : Configuration) (s : State) (n : ℕ) (x : Name) (k : Is
     (knows : HasRegisters (there p c s n x k).level r d) (side : Side) (channel : ℕ) (buffer : Span) (s' : State)
     (a : IsAsked (site_of n k.plan) (there p c s n x k).whole x d side channel buffer v on.tells.words s')
     (on_link : is_link channel ≡ true) (same_error : r.error ≡ k.node.machine.control.registers.error)
-    (same_halting : r.halt_on_error ≡ k.node.machine.control.registers.halt_on_error) where
+    (same_halting : r.halt_on_error ≡ k.node.machine.control.registers.halt_on_error)
+    (same_choice : d.choice ≡ (there p c s n x k).context.choice) where
   abbrev m : Control
   m = k.node.machine.control
 
@@ -397,6 +408,34 @@ module _ (p : Plan) (c : Configuration) (s : State) (n : ℕ) (x : Name) (k : Is
           ∙ to_saved ∙ ap (λ z. IsAmount (pos z)) (sym (sendings_alike sent' sent j (λ i. ap (is_sending j)
           (sent_input e i))))
 
+  -- the state of an alternative is not in the buffer
+  unsent_still : (j : ℕ) → is_state (use_of s n j) ≡ true → amount_in (s (Sending n j)) ≡ pos 0
+      → amount_in (s' (Sending n j)) ≡ pos 0
+  unsent_still j e z =
+      ap amount_in (sendings_now j)
+      ∙ ap pos (sendings_alike sent' sent j (λ i. by side refl i (covers j buffer) refl))
+      ∙ sym (ap amount_in (shown.marks.outputs j)) ∙ z
+    where
+      outside : covers j buffer ≡ true → ⊥
+      outside f =
+          let both = and_parts _ _ f in
+          lasting_not_free (state_lasts (use_of s n j) e)
+          (free_in_span p c s n x k v store1 on r same_wptr small d knows side channel buffer s' a j
+          (leb-true _ _ both.0) (ltb-true _ _ both.1))
+
+      at_link : side ≡ Output → (i : ℕ) → covers j buffer ≡ false → (i ≡ link) ⊎ (i ≡ link → ⊥)
+          → is_sending j (sent' i) ≡ is_sending j (sent i)
+      at_link f i t (inl g) =
+          ap (λ l. is_sending j (sent' l)) g ∙ ap (is_sending j) (sent_own f) ∙ t
+          ∙ sym (ap (is_sending j) (ap sent g ∙ nothing_sent f))
+      at_link f i t (inr g) = ap (is_sending j) (sent_other i g)
+
+      by : (sd : Side) → side ≡ sd → (i : ℕ) → (t : Bool) → covers j buffer ≡ t
+          → is_sending j (sent' i) ≡ is_sending j (sent i)
+      by Input f i t h = ap (is_sending j) (sent_input f i)
+      by Output f i true h = absurd (outside h)
+      by Output f i false h = at_link f i h (cases_eq i link)
+
   -- the link with its offer
   end_is : link_end now link ≡ link_with side (offer_of asks) (link_end m link)
   end_is = own_link asks side first_control now q links_four
@@ -646,7 +685,7 @@ module _ (p : Plan) (c : Configuration) (s : State) (n : ℕ) (x : Name) (k : Is
     where
       saved_each : (b : ℕ) → Contains (descheduled m) b ⊎ Contains (workspace_of own ∷ []) b → AreSavedWords s' n b
       saved_each b (inl h) =
-          saved_words_stay s s' n b (λ j e. unfree_stays_here j (saved_not_free e))
+          saved_words_stay s s' n b (λ j e. unfree_stays_here j (aside_not_free e))
           (All-contains (AreSavedWords s n) (descheduled m) b shown.marks.saved h)
       saved_each b (inr (zero, h, e)) =
           subst (AreSavedWords s' n) (sym own_workspace ∙ e)
@@ -703,9 +742,9 @@ module _ (p : Plan) (c : Configuration) (s : State) (n : ℕ) (x : Name) (k : Is
           (All-contains (IsWorkspace (length store)) (descheduled m) b k.steady.placed.claimed.saved h)
           (All-contains IsWord (descheduled m) b k.steady.placed.workspaces h) (omega arith, omega arith)
 
-  channel_word : (b : ℕ) → word_place_break (length store) b ≡ None → use_at s n b ≡ Engaged
+  lasting_word : (b : ℕ) → word_place_break (length store) b ≡ None → is_lasting (use_at s n b) ≡ true
       → word_at seen_store b ≡ word_at store b
-  channel_word b h e =
+  lasting_word b h e =
       let at : (place b ≡ 4 * word_number b) × (most_neg ≤ b) × (4 * word_number b + 4 ≤ k.plan.memory) =
       word_lies (site_of n k.plan) running.whole b (subst (λ z. word_place_break z b ≡ None) shown.size h) in
       word_alike store seen_store b size_now
@@ -715,7 +754,7 @@ module _ (p : Plan) (c : Configuration) (s : State) (n : ℕ) (x : Name) (k : Is
         aligned = omega (arith, at.0, at.1);
       }) (λ j f.
       unfree_cell p c s n x k v store1 on r same_wptr small d knows side channel buffer s' a (place b + j)
-      (engaged_not_free (ap (use_of s n) (omega (arith, at.0, f)) ∙ e)))
+      (lasting_not_free (ap is_lasting (ap (use_of s n) (omega (arith, at.0, f))) ∙ e)))
 
   engaged_back : (j : ℕ) → use_of s' n j ≡ Engaged
       → (use_of s' n j ≡ Saved) ⊎ ((use_of s' n j ≡ Receiving) ⊎ (use_of s' n j ≡ use_of s n j))
@@ -800,6 +839,7 @@ module _ (p : Plan) (c : Configuration) (s : State) (n : ℕ) (x : Name) (k : Is
           (waiting_seated n x s s' stand_stays run_stays k.node node' b (named (Waiting b))
           (not_this (named (Waiting b)) old.stand old.stands (waiting_not_running k.node b old.stand old.fits))
           (λ z. (z.0, reason_back asks side first_control now q b e ∙ z.1, z.2))
+          (λ z. reason_back asks side first_control now q b e ∙ z)
           (iptr_stays (workspace_of b) (waits_descheduled m b taken)) old)
 
   abbrev HasPlace : Name → Type 0
@@ -955,11 +995,34 @@ module _ (p : Plan) (c : Configuration) (s : State) (n : ℕ) (x : Name) (k : Is
               (used_now p c s n x k v store1 on r same_wptr small d knows side channel buffer s' a j);
           halves = λ b sd. stays (Half n b sd) refl;
           size = size_now;
-          words = channel_word;
+          words = λ b h e. lasting_word b h (ap is_lasting e);
         }) shown.channels;
         links = link_shown;
         processes = processes_now;
+        choices = choices_stay s s' n store seen_store
+            (λ y h. stands_alike p s s' n x stand_stays (alternative_now ∙ sym alternative_before) y)
+            (λ y h e. quiet_alike p s s' n x stand_stays quiet_now y e) (λ y h. stays (Ports y) refl)
+            (λ b sd. stays (Half n b sd) refl) unsent_still
+            (λ j e. unfree_stays_here j (lasting_not_free e)) size_now
+            lasting_word shown.choices;
       }
+    where
+      no_alternative : running.context.choice ≡ None
+      no_alternative =
+          no_choice s n store x running.context shown.choices running.home running.stood
+          (subst (λ z. use_of s n (word_number (word_below z 3)) ≡ Free) (same_wptr ∙ sym running.registers.wptr)
+          (free_three p c s n x k v store1 on r same_wptr small d knows side channel buffer s' a))
+
+      alternative_now : alternative_at s' n x ≡ None
+      alternative_now = ap (λ (z : Value). alternative_of (stand_in z)) a.waits.is
+
+      alternative_before : alternative_at s n x ≡ None
+      alternative_before =
+          ap (λ (z : Value). alternative_of (stand_in z)) running.stood
+          ∙ alternative_none true false running.context no_alternative
+
+      quiet_now : is_quiet (stand_in (s' (Standing x))) ≡ true
+      quiet_now = ap (λ (z : Value). is_quiet (stand_in z)) a.waits.is ∙ ap is_none (same_choice ∙ no_alternative)
 
   elsewhere : (g : Place) → node_at g ≢ n → s' g ≡ s g
   elsewhere g h = stays g (other g h)

@@ -1,5 +1,5 @@
 -- A current process that has taken its half of an internal channel: the words after it, and all that stays.
-use Rattle.std.proofs.Common.{Some, ◌≡◌, ◌≢◌, ℕ, zero, suc, ◌+◌, ◌*◌, ◌≤◌, ◌<◌, ◌%◌, refl, sym, ap, subst, ◌∙◌, false}
+use Rattle.std.proofs.Common.{◌≡◌, ◌≢◌, ℕ, zero, suc, ◌+◌, ◌*◌, ◌≤◌, ◌<◌, ◌%◌, refl, sym, ap, subst, ◌∙◌, false}
 use Rattle.std.proofs.Common.{length, arith}
 use Rattle.std.proofs.lemmas.Bool.{eqb-true}
 use Rattle.tword.specs.Words.{word_below}
@@ -14,7 +14,7 @@ use Rattle.tplan.specs.declared.plan.Plan.{Plan}
 use Rattle.tnet.specs.Rendezvous.{Configuration}
 use Rattle.treduction.specs.Plain.{rank}
 use Rattle.tprocesses.specs.Places.{Half, Place, Name, WordAt}
-use Rattle.tprocesses.specs.Values.{IsHalf, IsWord, Value, Free, Saved, Engaged, Context, word_in}
+use Rattle.tprocesses.specs.Values.{TakenBy, IsHalf, IsWord, Value, Free, Saved, Engaged, Context, word_in}
 use Rattle.tprocesses.specs.Changes.{used_word}
 use Rattle.tprocesses.specs.Touching.{Site, word_number}
 use Rattle.tprocesses.specs.Machine.{site_of}
@@ -31,7 +31,12 @@ use Rattle.tseen.proofs.Saving.{below}
 use Rattle.tseen.proofs.SetUnknown.{touched_lies}
 use Rattle.tseen.proofs.AtOperation.{context_at}
 use Rattle.tseen.proofs.Asked.{side_of, buffer_for, request_for}
-use Rattle.tseen.proofs.Taken.{HasTaken, lies, lies_channel, unspoilt, used_before}
+use Rattle.std.proofs.Common.{is_none, true, None}
+use Rattle.tprocesses.specs.Places.{Standing}
+use Rattle.tprocesses.specs.Values.{stand_in}
+use Rattle.tseen.specs.Choices.{alternative_of, alternative_at, is_quiet}
+use Rattle.tseen.proofs.Choices.{no_choice, alternative_none}
+use Rattle.tseen.proofs.Taken.{HasTaken, lies, lies_channel, unspoilt, used_before, third_free}
 
 pub rank_is : (level : ℕ) → level < 2 → rank level ≡ level
 rank_is zero h = refl
@@ -178,7 +183,7 @@ module _ (p : Plan) (c : Configuration) (s : State) (n : ℕ) (x : Name) (k : Is
       ∙ h.asked.on.keeps.others q word
 
   -- the half is taken by the process
-  pub own_half : v (Half n channel (side_of o)) ≡ IsHalf (Some (record { process = x; buffer = buffer }))
+  pub own_half : v (Half n channel (side_of o)) ≡ IsHalf (TakenBy (record { process = x; buffer = buffer }))
   own_half = half_now site running.whole x context (side_of o) channel buffer h.before v h.taken words inside
       (unspoilt p c s n x k v h) p
 
@@ -187,3 +192,21 @@ module _ (p : Plan) (c : Configuration) (s : State) (n : ℕ) (x : Name) (k : Is
   tells_before =
       tells_taken site running.whole x context (side_of o) channel buffer h.before v h.taken words inside
       (unspoilt p c s n x k v h) h.laid h.asked.on.tells
+
+  -- the process has no alternative
+  no_alternative : running.context.choice ≡ None
+  no_alternative =
+      no_choice s n store x running.context (shown_node p c s n x k).choices running.home running.stood
+      (subst (λ z. use_of s n (word_number (word_below z 3)) ≡ Free) (sym running.registers.wptr)
+      (third_free p c s n x k v h))
+
+  pub alternative_now : alternative_at v n x ≡ None
+  alternative_now = ap (λ (z : Value). alternative_of (stand_in z)) h.taken.waits.is
+
+  pub alternative_before : alternative_at s n x ≡ None
+  alternative_before =
+      ap (λ (z : Value). alternative_of (stand_in z)) running.stood
+      ∙ alternative_none true false running.context no_alternative
+
+  pub quiet_now : is_quiet (stand_in (v (Standing x))) ≡ true
+  quiet_now = ap (λ (z : Value). is_quiet (stand_in z)) h.taken.waits.is ∙ ap is_none no_alternative

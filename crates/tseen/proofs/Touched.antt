@@ -1,4 +1,5 @@
 -- What a touch of the memory tells that went through, and what a write leaves.
+use Rattle.tprocesses.specs.Values.{Awaiting}
 use Rattle.std.proofs.Common.{◌≡◌, ℕ, zero, suc, ◌+◌, ◌-◌, ◌*◌, ◌<◌, ◌≤◌, ◌/◌, ◌%◌, refl, ap, subst, ◌∙◌, [], ◌++◌}
 use Rattle.std.proofs.Common.{length, get_or, Bool, true, false, cond, None, arith, ◌⊎◌, inl, inr, length-append}
 use Rattle.std.specs.Prelude.{ℤ, pos, negsuc}
@@ -8,7 +9,7 @@ use Rattle.tword.specs.Stores.{Store}
 use Rattle.tword.specs.Claims.{Claims}
 use Rattle.tword.specs.Touches.{Mode, Reads, Writes, claim_break}
 use Rattle.tprocesses.specs.Places.{WordAt, Sending}
-use Rattle.tprocesses.specs.Values.{Use, Free, Saved, Receiving, Engaged, Last, Spoilt, amount_in}
+use Rattle.tprocesses.specs.Values.{Choosing, Use, Free, Saved, Receiving, Engaged, Last, Spoilt, amount_in}
 use Rattle.tword.specs.declared.breaks.Break.TheVariants.{InTransit}
 use Rattle.tprocesses.specs.Parts.{Breaks, gives, stopping, done, ◌>>=◌}
 use Rattle.tprocesses.specs.Touching.{Site, free_cells, settled, touch_word, touch_words, is_zero}
@@ -66,6 +67,8 @@ module _ (site : Site) where
       by Saved e = tt
       by Receiving e = tt
       by Engaged e = tt
+      by Choosing e = tt
+      by Awaiting e = tt
       by (Last p) e = tt
       by Spoilt e = tt
 

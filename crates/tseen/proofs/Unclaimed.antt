@@ -1,7 +1,7 @@
 -- A word that is free in the process machine has no byte of a saved word or of a pending input.
 use Rattle.std.proofs.Common.{◌≡◌, ℕ, ◌+◌, ◌-◌, ◌*◌, ◌/◌, ◌%◌, ◌<◌, ◌≤◌, refl, sym, ap, ◌∙◌, subst, length, map, Bool}
-use Rattle.std.proofs.Common.{true, false, cond, Option, Some, None, ◌⊎◌, inl, inr, arith, Contains, option_map, All}
-use Rattle.std.proofs.Common.{zero, suc, pos, [], ◌∷◌, IfSome}
+use Rattle.std.proofs.Common.{true, false, cond, Option, Some, None, ◌⊎◌, inl, inr, arith, Contains, option_map}
+use Rattle.std.proofs.Common.{zero, suc, pos, IfSome, true≢false}
 use Rattle.std.proofs.lemmas.Bool.{cases_eq, ne_eqb, and_from, le-leb, lt-ltb, both_ways}
 use Rattle.std.proofs.lemmas.List.{length-map, get_or-map}
 use Rattle.std.proofs.lemmas.List.Elements.{All-contains}
@@ -21,9 +21,9 @@ use Rattle.tproc.specs.Placement.{IsWord, IsPlaced, IsWorkspace, IsBuffer, Waits
 use Rattle.tproc.specs.declared.waiter.Reason.TheVariants.{LinkInput, LinkOutput}
 use Rattle.tproc.proofs.WordsApart.{LiesWord}
 use Rattle.tprocesses.specs.Places.{Place, WordAt}
-use Rattle.tprocesses.specs.Values.{Value, Free, Saved, Receiving, word_in, amount_in}
+use Rattle.tprocesses.specs.Values.{Value, Use, Free, Receiving, word_in, amount_in}
 use Rattle.tprocesses.specs.Touching.{word_number, word_count}
-use Rattle.tseen.specs.Words.{AreMarked, AreSavedWords, use_at}
+use Rattle.tseen.specs.Words.{AreMarked, AreSavedWords, use_at, is_set_aside}
 use Rattle.tseen.specs.Outputs.{Pending, sendings, is_sending, covers}
 use Rattle.tseen.specs.Halves.{request_of}
 use Rattle.tnet.specs.Rendezvous.{was_copied}
@@ -35,24 +35,27 @@ use Rattle.tprocesses.specs.Places.{Name, Sending}
 use Rattle.tseen.specs.Seats.{Seat}
 use Rattle.tseen.specs.Shown.{ShowsNode}
 
-not_saved : Saved ≡ Free → ⊥
-not_saved e = cc
+-- a word that is set aside is not free
+pub aside_not_free : {used : Use} → is_set_aside used ≡ true → used ≡ Free → ⊥
+aside_not_free e f = true≢false (sym e ∙ ap is_set_aside f)
 
 not_receiving : Receiving ≡ Free → ⊥
 not_receiving e = cc
 
 module _ (s : Place → Value) (n : ℕ) (sent : ℕ → Option Pending) (m : Machine) (placed : IsPlaced m)
-    (marks : AreMarked s n sent m.control) (k : ℕ) (not_in_saved : (word_in (s (WordAt n k))).used ≡ Saved → ⊥)
+    (marks : AreMarked s n sent m.control) (k : ℕ)
+    (not_in_saved : is_set_aside (word_in (s (WordAt n k))).used ≡ true → ⊥)
     (not_in_input : (word_in (s (WordAt n k))).used ≡ Receiving → ⊥) where
   abbrev span : Span
   span = word_span (most_neg + 4 * k)
 
   -- the word is none of those below a workspace
-  other_below : (w j : ℕ) → use_at s n (word_below w j) ≡ Saved → LiesWord (length m.store) (word_below w j)
+  other_below : (w j : ℕ) → is_set_aside (use_at s n (word_below w j)) ≡ true
+      → LiesWord (length m.store) (word_below w j)
       → word_below w j ≡ most_neg + 4 * k → ⊥
   other_below w j used l e =
       let same : word_number (word_below w j) ≡ k = omega (arith, e) in
-      not_in_saved (sym (ap (λ i. (word_in (s (WordAt n i))).used) same) ∙ used)
+      not_in_saved (sym (ap (λ i. is_set_aside (word_in (s (WordAt n i))).used) same) ∙ used)
 
   unsaved_by : (w : ℕ) → Contains (descheduled m.control) w → overlap span (saved_words w) ≡ true → ⊥
   unsaved_by w c o =
@@ -61,18 +64,19 @@ module _ (s : Place → Value) (n : ℕ) (sent : ℕ → Option Pending) (m : Ma
       let h : IsWorkspace (length m.store) w =
       All-contains (IsWorkspace (length m.store)) (descheduled m.control) w placed.claimed.saved c in
       let small : IsWord w = All-contains IsWord (descheduled m.control) w placed.workspaces c in
-      let used : All (λ j. use_at s n (word_below w j) ≡ Saved) (1 ∷ 2 ∷ 3 ∷ []) =
-      (All-contains (AreSavedWords s n) (descheduled m.control) w marks.saved c).used in
+      let saved : AreSavedWords s n w =
+      All-contains (AreSavedWords s n) (descheduled m.control) w marks.saved c in
       by (lies_below (length m.store) w 1 placed.claimed.size h small ((omega arith), (omega arith)))
       (lies_below (length m.store) w 2 placed.claimed.size h small ((omega arith), (omega arith)))
       (lies_below (length m.store) w 3 placed.claimed.size h small ((omega arith), (omega arith)))
-      (used 0 1 (omega arith)) (used 1 1 (omega arith)) (used 2 1 (omega arith)) parts.2 parts.3
+      (ap is_set_aside (saved.used 0 1 (omega arith))) (ap is_set_aside (saved.used 1 1 (omega arith))) saved.third
+      parts.2 parts.3
       (cases_eq (word_below w 1) (most_neg + 4 * k)) (cases_eq (word_below w 2) (most_neg + 4 * k))
       (inside_bounds (length m.store) (saved_words w) h.1)
     where
       by : LiesWord (length m.store) (word_below w 1) → LiesWord (length m.store) (word_below w 2)
-          → LiesWord (length m.store) (word_below w 3) → use_at s n (word_below w 1) ≡ Saved
-          → use_at s n (word_below w 2) ≡ Saved → use_at s n (word_below w 3) ≡ Saved
+          → LiesWord (length m.store) (word_below w 3) → is_set_aside (use_at s n (word_below w 1)) ≡ true
+          → is_set_aside (use_at s n (word_below w 2)) ≡ true → is_set_aside (use_at s n (word_below w 3)) ≡ true
           → most_neg + 4 * k < word_below w 3 + 12 → word_below w 3 < most_neg + 4 * k + 4
           → (word_below w 1 ≡ most_neg + 4 * k) ⊎ (word_below w 1 ≡ most_neg + 4 * k → ⊥)
           → (word_below w 2 ≡ most_neg + 4 * k) ⊎ (word_below w 2 ≡ most_neg + 4 * k → ⊥)
@@ -240,7 +244,7 @@ module _ (s : Place → Value) (n : ℕ) (sent : ℕ → Option Pending) (m : Ma
 -- the same holds for each node that is shown, with a word that is no saved word and not of a pending input
 module _ (s : Place → Value) (n : ℕ) (plan : NodePlan) (named : Seat → Name) (sent : ℕ → Option Pending) (node : Node)
     (shown : ShowsNode s n plan named sent node) (placed : IsPlaced node.machine) (k : ℕ)
-    (not_in_saved : (word_in (s (WordAt n k))).used ≡ Saved → ⊥)
+    (not_in_saved : is_set_aside (word_in (s (WordAt n k))).used ≡ true → ⊥)
     (not_in_input : (word_in (s (WordAt n k))).used ≡ Receiving → ⊥) where
   same_number : (a b : ℕ) → pos a ≡ pos b → a ≡ b
   same_number a b e = cc
@@ -262,10 +266,10 @@ module _ (s : Place → Value) (n : ℕ) (plan : NodePlan) (named : Seat → Nam
 -- a word that is free is one
 pub free_words_are_readable : FreeWordsAreReadable
 free_words_are_readable s n plan named sent node shown placed k free =
-    unclaimed_readable s n plan named sent node shown placed k (λ e. not_saved (sym e ∙ free))
+    unclaimed_readable s n plan named sent node shown placed k (λ e. aside_not_free e free)
     (λ e. not_receiving (sym e ∙ free))
 
 pub unsent_words_are_writable : UnsentWordsAreWritable
 unsent_words_are_writable s n plan named sent node shown placed k free none =
-    unclaimed_writable s n plan named sent node shown placed k (λ e. not_saved (sym e ∙ free))
+    unclaimed_writable s n plan named sent node shown placed k (λ e. aside_not_free e free)
     (λ e. not_receiving (sym e ∙ free)) none

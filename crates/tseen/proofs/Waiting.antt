@@ -1,13 +1,15 @@
 -- A process that waits: it has a name of its own.
 use Rattle.std.proofs.Common.{◌≡◌, ℕ, refl, sym, ap, subst, ◌∙◌, Bool, true, false, Option, Some, arith, ◌⊎◌, inl, inr}
 use Rattle.std.specs.Prelude.{IfSome, is_some}
+use Rattle.tproc.specs.declared.waiter.Reason.TheVariants as waits
 use Rattle.tproc.specs.Machine.{Control}
 use Rattle.tproc.specs.ProcessStatus.{is_queued, reason_of}
 use Rattle.tplan.specs.declared.plan.NodePlan.{NodePlan}
 use Rattle.tplan.specs.declared.plan.Plan.{Plan}
 use Rattle.tnet.specs.Rendezvous.{Node}
 use Rattle.tprocesses.specs.Places.{Name, Standing, HasRun, same_name}
-use Rattle.tprocesses.specs.Values.{Value, Context, Stand, Absent, Rests, Runs, Waits, Ended, IsStand, IsFlag}
+use Rattle.tprocesses.specs.Values.{Chosen, Chooses, Value, Context, Stand, Absent, Rests, Runs, Waits, Ended}
+use Rattle.tprocesses.specs.Values.{IsStand, IsFlag}
 use Rattle.tseen.specs.Known.{HasSaved}
 use Rattle.tseen.specs.Seats.{Seat, Queued, Waiting}
 use Rattle.tseen.specs.Outputs.{Pending}
@@ -29,7 +31,9 @@ module _ (s : State) (n : ℕ) (node : Node) where
     pub context : Context
     pub stand : Stand
     pub stood : s (Standing x) ≡ IsStand stand
-    pub how : (stand ≡ Rests context) ⊎ (stand ≡ Waits context)
+    pub how : (stand ≡ Rests context) ⊎ ((stand ≡ Waits context)
+        ⊎ (reason_of node.machine.control process ≡ Some waits.Chooses))
+    pub idle : not_running (IsStand stand) ≡ true
     pub saved : HasSaved node.machine.store process context
     pub has_run : s (HasRun n context.priority) ≡ IsFlag true
 
@@ -45,6 +49,7 @@ module _ (s : State) (n : ℕ) (node : Node) where
             stand = Rests d;
             stood = e;
             how = inl refl;
+            idle = refl;
             saved = f.0;
             has_run = r;
           }
@@ -54,13 +59,26 @@ module _ (s : State) (n : ℕ) (node : Node) where
             context = d;
             stand = Waits d;
             stood = e;
-            how = inr refl;
+            how = inr (inl refl);
+            idle = refl;
+            saved = f.0;
+            has_run = r;
+          }
+      by (Chooses d) e f r =
+          record {
+            home = k.home;
+            context = d;
+            stand = Chooses d;
+            stood = e;
+            how = inr (inr f.2);
+            idle = refl;
             saved = f.0;
             has_run = r;
           }
       by Absent e f r = absurd f
       by (Runs d) e f r = absurd f
       by Ended e f r = absurd f
+      by (Chosen d) e f r = absurd f
 
   -- what a process that is queued or waits will go on with
   saved_in : (q : Seat) (process : ℕ) (stand : Stand) → (q ≡ Queued process) ⊎ (q ≡ Waiting process)
@@ -70,19 +88,23 @@ module _ (s : State) (n : ℕ) (node : Node) where
       by : (stand : Stand) → Fits node (Queued process) stand
           → (d : Context) × (context_in stand ≡ Some d) × HasSaved node.machine.store process d
       by (Rests d) f = (d, refl, f)
+      by (Chosen d) f = (d, refl, f.0)
       by Absent f = absurd f
       by (Runs d) f = absurd f
       by (Waits d) f = absurd f
       by Ended f = absurd f
+      by (Chooses d) f = absurd f
   saved_in q process stand (inr e) f = by stand (subst (λ (z : Seat). Fits node z stand) e f)
     where
       by : (stand : Stand) → Fits node (Waiting process) stand
           → (d : Context) × (context_in stand ≡ Some d) × HasSaved node.machine.store process d
       by (Rests d) f = (d, refl, f.0)
+      by (Chooses d) f = (d, refl, f.0)
       by (Waits d) f = (d, refl, f.0)
       by Absent f = absurd f
       by (Runs d) f = absurd f
       by Ended f = absurd f
+      by (Chosen d) f = absurd f
 
   -- two that are queued or wait under one name are the same
   pub one_process : (q r : Seat) (a b : ℕ) (x : Name) → (q ≡ Queued a) ⊎ (q ≡ Waiting a)
@@ -123,18 +145,9 @@ module _ (p : Plan) (s : State) (n : ℕ) (plan : NodePlan) (named : Seat → Na
   pub waits_there : IsWaiting s n node process x
   waits_there = waiting_there s n node process x seat_there
 
-  -- it does not run
-  idle : not_running (IsStand waits_there.stand) ≡ true
-  idle = by waits_there.how
-    where
-      by : (waits_there.stand ≡ Rests waits_there.context) ⊎ (waits_there.stand ≡ Waits waits_there.context)
-          → not_running (IsStand waits_there.stand) ≡ true
-      by (inl e) = ap (λ z. not_running (IsStand z)) e
-      by (inr e) = ap (λ z. not_running (IsStand z)) e
-
   -- so its name is none of a process that runs
   pub not_runs : (y : Name) (d : Context) → s (Standing y) ≡ IsStand (Runs d) → same_name x y ≡ false
-  not_runs y d e = other_name p s x y waits_there.stand (Runs d) not_running waits_there.stood e idle refl
+  not_runs y d e = other_name p s x y waits_there.stand (Runs d) not_running waits_there.stood e waits_there.idle refl
 
   other : (y : Name) → (y ≡ x → ⊥) → same_name x y ≡ false
   other y h = by (same_name x y) refl

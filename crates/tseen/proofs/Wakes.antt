@@ -1,4 +1,5 @@
 -- What is shown of a net stays shown where the output of a processor is over.
+use Rattle.tseen.proofs.Choices.{is_lasting, lasting_not_saved, choices_stay}
 use Rattle.std.proofs.Common.{◌≡◌, ℕ, zero, suc, ◌+◌, ◌*◌, ◌<◌, ◌≤◌, ◌%◌, refl, sym, ap, subst, ◌∙◌, Bool, true}
 use Rattle.std.proofs.Common.{false}
 use Rattle.std.proofs.Common.{true≢false, List, [], ◌∷◌, length, get_or, Contains, Option, Some, None, arith, ◌⊎◌}
@@ -17,6 +18,7 @@ use Rattle.tword.specs.Touches.{byte_span, word_place_break}
 use Rattle.tlink.specs.Roles.{Role, Processor, role_woken, woken}
 use Rattle.tplan.specs.declared.plan.NodePlan.{NodePlan}
 use Rattle.tplan.specs.declared.plan.Plan.{Plan}
+use Rattle.tproc.specs.declared.waiter.Reason.TheVariants as waiting
 use Rattle.tproc.specs.declared.offer.Offer.{Offer}
 use Rattle.tproc.specs.declared.channels.Side.{Side}
 use Rattle.tproc.specs.declared.channels.Side.TheVariants.{Input, Output}
@@ -36,7 +38,7 @@ use Rattle.tproc.proofs.Waiters.{found_waiter}
 use Rattle.tnet.specs.Rendezvous.{Node, Configuration, node_of, put_node, marked, was_copied}
 use Rattle.treduction.proofs.LinkActions.{finish_output_is, linked, last_before, without_out}
 use Rattle.tprocesses.specs.Places.{Name, Standing}
-use Rattle.tprocesses.specs.Values.{Saved, Receiving, Engaged, Context, Rests, Waits, IsStand, IsLink}
+use Rattle.tprocesses.specs.Values.{Saved, Receiving, Context, Rests, Waits, IsStand, IsLink}
 use Rattle.tprocesses.specs.Touching.{word_number}
 use Rattle.tprocesses.specs.Machine.{site_of}
 use Rattle.tseen.specs.Seats.{Seat, Waiting}
@@ -133,10 +135,16 @@ module _ (p : Plan) (s : State) (n : ℕ) (plan : NodePlan) (named : Seat → Na
   rests : s (Standing (named (Waiting process))) ≡ IsStand (Rests there.context)
   rests = by there.how
     where
-      by : (there.stand ≡ Rests there.context) ⊎ (there.stand ≡ Waits there.context)
+      by : (there.stand ≡ Rests there.context) ⊎ ((there.stand ≡ Waits there.context)
+          ⊎ (reason_of m process ≡ Some waiting.Chooses))
           → s (Standing (named (Waiting process))) ≡ IsStand (Rests there.context)
       by (inl e) = there.stood ∙ ap IsStand e
-      by (inr e) =
+      by (inr (inr e)) = absurd
+          (other_reason (sym (reason_before m process (LinkOutput l) waits placed.claimed.distinct ls) ∙ e))
+        where
+          other_reason : Some (LinkOutput l) ≡ Some waiting.Chooses → ⊥
+          other_reason e = cc
+      by (inr (inl e)) =
           let old = shown.processes.passed l (record { request = request_of named out; copied = true }) sent_is refl in
           absurd (differ (sym (there.stood ∙ ap IsStand e) ∙ old.2))
         where
@@ -286,9 +294,9 @@ module _ (p : Plan) (s : State) (n : ℕ) (plan : NodePlan) (named : Seat → Na
   no_channel Input channel buffer e = cc
   no_channel Output channel buffer e = cc
 
-  channel_word : (c : ℕ) → word_place_break (length store) c ≡ None → use_at s n c ≡ Engaged
+  lasting_word : (c : ℕ) → word_place_break (length store) c ≡ None → is_lasting (use_at s n c) ≡ true
       → word_at store' c ≡ word_at store c
-  channel_word c h e =
+  lasting_word c h e =
       let at : (place c ≡ 4 * word_number c) × (most_neg ≤ c) × (4 * word_number c + 4 ≤ plan.memory) =
       word_lies (site_of n plan) whole c (subst (λ z. word_place_break z c ≡ None) shown.size h) in
       word_alike store store' c linked_store.size
@@ -297,10 +305,7 @@ module _ (p : Plan) (s : State) (n : ℕ) (plan : NodePlan) (named : Seat → Na
         within = omega (arith, at.0, at.2, shown.size);
         aligned = omega (arith, at.0, at.1);
       }) (λ j b. linked_store.only (place c + j) (λ f.
-      differ (sym f ∙ ap (use_of s n) (omega (arith, at.0, b)) ∙ e)))
-    where
-      differ : Saved ≡ Engaged → ⊥
-      differ e = cc
+      lasting_not_saved e (ap (use_of s n) (sym (omega (arith, at.0, b))) ∙ f)))
 
   buffers : (j : ℕ) → IfSome (link_end m j).input (IsBuffer (length store))
   buffers j = IfSome_then (link_end m j).input (placed.claimed.inputs j) (λ o h. h.1)
@@ -366,11 +371,13 @@ module _ (p : Plan) (s : State) (n : ℕ) (plan : NodePlan) (named : Seat → Na
           engaged_back = λ k e. e;
           halves = λ c side. refl;
           size = linked_store.size;
-          words = channel_word;
+          words = λ c h e. lasting_word c h (ap is_lasting e);
         }) shown.channels;
         links = link_awake;
         processes = processes_woken p s s n plan named sent node shown placed process (LinkOutput l) waits ls store'
             flags there.context.lent woken_there;
+        choices = choices_stay s s n store store' (λ x h. refl) (λ x h e. e) (λ x h. refl) (λ a side. refl)
+            (λ j e z. z) (λ j e. refl) linked_store.size lasting_word shown.choices;
       }
     where
       nobody : {X : Type 0} {x : X} → None ≡ Some x → ⊥

@@ -19,7 +19,8 @@ use Rattle.tplan.specs.declared.plan.Plan.{Plan}
 use Rattle.tnet.specs.Rendezvous.{Node}
 use Rattle.tprocesses.specs.Places.{Place, Name, WordAt, Standing, LinkHalf, Error, HaltOnError, Life, Population}
 use Rattle.tprocesses.specs.Places.{HasRun, FlagChanged, same_name}
-use Rattle.tprocesses.specs.Values.{Value, Context, Lent, Stand, Absent, Rests, Runs, Waits, Ended, IsStand, IsFlag}
+use Rattle.tprocesses.specs.Values.{Chosen, Chooses, Value, Context, Lent, Stand, Absent, Rests, Runs, Waits, Ended}
+use Rattle.tprocesses.specs.Values.{IsStand, IsFlag}
 use Rattle.tprocesses.specs.Values.{IsAmount}
 use Rattle.tseen.specs.Known.{HasRegisters, HasSaved}
 use Rattle.tseen.specs.Seats.{Seat, Current, Interrupted, Queued, Waiting, is_taken}
@@ -126,6 +127,8 @@ module _ (p : Plan) (s s' : State) (n : ℕ) (plan : NodePlan) (named : Seat →
         by (Rests d) e f r = absurd f
         by (Waits d) e f r = absurd f
         by Ended e f r = absurd f
+        by (Chooses d) e f r = absurd f
+        by (Chosen d) e f r = absurd f
 
     interrupted_seated : (y : Name) → IsSeated s n node Interrupted y → IsSeated s' n node' Interrupted y
     interrupted_seated y q = by q.stand q.stands q.fits q.has_run
@@ -146,6 +149,8 @@ module _ (p : Plan) (s s' : State) (n : ℕ) (plan : NodePlan) (named : Seat →
         by (Rests d) e f r = absurd f
         by (Waits d) e f r = absurd f
         by Ended e f r = absurd f
+        by (Chooses d) e f r = absurd f
+        by (Chosen d) e f r = absurd f
 
     own_seated : (b : ℕ) → b ≡ process → IsSeated s' n node' (Queued b) x
     own_seated b e =
@@ -202,6 +207,7 @@ module _ (p : Plan) (s s' : State) (n : ℕ) (plan : NodePlan) (named : Seat →
         let taken = was_waiting b h in
         waiting_seated n x s s' stand_stays run_stays node node' b (named (Waiting b))
         (other_waiting p s n plan named sent node shown process taken_before b taken.0 taken.1) (k.passes b taken.0)
+        (λ f. reason_now m process reason waits placed.claimed.distinct ls b taken.0 ∙ f)
         (k.iptrs (workspace_of b) (waits_descheduled m b taken.1)) (shown.processes.seated (Waiting b) taken.1)
 
     abbrev HasPlace : Name → Type 0

@@ -1,4 +1,14 @@
 -- A jump at which a process yields is seen as the jump alone.
+use Rattle.tprocesses.specs.Places.{Sending}
+use Rattle.tprocesses.specs.Values.{amount_in}
+use Rattle.tseen.proofs.YieldWords.{words}
+use Rattle.tseen.proofs.SavedThen.{third_free}
+use Rattle.std.proofs.Common.{is_none, ◌||◌}
+use Rattle.tprocesses.specs.Values.{stand_in}
+use Rattle.tprocesses.specs.Places.{Ports}
+use Rattle.tseen.specs.Choices.{alternative_of, alternative_at, is_quiet}
+use Rattle.tseen.proofs.Choices.{is_lasting, lasting_not_free, stands_alike, quiet_alike}
+use Rattle.tseen.proofs.Choices.{alternative_none, no_choice_moved, choices_stay}
 use Rattle.std.proofs.Common.{◌≡◌, ◌≢◌, ℕ, zero, suc, ◌+◌, ◌<◌, ◌≤◌, ◌%◌, refl, sym, ap, subst, ◌∙◌, List, [], ◌∷◌}
 use Rattle.std.proofs.Common.{◌++◌, Bool, true, false, true≢false, length, length-append, Contains, Ok, Option, Some}
 use Rattle.std.proofs.Common.{None, arith, ◌⊎◌, inl, inr, map, pos, cond}
@@ -55,7 +65,7 @@ use Rattle.tseen.proofs.Jumps.{resting, go_not_jumped, scheduled_not_jumped, sam
 use Rattle.tseen.proofs.Others.{other_name, queued_seated, waiting_seated, is_running, queued_not_running}
 use Rattle.tseen.proofs.Others.{waiting_not_running}
 use Rattle.tseen.proofs.Yielding.{made, stepped, aligned, iptr_there, hidden_still, size_after}
-use Rattle.tseen.proofs.YieldWords.{at, used, unfree, tells_now, channel_stays, marks_now, new_there}
+use Rattle.tseen.proofs.YieldWords.{at, used, unfree, tells_now, lasting_stays, marks_now, new_there}
 
 -- names where a process has another seat
 abbrev pub renamed : (process : ℕ) → Name → (Seat → Name) → Seat → Name
@@ -70,6 +80,7 @@ module _ (p : Plan) (c : Configuration) (s : State) (n : ℕ) (x : Name) (k : Is
     (moved_on : HasMoved (site_of n k.plan) (there p c s n x k).context.wptr d.after.wptr t u)
     (saved : IsSaved (site_of n k.plan) (there p c s n x k).whole u v d.after.wptr kept) (s' : State)
     (rests : StandsNow (site_of n k.plan) x (Rests (resting p c s n x k i decodes pp t d jumps low)) v s')
+    (still : (is_none (there p c s n x k).context.choice || ((there p c s n x k).context.wptr == d.after.wptr)) ≡ true)
     (flagged : IsFlagged n d.after.error d.after.halt_on_error t t) where
   abbrev m : Control
   m = k.node.machine.control
@@ -208,7 +219,7 @@ module _ (p : Plan) (c : Configuration) (s : State) (n : ℕ) (x : Name) (k : Is
       waiting_seated n x s s' (λ y h. stay (Standing y) h refl) (λ q. stay (HasRun n q) refl refl)
       k.node node' process (named (Waiting process))
       (not_this (named (Waiting process)) old.stand old.stands (waiting_not_running k.node process old.stand old.fits))
-      (λ f. f) (iptr_stays (workspace_of process) (waits_descheduled m process h)) old
+      (λ f. f) (λ f. f) (iptr_stays (workspace_of process) (waits_descheduled m process h)) old
 
   abbrev HasPlace : Name → Type 0
   HasPlace y = IsGone s' n y ⊎ ((q : Seat) × (is_taken now.control q ≡ true) × (named' q ≡ y))
@@ -377,12 +388,42 @@ module _ (p : Plan) (c : Configuration) (s : State) (n : ℕ) (x : Name) (k : Is
             (λ a side. stay (Half n a side) refl refl) (λ q. refl)
             (size_after p c s n x k i decodes pp t d jumps low yields_now u v moved_on saved
             ∙ sym (shown_node p c s n x k).size)
-            (channel_stays p c s n x k i decodes pp t d jumps low yields_now u v moved_on saved rest s' rests)
+            (λ a h e. lasting_stays p c s n x k i decodes pp t d jumps low yields_now u v moved_on saved rest s' rests
+            a h (ap is_lasting e))
             (shown_node p c s n x k).channels;
         links = λ l h. link_stays s s' n named named' (k.shows.sent n) k.node node' l (λ a. refl)
             (λ side. stay (LinkHalf (end_at n l) side) refl refl) refl refl ((shown_node p c s n x k).links l h);
         processes = processes_now;
+        choices = choices_stay s s' n k.node.machine.store now.store
+            (λ y h. stands_alike p s s' n x (λ y other. stay (Standing y) other refl)
+            (alternative_now ∙ sym alternative_before) y)
+            (λ y h e. quiet_alike p s s' n x (λ y other. stay (Standing y) other refl) quiet_now y e)
+            (λ y h. stay (Ports y) refl refl) (λ a side. stay (Half n a side) refl refl)
+            (λ j e z. ap amount_in (stay (Sending n j) refl refl) ∙ z)
+            (λ j e. unfree p c s n x k i decodes pp t d jumps low yields_now u v moved_on saved rest s' rests j
+            (lasting_not_free e))
+            (size_after p c s n x k i decodes pp t d jumps low yields_now u v moved_on saved
+            ∙ sym (shown_node p c s n x k).size)
+            (lasting_stays p c s n x k i decodes pp t d jumps low yields_now u v moved_on saved rest s' rests)
+            (shown_node p c s n x k).choices;
       }
+    where
+      no_alternative : running.context.choice ≡ None
+      no_alternative =
+          no_choice_moved s n k.node.machine.store x running.context d.after.wptr (shown_node p c s n x k).choices
+          running.home running.stood still
+          (third_free (words p c s n x k i decodes pp t d jumps low yields_now u v moved_on saved rest s' rests))
+
+      alternative_now : alternative_at s' n x ≡ None
+      alternative_now = ap (λ (z : Value). alternative_of (stand_in z)) rests.is
+
+      alternative_before : alternative_at s n x ≡ None
+      alternative_before =
+          ap (λ (z : Value). alternative_of (stand_in z)) running.stood
+          ∙ alternative_none true false running.context no_alternative
+
+      quiet_now : is_quiet (stand_in (s' (Standing x))) ≡ true
+      quiet_now = ap (λ (z : Value). is_quiet (stand_in z)) rests.is ∙ ap is_none no_alternative
 
   pub yield_leads : LeadsTo p c n s'
   yield_leads =
@@ -400,7 +441,7 @@ yields_are_seen p c s s' n x k next low yields_now makes =
       goes = λ d e u f. absurd (go_not_jumped (sym e ∙ one_next (sym (next_is p c s n x k i pp t decodes d) ∙ next)));
       schedules = λ d o e u f.
           absurd (scheduled_not_jumped o (sym e ∙ one_next (sym (next_is p c s n x k i pp t decodes d) ∙ next)));
-      jumps = λ d e u m f.
+      jumps = λ d e u m f still.
           subst (λ q. After (jumped q (site_of n k.plan) x (left p c s n x k i pp)) u (λ _ s'. LeadsTo p c n s'))
           (sym (d.knows.priority ∙ level))
           (after_bind (save (site_of n k.plan) (left p c s n x k i pp).wptr kept) _ u (λ _ s'. LeadsTo p c n s')
@@ -409,7 +450,7 @@ yields_are_seen p c s s' n x k next low yields_now makes =
           (λ s' rests.
           yield_leads p c s n x k i decodes pp t d e level yields_now u v m
           (subst (λ w. IsSaved (site_of n k.plan) (there p c s n x k).whole u v w kept) d.knows.wptr saved) s' rests
-          f))));
+          still f))));
     }))
   where
     level : (there p c s n x k).level ≡ 1

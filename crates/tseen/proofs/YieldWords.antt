@@ -1,4 +1,5 @@
 -- A jump at which a process yields: the words after it.
+use Rattle.tseen.proofs.Choices.{is_lasting, lasting_not_free, lasting_not_saved}
 use Rattle.std.proofs.Common.{◌≡◌, ◌≢◌, ℕ, ◌+◌, ◌*◌, ◌<◌, ◌≤◌, ◌/◌, ◌%◌, refl, sym, ap, subst, ◌∙◌, true, false, length}
 use Rattle.std.proofs.Common.{get_or, Contains, Ok, Option, None, arith, ◌⊎◌, inl, inr, map}
 use Rattle.std.specs.Prelude.{◌||◌}
@@ -15,7 +16,7 @@ use Rattle.tproc.specs.Machine.{Control, Machine, claims_of, descheduled, worksp
 use Rattle.tplan.specs.declared.plan.Plan.{Plan}
 use Rattle.tnet.specs.Rendezvous.{Configuration}
 use Rattle.tprocesses.specs.Places.{Place, Name, WordAt, Sending}
-use Rattle.tprocesses.specs.Values.{Value, Free, Saved, Engaged, Context, Rests, word_in, unknown}
+use Rattle.tprocesses.specs.Values.{Value, Free, Saved, Context, Rests, word_in, unknown}
 use Rattle.tprocesses.specs.Performing.{Performed}
 use Rattle.tprocesses.specs.Touching.{Site, word_number, kept}
 use Rattle.tprocesses.specs.Machine.{site_of}
@@ -63,7 +64,7 @@ module _ (p : Plan) (c : Configuration) (s : State) (n : ℕ) (x : Name) (k : Is
   abbrev now : Machine
   now = made p c s n x k i decodes pp t d jumps low yields_now u v moved_on saved
 
-  before : (j : ℕ) → u (WordAt n j) ≡ t (WordAt n j)
+  pub before : (j : ℕ) → u (WordAt n j) ≡ t (WordAt n j)
   before = word_before p c s n x k i decodes pp t d jumps low yields_now u v moved_on saved
 
   -- what is neither a word nor of the process stays
@@ -74,7 +75,7 @@ module _ (p : Plan) (c : Configuration) (s : State) (n : ℕ) (x : Name) (k : Is
       ∙ d.on.keeps.others q o
 
   -- words
-  abbrev words : HasSaved n k.plan s s' w
+  abbrev pub words : HasSaved n k.plan s s' w
   words =
       record {
         whole = (there p c s n x k).whole;
@@ -147,10 +148,11 @@ module _ (p : Plan) (c : Configuration) (s : State) (n : ℕ) (x : Name) (k : Is
           by (inr a) (inr b) (inr g) (inr f) =
               as_before j h (ap (λ (z : Value). (word_in z).cells) (other_is words (j / 4) a b g)) a f
 
-  -- a channel word stays
-  pub channel_stays : (a : ℕ) → word_place_break (length k.node.machine.store) a ≡ None → use_at s n a ≡ Engaged
+  -- a word in use as a channel or for an alternative stays
+  pub lasting_stays : (a : ℕ) → word_place_break (length k.node.machine.store) a ≡ None
+      → is_lasting (use_at s n a) ≡ true
       → word_at now.store a ≡ word_at k.node.machine.store a
-  channel_stays a h e =
+  lasting_stays a h e =
       let size : length k.node.machine.store ≡ k.plan.memory = (shown_node p c s n x k).size in
       let placed : word_place_break site.size a ≡ None = subst (λ z. word_place_break z a ≡ None) size h in
       let l : (place a ≡ 4 * word_number a) × (most_neg ≤ a) × (4 * word_number a + 4 ≤ k.plan.memory) =
@@ -158,15 +160,9 @@ module _ (p : Plan) (c : Configuration) (s : State) (n : ℕ) (x : Name) (k : Is
       let aligned : a % 4 ≡ 0 = eqb-true _ _ (word_placed site.size a placed).0 in
       word_stays_after p c s n x k i decodes pp t d jumps low yields_now u v moved_on saved a
       (record { above = l.1; within = omega (arith, l.0, l.1, l.2); aligned = aligned })
-      (λ f. engaged_not_free (sym e ∙ f)) (λ f. engaged_not_saved (sym e ∙ f))
+      (lasting_not_free e) (lasting_not_saved e)
       ∙ word_stays s n k.plan.memory k.node.machine.store d.store' a d.on.only size d.on.tells.length l.0 l.2
-      (λ f. engaged_not_free (sym e ∙ f))
-    where
-      engaged_not_free : Engaged ≡ Free → ⊥
-      engaged_not_free e = cc
-
-      engaged_not_saved : Engaged ≡ Saved → ⊥
-      engaged_not_saved e = cc
+      (lasting_not_free e)
 
   -- the claims are marked
   old_saved : (a : ℕ) → Contains (descheduled m) a → AreSavedWords s n a

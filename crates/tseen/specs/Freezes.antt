@@ -11,6 +11,7 @@ use Rattle.tprocesses.specs.Places.{Place, Name}
 use Rattle.tprocesses.specs.Values.{Value}
 use Rattle.tseen.specs.Begun.{TellsRuns, HasFew}
 use Rattle.tseen.specs.Steps.{IsCurrent, Makes, LeadsTo, is_dispatching, next_of}
+use Rattle.tseen.specs.Alternatives.{is_choice}
 
 -- if the node freezes, it is for a mismatch at a link
 abbrev pub BreaksNothing : Configuration → ℕ → Type 0
@@ -27,13 +28,14 @@ DispatchesBreakNothing =
     (c : Configuration) (n : ℕ) (node : Node) → node_of c n ≡ Some node
     → is_dispatching node.machine.control.current node.machine.control.high ≡ true → BreaksNothing c n
 
--- an operation that ends one of several processes, or communicates
+-- an operation that ends one of several processes, communicates, or is of an alternative
 abbrev pub meets_others : Next → Bool
 meets_others (Schedule Endp) = true
 meets_others (Schedule In) = true
 meets_others (Schedule Out) = true
 meets_others (Schedule Outbyte) = true
 meets_others (Schedule Outword) = true
+meets_others (Schedule o) = is_choice o
 meets_others _ = false
 
 -- and where it is any other instruction of the current process, if the step of this process does not stop

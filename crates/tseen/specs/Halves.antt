@@ -1,6 +1,6 @@
 -- The halves of channels and links of a node: who waits there.
 -- Source: own choice.
-use Rattle.std.specs.Prelude.{ℕ, ◌≡◌, false, length, Option, Some, None}
+use Rattle.std.specs.Prelude.{ℕ, ◌≡◌, ◌⊎◌, false, length, Option, Some, None}
 use Rattle.tword.specs.Stores.{word_at}
 use Rattle.tword.specs.declared.span.Span.{Span}
 use Rattle.tword.specs.Touches.{word_place_break}
@@ -15,7 +15,9 @@ use Rattle.tproc.specs.LinkChannels.{link_end}
 use Rattle.tnet.specs.Rendezvous.{Node, was_copied}
 use Rattle.tplan.specs.Wires.{end_at}
 use Rattle.tprocesses.specs.Places.{Place, Name, WordAt, Half, LinkHalf}
-use Rattle.tprocesses.specs.Values.{Value, Request, Engaged, Link, Empty, Offered, IsHalf, IsLink, word_in}
+use Rattle.tprocesses.specs.Values.{Holder, TakenBy, Value, Request, Engaged, Link, Empty, Offered, IsHalf, IsLink}
+use Rattle.tprocesses.specs.Values.{word_in}
+use Rattle.tseen.specs.Choices.{enabler_at}
 use Rattle.tprocesses.specs.Touching.{word_number}
 use Rattle.tseen.specs.Seats.{Seat, Waiting}
 use Rattle.tseen.specs.Outputs.{Pending, half_with}
@@ -46,21 +48,26 @@ module _ (s : Place → Value) (n : ℕ) (named : Seat → Name) where
     -- the channel word lies in the memory, where programs may use it
     pub placed : word_place_break (length m.store) channel ≡ None
 
+  -- a process has a half of a channel, or has enabled it
+  abbrev pub HasHolder : (channel : ℕ) → Type 0
+  HasHolder channel =
+      ((side : Side) × (q : Request) × (s (Half n channel side) ≡ IsHalf (TakenBy q)))
+      ⊎ ((x : Name) × (enabler_at s n channel ≡ Some x))
+
   -- the internal channels
   pub record ShowsChannels (m : Machine) : Type 0 where
     -- each half that is taken is that of a process that waits
-    pub taken : (channel : ℕ) (side : Side) (q : Request) → s (Half n channel side) ≡ IsHalf (Some q)
+    pub taken : (channel : ℕ) (side : Side) (q : Request) → s (Half n channel side) ≡ IsHalf (TakenBy q)
         → IsTakenHalf m channel side q
-    -- each half is taken or not
-    pub halves : (channel : ℕ) (side : Side) → (h : Option Request) × (s (Half n channel side) ≡ IsHalf h)
+    -- each half has its holder
+    pub halves : (channel : ℕ) (side : Side) → (h : Holder) × (s (Half n channel side) ≡ IsHalf h)
     -- each process that waits on a channel has its half
     pub waiting : (process channel : ℕ) (side : Side) (buffer : Span)
         → reason_of m.control process ≡ Some (reason_at side channel buffer)
-        → s (Half n channel side) ≡ IsHalf (Some (record { process = named (Waiting process); buffer = buffer }))
-    -- a word in use as a channel is one on which a process waits
+        → s (Half n channel side) ≡ IsHalf (TakenBy (record { process = named (Waiting process); buffer = buffer }))
+    -- a word in use as a channel is one that somebody has
     pub engaged : (k : ℕ) → (word_in (s (WordAt n k))).used ≡ Engaged
-        → (channel : ℕ) × (side : Side) × (q : Request) × (word_number channel ≡ k)
-        × (s (Half n channel side) ≡ IsHalf (Some q))
+        → (channel : ℕ) × (word_number channel ≡ k) × HasHolder channel
 
   -- a link
   pub record ShowsLink (sent : ℕ → Option Pending) (node : Node) (l : ℕ) : Type 0 where

@@ -7,6 +7,8 @@ pub mod Seats
 pub mod Outputs
 -- words, and what they are in use for
 pub mod Words
+-- alternatives
+pub mod Choices
 -- channels and links
 pub mod Halves
 -- the processes of a node
@@ -25,14 +27,16 @@ pub mod Ended
 pub mod Rest
 -- operations that begin a process
 pub mod Begun
+-- messages on internal channels
+pub mod Messages
+-- operations of alternatives
+pub mod Alternatives
 -- own steps that break no rule
 pub mod Freezes
 -- what holds all along a run
 pub mod Throughout
 -- low processes that high ones interrupt
 pub mod Interrupting
--- messages on internal channels
-pub mod Messages
 -- messages on links
 pub mod Linked
 -- messages that wires have carried

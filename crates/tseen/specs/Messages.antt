@@ -1,7 +1,7 @@
 -- Messages on internal channels, as the process machine shows them: the first process to come takes its half of the
 -- channel and waits; the second takes the other half, the channel copies, and the second goes on.
 -- Source: own choice.
-use Rattle.std.specs.Prelude.{ℕ, ◌≡◌, ◌≢◌, Bool, true, false, Some}
+use Rattle.std.specs.Prelude.{ℕ, ◌≡◌, ◌≢◌, Bool, true, false, Some, None}
 use Rattle.tword.specs.Stores.{word_at}
 use Rattle.tcode.specs.declared.instruction.Operation.{Operation}
 use Rattle.tcode.specs.declared.instruction.Operation.TheVariants.{In, Out, Outbyte, Outword}
@@ -13,6 +13,7 @@ use Rattle.tnet.specs.Rendezvous.{Configuration}
 use Rattle.tprocesses.specs.Places.{Place, Name}
 use Rattle.tprocesses.specs.Values.{Value}
 use Rattle.tprocesses.specs.Machine.{Process, Channel}
+use Rattle.tseen.specs.Choices.{enabler_at}
 use Rattle.tseen.specs.Steps.{IsCurrent, Makes, LeadsTo, next_of}
 use Rattle.tseen.specs.AgentSteps.{AgentMakes, HasStep, NothingStops}
 
@@ -43,6 +44,11 @@ abbrev pub channel_word : {p : Plan} {c : Configuration} {s s' : Place → Value
     → Communicates p c s s' n x → ℕ
 channel_word k = word_at k.current.node.machine.store (channel_of k)
 
+-- another process waits at the channel, and no alternative has enabled it
+abbrev pub FindsOther : {p : Plan} {c : Configuration} {s s' : Place → Value} {n : ℕ} {x : Name}
+    → Communicates p c s s' n x → Type 0
+FindsOther {s} {n} k = (channel_word k ≢ not_process) × (enabler_at s n (channel_of k) ≡ None)
+
 -- the first of two processes at a channel is seen as its instruction: it waits, and has its half
 abbrev pub FirstHalvesAreSeen : Type 0
 FirstHalvesAreSeen =
@@ -53,12 +59,12 @@ FirstHalvesAreSeen =
 abbrev pub MeetingsAreSeen : Type 0
 MeetingsAreSeen =
     (p : Plan) (c : Configuration) (s s' s'' s''' : Place → Value) (n : ℕ) (x : Name)
-    → (k : Communicates p c s s' n x) → channel_word k ≢ not_process
+    → (k : Communicates p c s s' n x) → FindsOther k
     → AgentMakes p (Channel n (channel_of k)) s' s'' → Makes p x s'' s''' → LeadsTo p c n s'''
 
 -- after the first of these steps the channel has one, and after that the process
 abbrev pub MeetingsGoOn : Type 0
 MeetingsGoOn =
     (p : Plan) (c : Configuration) (s s' : Place → Value) (n : ℕ) (x : Name) → (k : Communicates p c s s' n x)
-    → channel_word k ≢ not_process → HasStep p (Channel n (channel_of k)) s'
+    → FindsOther k → HasStep p (Channel n (channel_of k)) s'
     × ((s'' : Place → Value) → AgentMakes p (Channel n (channel_of k)) s' s'' → HasStep p (Process x) s'')

@@ -4,10 +4,12 @@ use Rattle.std.specs.Prelude.{ℕ, ◌≡◌, ◌≤◌, ◌<◌, ◌⊎◌, ◌
 use Rattle.std.specs.List.{count_by}
 use Rattle.tcpu.specs.declared.registers.Registers.{Registers}
 use Rattle.tproc.specs.declared.waiter.Reason.TheVariants.{LinkOutput}
+use Rattle.tproc.specs.declared.waiter.Reason.TheVariants as waits
 use Rattle.tproc.specs.ProcessStatus.{live, reason_of}
 use Rattle.tnet.specs.Rendezvous.{Node, was_copied}
 use Rattle.tprocesses.specs.Places.{Place, Name, Standing, Error, HaltOnError, Life, Population, HasRun, FlagChanged}
-use Rattle.tprocesses.specs.Values.{Value, Context, Lent, Stand, Absent, Rests, Runs, Waits, Ended, IsStand, IsFlag}
+use Rattle.tprocesses.specs.Values.{Chosen, Chooses, Value, Context, Lent, Stand, Absent, Rests, Runs, Waits, Ended}
+use Rattle.tprocesses.specs.Values.{IsStand, IsFlag}
 use Rattle.tprocesses.specs.Values.{IsAmount, flag_in}
 use Rattle.tseen.specs.Known.{HasRegisters, HasSaved}
 use Rattle.tseen.specs.Seats.{Seat, Current, Interrupted, Queued, Waiting, is_taken}
@@ -18,16 +20,6 @@ abbrev pub HasPassed : Node → ℕ → Type 0
 HasPassed node process =
     (l : ℕ) × (reason_of node.machine.control process ≡ Some (LinkOutput l)) × (was_copied node l ≡ true)
 
--- how a process stands that has a seat
-abbrev pub Fits : Node → Seat → Stand → Type 0
-Fits node Current (Runs k) = IfSome node.machine.control.current
-    (λ priority. HasRegisters priority node.machine.control.registers k)
-Fits node Interrupted (Runs k) = IfSome node.machine.control.interrupted (λ t. HasRegisters 1 t.registers k)
-Fits node (Queued process) (Rests k) = HasSaved node.machine.store process k
-Fits node (Waiting process) (Rests k) = HasSaved node.machine.store process k × HasPassed node process
-Fits node (Waiting process) (Waits k) = HasSaved node.machine.store process k × (k.lent ≡ None)
-Fits _ _ _ = ⊥
-
 -- the context of a process, if it is there
 abbrev pub context_in : Stand → Option Context
 context_in (Rests k) = Some k
@@ -35,6 +27,22 @@ context_in (Runs k) = Some k
 context_in (Waits k) = Some k
 context_in Absent = None
 context_in Ended = None
+context_in (Chooses k) = Some k
+context_in (Chosen k) = Some k
+
+-- how a process stands that has a seat
+abbrev pub Fits : Node → Seat → Stand → Type 0
+Fits node Current (Runs k) = IfSome node.machine.control.current
+    (λ priority. HasRegisters priority node.machine.control.registers k)
+Fits node Interrupted (Runs k) = IfSome node.machine.control.interrupted (λ t. HasRegisters 1 t.registers k)
+Fits node (Queued process) (Rests k) = HasSaved node.machine.store process k
+Fits node (Queued process) (Chosen k) = HasSaved node.machine.store process k × (k.lent ≡ None)
+Fits node (Waiting process) (Rests k) = HasSaved node.machine.store process k × HasPassed node process
+Fits node (Waiting process) (Waits k) = HasSaved node.machine.store process k × (k.lent ≡ None)
+Fits node (Waiting process) (Chooses k) =
+    HasSaved node.machine.store process k × (k.lent ≡ None)
+    × (reason_of node.machine.control process ≡ Some waits.Chooses)
+Fits _ _ _ = ⊥
 
 module _ (s : Place → Value) (n : ℕ) where
   -- the process of a name has the seat

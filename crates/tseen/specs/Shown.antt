@@ -25,6 +25,7 @@ use Rattle.tseen.specs.Outputs.{Pending}
 use Rattle.tseen.specs.Words.{AreMarked, ShowsStore}
 use Rattle.tseen.specs.Halves.{ShowsChannels, ShowsLink}
 use Rattle.tseen.specs.Processes.{ShowsProcesses}
+use Rattle.tseen.specs.Choices.{ShowsChoices}
 use Rattle.tseen.specs.Scripts.{ShowsSource, ShowsSink}
 
 -- a node that is a processor
@@ -40,6 +41,7 @@ pub record ShowsNode (s : Place → Value) (n : ℕ) (plan : NodePlan) (named : 
   pub channels : ShowsChannels s n named node.machine
   pub links : (l : ℕ) → l < 4 → ShowsLink s n named sent node l
   pub processes : ShowsProcesses s n named sent node
+  pub choices : ShowsChoices s n node.machine.store
 
 -- the whole net. named: the name of the process at each seat of a node; sent: the outputs of its links that are not
 -- over

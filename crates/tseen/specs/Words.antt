@@ -1,6 +1,7 @@
 -- The words of a node: their bytes, and that what a processor claims is marked in the process machine.
 -- Source: own choice.
-use Rattle.std.specs.Prelude.{true, false, ℕ, ◌≡◌, ◌+◌, ◌*◌, ◌<◌, ◌≤◌, pos, All, [], ◌∷◌, Option, Some, slice_range}
+use Rattle.std.specs.Prelude.{Bool, true, false, ℕ, ◌≡◌, ◌+◌, ◌*◌, ◌<◌}
+use Rattle.std.specs.Prelude.{◌≤◌, pos, All, [], ◌∷◌, Option, Some, slice_range}
 use Rattle.tword.specs.Stores.{Store}
 use Rattle.tword.specs.declared.span.Span.{Span}
 use Rattle.tword.specs.Words.{word_below}
@@ -8,7 +9,7 @@ use Rattle.tproc.specs.declared.offer.Offer.{Offer}
 use Rattle.tproc.specs.Machine.{Control, descheduled, buffer_of}
 use Rattle.tproc.specs.LinkChannels.{link_end}
 use Rattle.tprocesses.specs.Places.{Place, WordAt, Sending}
-use Rattle.tprocesses.specs.Values.{Value, Word, Use, Saved, Receiving, IsWord, IsAmount, word_in, unknown}
+use Rattle.tprocesses.specs.Values.{Value, Word, Use, Saved, Awaiting, Receiving, IsWord, IsAmount, word_in, unknown}
 use Rattle.tprocesses.specs.Machine.{awaits_successor}
 use Rattle.tprocesses.specs.Touching.{word_number, word_count}
 use Rattle.tseen.specs.Known.{KnowsCells}
@@ -19,6 +20,12 @@ pub record ShowsWord (store : Store) (k : ℕ) (v : Value) : Type 0 where
   pub word : Word
   pub is : v ≡ IsWord word
   pub cells : KnowsCells word.cells (slice_range store (4 * k) (4 * k + 4))
+
+-- a word of a process that does not run
+abbrev pub is_set_aside : Use → Bool
+is_set_aside Saved = true
+is_set_aside Awaiting = true
+is_set_aside _ = false
 
 module _ (s : Place → Value) (n : ℕ) where
   -- what the word at an address is in use for
@@ -34,9 +41,11 @@ module _ (s : Place → Value) (n : ℕ) where
   IsUsed used span =
       (i : ℕ) → i < word_count span → (word_in (s (WordAt n (word_number span.start + i)))).used ≡ used
 
-  -- the three words below a workspace are saved words. The scheduler may change two of them: these are not known
+  -- the three words below a workspace are saved words, the third one perhaps as the state of an alternative. The
+  -- scheduler may change the other two: these are not known
   pub record AreSavedWords (w : ℕ) : Type 0 where
-    pub used : All (λ k. use_at (word_below w k) ≡ Saved) (1 ∷ 2 ∷ 3 ∷ [])
+    pub used : All (λ k. use_at (word_below w k) ≡ Saved) (1 ∷ 2 ∷ [])
+    pub third : is_set_aside (use_at (word_below w 3)) ≡ true
     pub unknown : All (λ k. cells_at (word_below w k) ≡ unknown) (1 ∷ 2 ∷ [])
 
   -- each claim of a processor is marked
