@@ -32,11 +32,12 @@ abbrev pub side_text : Side → List ℕ
 side_text Input = codes "input"
 side_text Output = codes "output"
 
--- a place of a node
+-- a place of a node. The channels that a process has enabled are named as where it stands: both have one number
 abbrev pub place_text : Place → List ℕ
 place_text (place.WordAt n k) = at_node n (codes "word") (word_address k)
 place_text (place.Sending n k) = at_node n (codes "word") (word_address k)
 place_text (place.Standing x) = at_node x.node (codes "process") (name_text x)
+place_text (place.Ports x) = at_node x.node (codes "process") (name_text x)
 place_text (place.Half n c side) = at_node n (side_text side ++ codes " of channel") (word_text c)
 place_text (place.LinkHalf e side) = at_node e.node (side_text side ++ codes " of link") (decimal e.link)
 place_text (place.Error n) = at_node n (codes "flag") (codes "Error")

@@ -12,6 +12,7 @@ stop_name (stop.Breaks b) = break_name b
 stop_name stop.Halts = codes "Halts"
 stop_name stop.SawTheScheduler = codes "SawTheScheduler"
 stop_name stop.HasAlternatives = codes "HasAlternatives"
+stop_name stop.SeveralReady = codes "SeveralReady"
 stop_name stop.WordInUse = codes "WordInUse"
 stop_name stop.FullSink = codes "FullSink"
 stop_name stop.HasNoStep = codes "HasNoStep"

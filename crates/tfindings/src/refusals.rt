@@ -15,6 +15,7 @@ pub(crate) fn stop_name(why: Stop) -> &'static [u8]
         Stop::Halts => b"Halts",
         Stop::SawTheScheduler => b"SawTheScheduler",
         Stop::HasAlternatives => b"HasAlternatives",
+        Stop::SeveralReady => b"SeveralReady",
         Stop::WordInUse => b"WordInUse",
         Stop::FullSink => b"FullSink",
         Stop::HasNoStep => b"HasNoStep",

@@ -18,7 +18,12 @@ fn stood_at(stand: &Stand) -> Option<Word>
 {
     match stand {
         Stand::Runs(context) => Some(context.iptr),
-        Stand::Absent | Stand::Rests(_) | Stand::Waits(_) | Stand::Ended => None,
+        Stand::Absent
+        | Stand::Rests(_)
+        | Stand::Waits(_)
+        | Stand::Chooses(_)
+        | Stand::Chosen(_)
+        | Stand::Ended => None,
     }
 }
 
