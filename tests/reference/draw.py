@@ -145,14 +145,19 @@ class Process:
 class Node:
     """A node of several processes: code, then channels and shared words, then workspaces."""
 
+    CHANNELS, MOST, MOST_IF_SMALL = 16, 5, 2
+
     def __init__(self, dice, number, is_small):
         self.dice, self.number, self.is_small = dice, number, is_small
-        self.kind, self.size = dice.choice([None, 1, 2]), 2048 if is_small else 4096
+        self.kind, self.size = dice.choice([None, 1, 2]), self.memory()
         self.names, self.behind, self.halts = 0, [], dice.random() < 0.1
         self.data = LOWEST + self.size // 2
-        self.free = self.data + 0x80
-        most = 2 if is_small else 5
+        self.free = self.data + 4 * self.CHANNELS + 0x40
+        most = self.MOST_IF_SMALL if is_small else self.MOST
         self.processes = [self.process(dice.choice([0, 1, 1, 1])) for _ in range(dice.randint(1, most))]
+
+    def memory(self):
+        return 2048 if self.is_small else 4096
 
     def process(self, priority):
         """Returns a new process, whose workspace is free."""
@@ -173,7 +178,7 @@ class Node:
 
     def shared(self):
         """Returns the address of a word that processes share."""
-        return self.data + 0x40 + 4 * self.dice.randrange(16)
+        return self.data + 4 * self.CHANNELS + 4 * self.dice.randrange(16)
 
     def operations(self):
         return [it for it in LOCAL if it != "dup" or self.kind == 2]
@@ -185,7 +190,7 @@ class Node:
             lines += [f"p{number}:", *process.lines, *self.end(number)]
         lines += self.behind
         lines += ["routine:", "    ldl 1, ldl 2, sum, stl 3, ldl 3, ret", "other:", "    stl 12, ldl 1, adc 1, stl 1"]
-        lines += ["    ldl 12, gcall", f"at {self.data:08x}", words_line(*[LOWEST] * 16)]
+        lines += ["    ldl 12, gcall", f"at {self.data:08x}", words_line(*[LOWEST] * self.CHANNELS)]
         lines.append(data_line(dice.randbytes(64)))
         told = [f"process {it.workspace + it.priority:08x} p{number}" for number, it in enumerate(self.processes)]
         return lines + told

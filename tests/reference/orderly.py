@@ -14,7 +14,7 @@ class OrderlyNode(draw.Node):
         return ["    stopp"]
 
     def shared(self):
-        return self.data + 0x40 + 4 * self.dice.randrange(4)
+        return self.data + 4 * self.CHANNELS + 4 * self.dice.randrange(4)
 
 
 class Orderly(draw.Mesh):
@@ -23,10 +23,10 @@ class Orderly(draw.Mesh):
 
     NODE = OrderlyNode
 
-    def __init__(self, dice):
+    def __init__(self, dice, is_small=False):
         self.open_ways, self.senders, self.holder = [], {}, None
         self.rudeness = dice.choice([0, 0.2, 0.4, 0.6])
-        super().__init__(dice, False, False)
+        super().__init__(dice, is_small, False)
 
     def way(self, sender, receiver):
         if self.dice.random() < 0.5:

@@ -16,6 +16,8 @@ class Use(enum.Enum):
     """What a word of memory is used for."""
 
     FREE, SAVED, RECEIVING, CHANNEL, SPOILT = "free", "saved", "receiving", "channel", "spoilt"
+    # The state of an alternative that is under way, and of one whose process waits for it or was made to go on.
+    CHOICE, AWAITING = "choice", "awaiting"
     LAST_HIGH, LAST_LOW = "last high", "last low"
 
 
@@ -44,14 +46,40 @@ class Loan(NamedTuple):
     length: int
 
 
+class Choice(NamedTuple):
+    """An alternative that is under way, and whether it need not wait: since a guard without a channel was true, or
+    since a channel made it go on."""
+
+    skips: bool = False
+
+
+class Enabled(NamedTuple):
+    """The input of a channel that a process has enabled."""
+
+    process: tuple
+
+
+class Awaited(NamedTuple):
+    """The input of a channel for which a process waits, and for others."""
+
+    process: tuple
+
+
 class Status(enum.Enum):
-    """How a process stands: a process that rests has given way, and goes on by a step of its own."""
+    """How a process stands: one that rests has given way, and goes on by a step of its own; one that chooses waits for
+    the channels that it has enabled, and one that is chosen goes on since one of them made it ready."""
 
     ABSENT, RESTS, RUNS, WAITS, ENDED = "absent", "rests", "runs", "waits", "ended"
+    CHOOSES, CHOSEN = "chooses", "chosen"
+
+
+# A process that stands so has a step.
+READY = (Status.RESTS, Status.RUNS, Status.CHOSEN)
 
 
 class Context(NamedTuple):
-    """What a process has: its registers, of which A, B, C may be unknown, how many processes it began, and its loan."""
+    """What a process has: its registers, of which A, B, C may be unknown, how many processes it began, its loan, and
+    its alternative."""
 
     priority: int
     wptr: int
@@ -59,6 +87,7 @@ class Context(NamedTuple):
     stack: tuple = (0, 0, 0)
     children: int = 0
     loan: Optional[Loan] = None
+    choice: Optional[Choice] = None
 
 
 class Standing(NamedTuple):
@@ -80,7 +109,9 @@ class Kind(str, enum.Enum):
     WORD = "word"  # a word of memory, by its number
     SENDING = "sending"  # how many outputs on links that are not over have a byte of a word, by its number
     STANDING = "process"  # how a process stands, by its name
-    HALF = "channel"  # half of an internal channel, by address and whether it is the input: None or an offer
+    PORTS = "ports"  # the channels that a process has enabled, by its name
+    # Half of an internal channel, by address and whether it is the input: None, an offer, or who has enabled it.
+    HALF = "channel"
     LINK_HALF = "link"  # half of a link, by number and whether it is the input
     ERROR, HALTING = "Error", "HaltOnError"
     LIFE = "workspace"  # how many processes have a workspace, by its address
@@ -100,7 +131,7 @@ class Place(NamedTuple):
 # What stands at each place before the first step, if nothing else is said.
 FIRST_VALUES = {
     Kind.WORD: Word(), Kind.SENDING: 0, Kind.STANDING: Standing(), Kind.HALF: None, Kind.LINK_HALF: LinkHalf.EMPTY,
-    Kind.ERROR: False, Kind.HALTING: False, Kind.LIFE: 0, Kind.SUCCESSIONS: 0, Kind.KEPT: (),
+    Kind.ERROR: False, Kind.HALTING: False, Kind.LIFE: 0, Kind.SUCCESSIONS: 0, Kind.KEPT: (), Kind.PORTS: (),
 }
 
 

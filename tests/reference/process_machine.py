@@ -1,10 +1,11 @@
 """The process machine (docs/MACHINE.md, section 17): each process that is ready has a step, and no queue, timeslice or
 interrupt decides whose turn it is. A step is told by what it has seen and what it changes."""
 from channels import is_link
+from choosing import Choosing, lets_go_on
 from memory import Break, Memory, Offer, require
 from net import Sink, Source
-from places import (DECREMENTS, FIRST_VALUES, LAST, REFUSALS, UNKNOWN, Act, Agent, AgentKind, Change, Context, Kind,
-                    LinkHalf, Loan, Place, Standing, Status, Use, Word, cells_of)
+from places import (DECREMENTS, FIRST_VALUES, LAST, READY, REFUSALS, UNKNOWN, Act, Agent, AgentKind, Awaited, Change,
+                    Context, Kind, LinkHalf, Loan, Place, Standing, Status, Use, Word, cells_of)
 from processes import LOW
 from processor import Processor
 from words import IPTR, LOWEST, MODULUS, NEXT, NOT_PROCESS, STATE, workspace_of
@@ -25,10 +26,9 @@ class Step:
         return Place(kind, self.agent.node, key)
 
     def look(self, place):
-        """Returns what stood there before the step."""
-        value = self.machine.value(place)
-        self.seen.append((place, value))
-        return value
+        """Returns what stands there after the changes so far; what stood there before them was seen."""
+        self.seen.append((place, self.machine.value(place)))
+        return self.left(place)
 
     def change(self, place, act, operand=None):
         """Makes a change, without a look."""
@@ -71,6 +71,11 @@ class Looks(Memory):
             if writes:
                 self.not_sent(place)
 
+    def use_word(self, address, use):
+        """Looks at a word that has to have a use, and of which no output on a link has a byte."""
+        self.touch(address, 4, False, use=use)
+        self.not_sent(self.word_place(address))
+
     def not_sent(self, place):
         """Checks that no output on a link has a byte of a word."""
         require(self.step.look(place._replace(kind=Kind.SENDING)) == 0, "InTransit")
@@ -108,10 +113,16 @@ class Looks(Memory):
             is_kept = keeps_state and below == STATE
             self.step.put(place, Word(self.step.left(place).cells if is_kept else UNKNOWN, Use.SAVED))
 
-    def restore(self, workspace):
-        """The words below a workspace are saved no more."""
-        self.touch(workspace - STATE, STATE, False, use=Use.SAVED)
-        for place in self.words(workspace - STATE, STATE):
+    def save_upper(self, workspace):
+        """The upper two words below a workspace are saved."""
+        for below in (NEXT, IPTR):
+            self.touch_word(workspace - below, True)
+            self.step.put(self.word_place(workspace - below), Word(UNKNOWN, Use.SAVED))
+
+    def restore(self, workspace, lowest=STATE):
+        """The words below a workspace, from the lowest one on, are saved no more."""
+        self.touch(workspace - lowest, lowest, False, use=Use.SAVED)
+        for place in self.words(workspace - lowest, lowest):
             self.step.put(place, Word(self.step.left(place).cells))
 
     def count_output(self, buffer, length, more):
@@ -123,7 +134,8 @@ class Looks(Memory):
 # Which of A, B, C an instruction needs to know, and where each of A, B, C comes from that it leaves: from one of these,
 # from memory (X), or it is made of what is known (M). A `cj` that does not jump leaves BCC.
 LEAVES = {
-    ("", "ABC"): "j ajw ret seterr clrhalterr sethalterr stoperr stopp", ("", "MBC"): "call", ("", "XAB"): "ldl",
+    ("", "ABC"): "j ajw ret seterr clrhalterr sethalterr stoperr stopp alt enbs altwt altend", ("", "MBC"): "call",
+    ("", "XAB"): "ldl", ("", "ACC"): "enbc", ("", "MCC"): "disc diss",
     ("", "MAB"): "ldlp ldc mint ldpri testerr testhalterr testpranal", ("", "BCC"): "stl", ("", "BAC"): "rev",
     ("", "AAB"): "dup", ("A", "ABC"): "cj endp", ("A", "XBC"): "ldnl lb", ("A", "CCC"): "stnl sb",
     ("A", "MBC"): "ldnlp adc eqc gcall ldpi not bcnt gajw", ("A", "AMB"): "xdble", ("A", "MMB"): "wcnt",
@@ -139,22 +151,22 @@ BY_MEMORY = ("ret", "lend", "runp")
 ON_FLAGS = ("testerr", "testhalterr", "sethalterr", "clrhalterr")
 
 
-class Turn(Processor):
-    """One step of a process: it goes on after a rest, or does an instruction."""
+class Turn(Choosing, Processor):
+    """One step of a process: it goes on after a rest or a choice, or does an instruction."""
 
     def __init__(self, step, context):
         self.step, self.context, self.kind = step, context, step.machine.kinds[step.agent.node]
         self.memory = Looks(step, step.agent.node)
         self.a, self.b, self.c = (it or 0 for it in context.stack)
         self.wptr, self.iptr, self.current = context.wptr, context.iptr, context.priority
-        self.children = context.children
+        self.children, self.choice = context.children, context.choice
         # As if an error halted the node: it tells that the instruction sets Error.
         self.error, self.halt_on_error, self.is_halted = False, True, False
         self.status = Status.RUNS
 
     def leave_with(self, stack):
         """The process stands as it does after this step."""
-        context = Context(self.current, self.wptr, self.iptr, stack, self.children)
+        context = Context(self.current, self.wptr, self.iptr, stack, self.children, choice=self.choice)
         standing = Standing(self.status, None if self.status is Status.ENDED else context)
         self.step.put(self.step.place(Kind.STANDING, self.step.agent.key), standing)
 
@@ -177,7 +189,6 @@ class Turn(Processor):
         require(not self.memory.has_read_unknown, "SawTheScheduler")
         name, operand, self.iptr = found
         self.step.text = found.text()
-        require(name in USES, "HasAlternatives")
         needs, left = USES[name]
         unknown = {it for it, value in zip("ABC", self.context.stack) if value is None}
         require(not unknown.intersection(needs), "SawTheScheduler")
@@ -211,6 +222,7 @@ class Turn(Processor):
             self.status = Status.RESTS
             self.memory.save(self.wptr, True)
         if self.wptr != self.context.wptr or self.status is Status.ENDED:
+            require(self.context.choice is None, "WordInUse")
             self.step.change(self.step.place(Kind.LIFE, self.context.wptr), Act.ADD, -1)
             if self.status is not Status.ENDED:
                 self.step.change(self.step.place(Kind.LIFE, self.wptr), Act.ADD, 1)
@@ -305,11 +317,14 @@ def process_step(step):
     """A step of a process."""
     standing = step.look(step.place(Kind.STANDING, step.agent.key))
     turn = Turn(step, standing.context)
+    if standing.status is Status.RUNS:
+        turn.do_next()
+        return
+    step.text = "goes on"
     if standing.status is Status.RESTS:
-        step.text = "goes on"
         turn.go_on()
     else:
-        turn.do_next()
+        turn.go_on_chosen()
 
 
 def wake(step, node, process, loan=None):
@@ -321,11 +336,16 @@ def wake(step, node, process, loan=None):
 
 
 def channel_step(step):
-    """Two processes meet on an internal channel: the message is copied."""
+    """Two processes meet on an internal channel: the message is copied. A process that waits for this channel and for
+    others goes on, and takes the message later."""
     channel, memory = step.agent.key, Looks(step, step.agent.node)
-    step.text = "copies"
     halves = [step.place(Kind.HALF, (channel, is_input)) for is_input in (False, True)]
     sender, receiver = map(step.look, halves)
+    if isinstance(receiver, Awaited):
+        step.text = "chooses"
+        lets_go_on(step, receiver.process)
+        return
+    step.text = "copies"
     require(sender.length == receiver.length, "LengthMismatch")
     memory.touch(channel, 4, False, use=Use.CHANNEL)
     step.put(memory.word_place(channel), Word(cells_of(NOT_PROCESS)))
@@ -510,9 +530,9 @@ class ProcessMachine:
 def is_open(kind, value):
     """Tells whether a gate of some kind is open with a value."""
     if kind is Kind.STANDING:
-        return value.status in (Status.RESTS, Status.RUNS)
+        return value.status in READY
     if kind is Kind.WORD:
         return value.use in (*LAST, Use.SPOILT)
     if kind is Kind.MESSAGES:
         return bool(value)
-    return isinstance(value, Offer)
+    return isinstance(value, (Offer, Awaited))

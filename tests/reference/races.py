@@ -88,11 +88,10 @@ def join(clock, other):
 
 
 def accesses_of(step):
-    """Yields each place that a step has access to, and how."""
-    for place, _ in step.seen:
-        yield place, LOOK
-    for place, change in step.changes:
-        yield place, change.act
+    """Yields each place that a step has access to, and how. The channels that a process has enabled count as its
+    state."""
+    for place, mode in [*((it, LOOK) for it, _ in step.seen), *((it, change.act) for it, change in step.changes)]:
+        yield place._replace(kind=Kind.STANDING) if place.kind is Kind.PORTS else place, mode
 
 
 def told_as(step, place, mode):
