@@ -165,7 +165,8 @@ pub fn walkers_are_lawful<Agent, Place, Value, Change, Kind, Deed>()
 {}
 
 /// No step shuts a gate of another agent whose gates are all open, if each walk, once the agent's own gates were seen
-/// open, changes a gate only in ways that shut nothing, or where one gate of each other agent that has it was seen shut.
+/// open, changes a gate only in ways that shut nothing, or where one gate of each other agent that has it was seen
+/// shut.
 pub fn careful_walkers_keep_gates<Agent, Place, Value, Change, Kind, Deed>()
     ensures { CarefulWalkersKeepGates Agent Place Value Change Kind Deed }
 {}

@@ -169,7 +169,7 @@ impl Node {
                 if other != process {
                     return Err(Stop::Breaks(Break::ChannelMisuse));
                 }
-                self.unsent(word, Mode::Claims)
+                self.unsent(word, Mode::Engages)
             }
             Holder::Taken(_) | Holder::Awaited(_) => Err(Stop::Breaks(Break::ChannelMisuse)),
         }
