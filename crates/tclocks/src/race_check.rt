@@ -80,7 +80,7 @@ impl RaceCheck {
         step.number <= self.clocks[agent as usize].count(step.agent)
     }
 
-    /// The last step that an agent has begun.
+    /// The last step that an agent has begun, with number 0 if it has begun none.
     pub fn last_step(&self, agent: u32) -> Step
         requires { agent < length self.now.clocks }
         ensures { result ≡ last_step self.now agent }

@@ -45,8 +45,8 @@ pub enum Finding {
         made: Made,
         why: Stop,
     },
-    /// This node had more processes in all than may live there at the same time, and not all of them are known to take
-    /// turns.
+    /// This node had more processes in all than may live there at the same time. It is told only where one has no berth
+    /// that is known to be free, which the contract does not say.
     TooManyProcesses {
         node: usize,
     },

@@ -22,8 +22,8 @@ pub struct Race {
 pub enum Refusal {
     /// The next step of the agent of this number stops.
     Stops { agent: u32, why: Stop },
-    /// This node had more processes in all than may live there at the same time, and not all of them are known to take
-    /// turns.
+    /// This node had more processes in all than may live there at the same time. It is told only where one has no berth
+    /// that is known to be free, which the contract does not say.
     TooManyProcesses { node: usize },
     /// A flag was changed at this node, where processes of both priorities ran.
     FlagsChanged { node: usize },
