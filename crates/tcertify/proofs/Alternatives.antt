@@ -1,15 +1,12 @@
 -- Alternatives, part by part.
 use Rattle.std.proofs.Common.{◌≡◌, ◌<◌, ℕ, refl, ap, ◌∙◌, subst, length, true, false, List, ◌∷◌, Result, Ok}
 use Rattle.tproc.specs.declared.channels.Side.{Side}
-use Rattle.tproc.specs.declared.channels.Side.TheVariants.{Input}
-use Rattle.tprocesses.specs.Changes.{Put}
 use Rattle.tprocesses.specs.Choosing.{awaits_ports, is_enabled_by}
-use Rattle.tprocesses.specs.Parts.{Part, Doing, Breaks, change, done, require, see, seeing, ◌>>=◌, ◌>>◌}
+use Rattle.tprocesses.specs.Parts.{Part, Doing, done, see, ◌>>=◌, ◌>>◌}
 use Rattle.tprocesses.specs.Places.{Name, Half, same_name}
 use Rattle.tprocesses.specs.Touching.{Site}
 use Rattle.tprocesses.specs.Values as value
 use Rattle.tprocesses.specs.Values.{AwaitedBy, IsHalf, Value, half_in}
-use Rattle.tword.specs.declared.breaks.Break.TheVariants.{ChannelMisuse}
 use Rattle.tcertify.specs.declared.channel.Holder.{Holder}
 use Rattle.tcertify.specs.declared.channel.Holder.TheVariants as holder
 use Rattle.tcertify.specs.declared.fault.Fault.{Fault}
@@ -19,7 +16,7 @@ use Rattle.tcertify.specs.Choosing.{awaits_port}
 use Rattle.tcertify.specs.Nodes.{Does, Grows, RunsAt, address_at, name_at, names, node_site, nothing}
 use Rattle.tcertify.proofs.Following.{does_still, does_then, inside_still}
 use Rattle.tcertify.proofs.NodePorts.{same_process}
-use Rattle.tcertify.proofs.NodeRunning.{bind_assoc, does_after, does_on, name_stays}
+use Rattle.tcertify.proofs.NodeRunning.{does_after, does_on, name_stays}
 use Rattle.tcertify.proofs.Places.{there_is}
 use Rattle.tcertify.proofs.Telling.{same_name-self}
 
@@ -82,13 +79,6 @@ holder_still b d (holder.Enabled k) grows known = ap value.EnabledBy (name_stays
 holder_still b d (holder.Awaited k) grows known = ap value.AwaitedBy (name_stays b d k grows (known k refl))
 
 -- a process waits for one more channel
-module _ (s : Site) (x : Name) (channel : ℕ) (rest : List ℕ) where
-  abbrev puts_half : Doing
-  puts_half = change (Half s.number channel Input) (Put (IsHalf (AwaitedBy x)))
-
-  abbrev checks_half : Value → Doing
-  checks_half v = require (is_enabled_by x (half_in v)) (Breaks ChannelMisuse)
-
-  pub awaits_row : (awaits_port s x channel >> awaits_ports s x rest) ≡ awaits_ports s x (channel ∷ rest)
-  awaits_row = λ i. seeing (Half s.number channel Input)
-      (λ v. bind_assoc (checks_half v) (λ _. puts_half) (λ _. awaits_ports s x rest) i)
+pub awaits_row : (s : Site) (x : Name) (channel : ℕ) (rest : List ℕ)
+    → (awaits_port s x channel >> awaits_ports s x rest) ≡ awaits_ports s x (channel ∷ rest)
+awaits_row s x channel rest = refl

@@ -3,7 +3,7 @@ use Rattle.std.proofs.Common.{◌≡◌, ℕ, refl, sym, subst, ap, ◌∙◌, B
 use Rattle.std.specs.Prelude.{◌==◌, ◌&&◌, slice_get, if◌then◌else◌}
 use Rattle.std.proofs.lemmas.Bool.{eqb-true}
 use Rattle.tprocesses.specs.Places.{Place, WordAt, Sending, Standing, Ports, Half, LinkHalf, Error, HaltOnError}
-use Rattle.tprocesses.specs.Places.{Life, Successions, Messages, Kept, Population, HasRun, FlagChanged}
+use Rattle.tprocesses.specs.Places.{Unfinished, Life, Successions, Messages, Kept, Population, HasRun, FlagChanged}
 use Rattle.tprocesses.specs.Values.{Value, IsWord}
 use Rattle.tprocesses.specs.Changes.{Change, Put, apply}
 use Rattle.tprocesses.specs.Parts.{change}
@@ -37,6 +37,7 @@ module _ (s : State) (n k : ℕ) (c : Change) (v : Value) (makes : apply c (s (W
   put_at (Ports z) = refl
   put_at (Half m l z) = refl
   put_at (LinkHalf z l) = refl
+  put_at (Unfinished z) = refl
   put_at (Error m) = refl
   put_at (HaltOnError m) = refl
   put_at (Life m l) = refl

@@ -3,7 +3,7 @@ use Rattle.std.proofs.Common.{◌≡◌, ℕ, refl, sym, ap, ◌∙◌, Bool, tr
 use Rattle.std.specs.Prelude.{◌==◌, ◌&&◌, ℤ, pos, ◌+ℤ◌, if◌then◌else◌}
 use Rattle.tproc.specs.declared.channels.Side.{Side}
 use Rattle.tplan.specs.Wires.{end_at}
-use Rattle.tprocesses.specs.Places.{Place, Name, Standing, Ports, Half, LinkHalf, Error, HaltOnError, Life}
+use Rattle.tprocesses.specs.Places.{Place, Name, Standing, Ports, Half, LinkHalf, Unfinished, Error, HaltOnError, Life}
 use Rattle.tprocesses.specs.Places.{Successions, Population, HasRun, FlagChanged, same_place, same_name, same_side}
 use Rattle.tprocesses.specs.Values.{Value, Stand, Holder, Link, IsStand, ArePorts, IsHalf, IsLink, IsFlag}
 use Rattle.tprocesses.specs.Values.{IsAmount, IsCount}
@@ -206,4 +206,18 @@ module _ (n : ℕ) (words : List StoredWord) (x : Board) (rest : State) where
           alike (x.node == e.node) (IsLink (f e.link t)) (IsLink (x.link e.link t)) (rest (LinkHalf e t))
           (λ h. ap IsLink (others e.link t
           (third_fails (x.node == e.node) (k == e.link) (same_side side t) apart h)))
+      others_stay q apart = refl
+
+  -- whether an output of a link is unfinished
+  pub unfinished_put : (k : ℕ) (v : Bool) (f : ℕ → Bool) → f k ≡ v → ((j : ℕ) → (k == j) ≡ false → f j ≡ x.unfinished j)
+      → at (record x { unfinished = f }) ≡ changed (Unfinished (end_at x.node k)) (Put (IsFlag v)) (at x)
+  unfinished_put k v f set others =
+      state_changed (at x) (at (record x { unfinished = f })) (Unfinished (end_at x.node k)) (Put (IsFlag v))
+      (here x.node (IsFlag (f k)) (rest (Unfinished (end_at x.node k))) ∙ ap IsFlag set) others_stay
+    where
+      others_stay : (q : Place) → same_place (Unfinished (end_at x.node k)) q ≡ false
+          → at (record x { unfinished = f }) q ≡ at x q
+      others_stay (Unfinished e) apart =
+          alike (x.node == e.node) (IsFlag (f e.link)) (IsFlag (x.unfinished e.link)) (rest (Unfinished e))
+          (λ h. ap IsFlag (others e.link (second_fails (x.node == e.node) (k == e.link) apart h)))
       others_stay q apart = refl

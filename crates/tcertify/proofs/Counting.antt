@@ -10,7 +10,7 @@ use Rattle.std.proofs.lemmas.List.Elements.{All-cons, All-nil}
 use Rattle.tagents.specs.WalkAccesses.{Changes}
 use Rattle.tword.specs.declared.span.Span.{Span}
 use Rattle.tprocesses.specs.Places.{Place, WordAt, Sending, Standing, Ports, Half, LinkHalf, Error, HaltOnError}
-use Rattle.tprocesses.specs.Places.{Life, Successions, Messages, Kept, Population, HasRun, FlagChanged}
+use Rattle.tprocesses.specs.Places.{Unfinished, Life, Successions, Messages, Kept, Population, HasRun, FlagChanged}
 use Rattle.tprocesses.specs.Values.{Value, Word, IsWord, IsAmount}
 use Rattle.tprocesses.specs.Changes.{Add, Adds, apply}
 use Rattle.tprocesses.specs.Touching.{Site, count_outputs, count_words, word_count, word_number}
@@ -110,6 +110,7 @@ module _ (n : ℕ) (ws : List StoredWord) (k : ℕ) (x y : StoredWord) (there : 
   place_counted rest (Ports q) = refl
   place_counted rest (Half m l q) = refl
   place_counted rest (LinkHalf q l) = refl
+  place_counted rest (Unfinished q) = refl
   place_counted rest (Error m) = refl
   place_counted rest (HaltOnError m) = refl
   place_counted rest (Life m l) = refl

@@ -4,7 +4,7 @@ use Rattle.std.specs.Prelude.{slice_get}
 use Rattle.tproc.specs.declared.channels.Side.TheVariants.{Input, Output}
 use Rattle.tplan.specs.Wires.{end_at}
 use Rattle.tprocesses.specs.Places.{Place, Name, WordAt, Sending, Standing, Ports, Half, LinkHalf, Error}
-use Rattle.tprocesses.specs.Places.{HaltOnError, Life, Successions, Population, HasRun, FlagChanged}
+use Rattle.tprocesses.specs.Places.{Unfinished, HaltOnError, Life, Successions, Population, HasRun, FlagChanged}
 use Rattle.tprocesses.specs.Touching.{Site}
 use Rattle.tcertify.specs.declared.channel.Channel.{Channel}
 use Rattle.tcertify.specs.declared.life.Life as life
@@ -119,6 +119,7 @@ module _ (a b : Node) (h : Stays a b) where
           has_run = λ p low. fixed_at (λ m. HasRun m p) (λ f. f + 4 + p) (n.has_run p low);
           link_input = λ k low. fixed_at (λ m. LinkHalf (end_at m k) Input) (λ f. f + 6 + k) (n.link_input k low);
           link_output = λ k low. fixed_at (λ m. LinkHalf (end_at m k) Output) (λ f. f + 10 + k) (n.link_output k low);
+          unfinished = λ k low. fixed_at (λ m. Unfinished (end_at m k)) (λ f. f + 14 + k) (n.unfinished k low);
         }
 
   -- so it has grown

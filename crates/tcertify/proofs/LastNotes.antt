@@ -1,14 +1,16 @@
 -- A note that is replaced by one that tells of more.
-use Rattle.std.proofs.Common.{◌≡◌, ℕ, refl, sym, subst, ap, ◌∙◌, ◌⊎◌, inl, inr, List, length, set, true, Some}
+use Rattle.std.proofs.Common.{◌≡◌, ◌≤◌, ℕ, refl, sym, subst, ap, ◌∙◌, ◌⊎◌, inl, inr, List, length, get_or, set}
+use Rattle.std.proofs.Common.{true, Some, arith}
 use Rattle.std.specs.Prelude.{Contains, slice_get}
 use Rattle.std.proofs.lemmas.Bool.{cases_eq}
-use Rattle.std.proofs.lemmas.Option.{get_or_from_slice_get, slice_get_read, slice_get_within}
+use Rattle.std.proofs.lemmas.Option.{get_or_from_slice_get, same_Some, slice_get_read, slice_get_within}
 use Rattle.tagents.specs.WalkAccesses as walks
 use Rattle.tprocesses.specs.Places.{Place}
 use Rattle.tprocesses.specs.Changes.{ChangeKind}
+use Rattle.tcertify.specs.declared.notes.Mode.{Mode}
 use Rattle.tcertify.specs.declared.notes.Note.{Note}
 use Rattle.tcertify.specs.declared.notes.Notes.{Notes}
-use Rattle.tcertify.specs.Notes.{IsNoted, Keeps, Numbering, Tells, tells_of}
+use Rattle.tcertify.specs.Notes.{IsNoted, Keeps, MayRaise, Numbering, Tells, tells_of}
 use Rattle.tcertify.specs.Walked.{Accessed}
 use Rattle.tcertify.proofs.Places.{set_elsewhere, set_here}
 
@@ -49,14 +51,19 @@ module _ (notes : List Note) (k : ℕ) (x y : Note) (there : slice_get notes k �
           }
 
   module _ (old new : Notes) (items : old.items.items ≡ notes) (left : new.items.items ≡ set notes k y)
-      (lost : new.is_lost ≡ old.is_lost) where
-    pub replaced_keeps : Keeps old new
-    replaced_keeps =
+      (lost : new.is_lost ≡ old.is_lost) (earlier : new.earlier ≡ old.earlier) where
+    pub replaced_keeps : old.earlier ≤ k → Keeps old new
+    replaced_keeps high =
         record {
           lost = λ e. sym lost ∙ e;
           notes = λ e numbering access h. subst (λ (l : List Note). IsNoted numbering l access) (sym left)
               (still_noted numbering access
               (subst (λ (l : List Note). IsNoted numbering l access) items h));
+          earlier = earlier;
+          stay = λ j note low at.
+              let other : k ≡ j → ⊥ = λ e. omega (arith, high, low, e) in
+              ap (λ (l : List Note). slice_get l j) left ∙ set_elsewhere notes k j y other
+              ∙ ap (λ (l : List Note). slice_get l j) (sym items) ∙ at;
         }
 
     pub replaced_tells : (place : ℕ) → y.place ≡ place → Tells new place y.mode
@@ -70,3 +77,31 @@ module _ (notes : List Note) (k : ℕ) (x y : Note) (there : slice_get notes k �
                 tells = told;
               });
         }
+
+-- a note that may be raised is
+module _ (old new : Notes) (k place : ℕ) (mode : Mode) (x : Note) (may : MayRaise old k place mode)
+    (read : x ≡ get_or old.items.items k x)
+    (left : new.items.items ≡ set old.items.items k (record x { mode = mode })) (lost : new.is_lost ≡ old.is_lost)
+    (earlier : new.earlier ≡ old.earlier) where
+  abbrev raised : Note
+  raised = record x { mode = mode }
+
+  it_there : slice_get old.items.items k ≡ Some x
+  it_there =
+      slice_get_read old.items.items (length old.items.items) k x refl
+      (slice_get_within old.items.items k may.note may.there) read
+
+  it_is : may.note ≡ x
+  it_is = same_Some may.note x (sym may.there ∙ it_there)
+
+  it_tells : (p : Place) (a : walks.Mode ChangeKind) → tells_of x.mode p a ≡ true → tells_of mode p a ≡ true
+  it_tells p a e = may.tells p a (ap (λ (n : Note). tells_of n.mode p a) it_is ∙ e)
+
+  pub raised_keeps : Keeps old new
+  raised_keeps =
+      replaced_keeps old.items.items k x raised it_there refl it_tells old new refl left lost earlier may.late
+
+  pub raised_tells : Tells new place mode
+  raised_tells =
+      replaced_tells old.items.items k x raised it_there refl it_tells old new refl left lost earlier place
+      (ap (λ (n : Note). n.place) (sym it_is) ∙ may.same)

@@ -14,6 +14,8 @@ pub mod Walking
 pub mod Bytes
 -- Bytes that are fetched.
 pub mod Fetching
+-- Bytes of code.
+pub mod Chains
 -- Instructions that touch no memory.
 pub mod Plain
 -- `call`.
@@ -53,6 +55,7 @@ pub mod Operations
 pub mod NodeFlags
 -- Things that are found; processes of a node.
 pub mod Found
+pub mod Indexing
 pub mod NodeStands
 pub mod NodePorts
 -- Processes that wake, come and end.
@@ -111,3 +114,5 @@ pub mod Successors
 -- Sources and sinks.
 pub mod OneSpot
 pub mod EndMessages
+-- Alternatives over links.
+pub mod LinkChoices

@@ -10,7 +10,7 @@ use Rattle.tproc.specs.declared.channels.Side.{Side}
 use Rattle.tproc.specs.declared.channels.Side.TheVariants.{Input, Output}
 use Rattle.tproc.specs.LinkChannels as links
 use Rattle.tplan.specs.Wires.{end_at}
-use Rattle.tprocesses.specs.LinkMessages.{is_empty, lends, takes_link}
+use Rattle.tprocesses.specs.LinkMessages.{finished, is_empty, lends, takes_link}
 use Rattle.tprocesses.specs.Changes.{Put}
 use Rattle.tprocesses.specs.Parts.{Reason, Breaks, Doing, change, require, see}
 use Rattle.tprocesses.specs.Parts.{◌>>=◌, ◌>>◌}
@@ -25,10 +25,12 @@ use Rattle.tcertify.specs.declared.channel.LinkHalf.TheVariants as half
 use Rattle.tcertify.specs.declared.fault.Fault.{Fault}
 use Rattle.tcertify.specs.declared.fault.Fault.TheVariants as fault
 use Rattle.tcertify.specs.declared.node.Node.{Node}
-use Rattle.tcertify.specs.declared.stop.Stop.TheVariants as stop
+use Rattle.tcertify.specs.declared.stop.Stop as stop
+use Rattle.tcertify.specs.declared.stop.Stop.TheVariants as stops
 use Rattle.tcertify.specs.Channels.{link_of}
 use Rattle.tcertify.specs.Messages.{offers}
 use Rattle.tcertify.specs.Nodes.{Does, RunsAt, name_at, node_site, nothing}
+use Rattle.tcertify.specs.Words.{reason_of}
 use Rattle.tcertify.proofs.Following.{does_then, inside_still, runs_next, runs_then}
 use Rattle.tcertify.proofs.NodeRunning.{does_on, does_stop, runs_at_stop}
 use Rattle.tcertify.proofs.NodeRunning.{runs_at_stopped}
@@ -105,8 +107,11 @@ module _ (a : Node) (k : ℕ) (ctx : Context) (side : Side) (channel : ℕ) (buf
       change (half_at s) (Put (IsLink (value.Offered (record { process = x; buffer = buffer }))))
       >> offers s x ctx side buffer
 
+  abbrev finishes_first : Site → Name → Doing
+  finishes_first s x = finished side (end_at s.number (links.link_of side channel)) >> sets_link s x
+
   abbrev sets_link_if : Bool → Site → Name → Doing
-  sets_link_if t s x = require t (Breaks LinkBusy) >> sets_link s x
+  sets_link_if t s x = require t (Breaks LinkBusy) >> finishes_first s x
 
   abbrev asks_link : Site → Name → Doing
   asks_link s x = see (half_at s) >>= (λ (v : Value). sets_link_if (is_empty (link_in v)) s x)
@@ -134,20 +139,20 @@ module _ (a : Node) (k : ℕ) (ctx : Context) (side : Side) (channel : ℕ) (buf
       → RunsAt (takes_link (node_site a) (name_at a k) ctx side channel buffer) a (Err (Breaks Unaligned)) a
   links_unaligned e =
       by_checks false (links.is_right_end side channel) (not (buffer.size == 0)) a
-      (Err (fault.Stops (stop.Breaks Unaligned))) e refl refl (runs_at_stopped (Breaks Unaligned) a)
+      (Err (fault.Stops (stops.Breaks Unaligned))) e refl refl (runs_at_stopped (Breaks Unaligned) a)
 
   module _ (aligned : is_aligned channel ≡ true) where
     pub links_wrongly : links.is_right_end side channel ≡ false
         → RunsAt (takes_link (node_site a) (name_at a k) ctx side channel buffer) a (Err (Breaks WrongEnd)) a
     links_wrongly e =
-        by_checks true false (not (buffer.size == 0)) a (Err (fault.Stops (stop.Breaks WrongEnd))) aligned e refl
+        by_checks true false (not (buffer.size == 0)) a (Err (fault.Stops (stops.Breaks WrongEnd))) aligned e refl
         (runs_at_stopped (Breaks WrongEnd) a)
 
     module _ (right : links.is_right_end side channel ≡ true) where
       pub links_nothing : not (buffer.size == 0) ≡ false
           → RunsAt (takes_link (node_site a) (name_at a k) ctx side channel buffer) a (Err (Breaks ZeroLength)) a
       links_nothing e =
-          by_checks true true false a (Err (fault.Stops (stop.Breaks ZeroLength))) aligned right e
+          by_checks true true false a (Err (fault.Stops (stops.Breaks ZeroLength))) aligned right e
           (runs_at_stopped (Breaks ZeroLength) a)
 
       module _ (long : not (buffer.size == 0) ≡ true) (inside : k < length a.processes.items.items) (l : ℕ)
@@ -168,25 +173,42 @@ module _ (a : Node) (k : ℕ) (ctx : Context) (side : Side) (channel : ℕ) (buf
         pub links_busy : is_empty pending ≡ false
             → RunsAt (takes_link (node_site a) (name_at a k) ctx side channel buffer) a (Err (Breaks LinkBusy)) b
         links_busy e =
-            links_by false b (Err (fault.Stops (stop.Breaks LinkBusy))) e (runs_at_stopped (Breaks LinkBusy) b)
+            links_by false b (Err (fault.Stops (stops.Breaks LinkBusy))) e (runs_at_stopped (Breaks LinkBusy) b)
 
-        pub links_so : (c d : Node) (r : Result (Unit {0}) Fault) → is_empty pending ≡ true
-            → RunsAt (change (place.LinkHalf (end_at (node_site b).number l) side)
-            (Put (IsLink (value.Offered (record { process = name_at b k; buffer = buffer }))))) b (Ok tt) c
-            → Does (offers (node_site c) (name_at c k) ctx side buffer) nothing c r d
-            → Does (takes_link (node_site a) (name_at a k) ctx side channel buffer) nothing a r d
-        links_so c d r e second third =
-            links_by true d r e
-            (does_then b c d k (change (half_at (node_site b))
-            (Put (IsLink (value.Offered (record { process = name_at b k; buffer = buffer })))))
+        pub links_unfinished : (c : Node) (why : stop.Stop) → is_empty pending ≡ true
+            → RunsAt (finished side (end_at (node_site b).number l)) b (Err (reason_of why)) c
+            → RunsAt (takes_link (node_site a) (name_at a k) ctx side channel buffer) a (Err (reason_of why)) c
+        links_unfinished c why e second =
+            links_by true c (Err (fault.Stops why)) e
+            (runs_at_stop (finished side (end_at (node_site b).number (links.link_of side channel)))
+            (λ _. sets_link (node_site b) (name_at b k)) b c (reason_of why)
+            (subst (λ (n : ℕ). RunsAt (finished side (end_at (node_site b).number n)) b (Err (reason_of why)) c) named
+            second))
+
+        pub links_so : (c d g : Node) (r : Result (Unit {0}) Fault) → is_empty pending ≡ true
+            → RunsAt (finished side (end_at (node_site b).number l)) b (Ok tt) c
+            → RunsAt (change (place.LinkHalf (end_at (node_site c).number l) side)
+            (Put (IsLink (value.Offered (record { process = name_at c k; buffer = buffer }))))) c (Ok tt) d
+            → Does (offers (node_site d) (name_at d k) ctx side buffer) nothing d r g
+            → Does (takes_link (node_site a) (name_at a k) ctx side channel buffer) nothing a r g
+        links_so c d g r e second third fourth =
+            let in_b = inside_still a b k first.grows inside in
+            links_by true g r e
+            (does_then b c g k (finished side (end_at (node_site b).number (links.link_of side channel)))
+            (λ s x _. sets_link s x) tt (subst (λ (n : ℕ). RunsAt (finished side (end_at (node_site b).number n)) b
+            (Ok tt) c) named second) in_b nothing r
+            (does_then c d g k (change (half_at (node_site c))
+            (Put (IsLink (value.Offered (record { process = name_at c k; buffer = buffer })))))
             (λ s x _. offers s x ctx side buffer) tt
-            (subst (λ (n : ℕ). RunsAt (change (place.LinkHalf (end_at (node_site b).number n) side)
-            (Put (IsLink (value.Offered (record { process = name_at b k; buffer = buffer }))))) b (Ok tt) c) named
-            second)
-            (inside_still a b k first.grows inside) nothing r third)
+            (subst (λ (n : ℕ). RunsAt (change (place.LinkHalf (end_at (node_site c).number n) side)
+            (Put (IsLink (value.Offered (record { process = name_at c k; buffer = buffer }))))) c (Ok tt) d) named
+            third)
+            (inside_still b c k second.grows in_b) nothing r fourth))
 
 -- what pends where not nothing does
 pub is_taken : (names : List Name) (h : LinkHalf) → (h ≡ half.Empty → ⊥) → is_empty (link_of names h) ≡ false
 is_taken names half.Empty n = absurd (n refl)
 is_taken names (half.Offered r) n = refl
-is_taken names half.Copied n = refl
+is_taken names (half.Enabled k) n = refl
+is_taken names (half.Awaited k) n = refl
+is_taken names (half.Fired k) n = refl

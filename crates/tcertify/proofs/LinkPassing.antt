@@ -18,7 +18,7 @@ use Rattle.tprocesses.specs.Places.{Name}
 use Rattle.tprocesses.specs.Standing.{wakes}
 use Rattle.tprocesses.specs.Touching.{Site, part_of, put, replaced, touch, word_count, word_number, words_for}
 use Rattle.tprocesses.specs.Values as value
-use Rattle.tprocesses.specs.Values.{Free, IsLink, Link, Receiving, Value, link_in}
+use Rattle.tprocesses.specs.Values.{Free, IsFlag, IsLink, Link, Receiving, Value, link_in}
 use Rattle.tcertify.specs.declared.channel.LinkHalf.{LinkHalf}
 use Rattle.tcertify.specs.declared.channel.LinkHalf.TheVariants as half
 use Rattle.tcertify.specs.declared.channel.Request.{Request}
@@ -59,8 +59,12 @@ module _ (a b : Node) (l : ℕ) where
     abbrev wakes_sender : Name → Store → Part Store
     wakes_sender x words = wakes x (Some (record { link = l; buffer = buffer })) >> gives_bytes words
 
+    abbrev is_unfinished : Site → Name → Store → Part Store
+    is_unfinished s x words = change (place.Unfinished (its_end s)) (Put (IsFlag true)) >> wakes_sender x words
+
     abbrev is_sent : Site → Name → Store → Part Store
-    is_sent s x words = change (place.LinkHalf (its_end s) Output) (Put (IsLink value.Copied)) >> wakes_sender x words
+    is_sent s x words =
+        change (place.LinkHalf (its_end s) Output) (Put (IsLink value.Empty)) >> is_unfinished s x words
 
     abbrev reads_first : Site → Name → Part Store
     reads_first s x = touch s Reads buffer >>= is_sent s x
@@ -81,33 +85,38 @@ module _ (a b : Node) (l : ℕ) where
           (runs_at_stop (touch (node_site b) Reads buffer) (is_sent (node_site b) (name_at b i)) b c why h)
 
       module _ (words : Store) (second : RunsAt (touch (node_site b) Reads buffer) b (Ok words) c) (d : Node)
-          (third : RunsAt (change (place.LinkHalf (its_end (node_site c)) Output) (Put (IsLink value.Copied))) c (Ok tt)
+          (third : RunsAt (change (place.LinkHalf (its_end (node_site c)) Output) (Put (IsLink value.Empty))) c (Ok tt)
           d)
+          (g : Node)
+          (fourth : RunsAt (change (place.Unfinished (its_end (node_site d))) (Put (IsFlag true))) d (Ok tt) g)
           (e : Node) where
-        sends_on : (r : Result Store Reason) → RunsAt (wakes_sender (name_at d i) words) d r e
+        sends_on : (r : Result Store Reason) → RunsAt (wakes_sender (name_at g i) words) g r e
             → RunsAt (node_sends (its_end (node_site a)) (node_site a)) a r e
         sends_on r h =
             let in_b = inside_still a b i first.grows inside in
             let in_c = inside_still b c i second.grows in_b in
+            let in_d = inside_still c d i third.grows in_c in
             sends_by e r
             (runs_then b c e i (touch (node_site b) Reads buffer) (λ s x ws. is_sent s x ws) words second in_b r
-            (runs_then c d e i (change (place.LinkHalf (its_end (node_site c)) Output) (Put (IsLink value.Copied)))
-            (λ s x _. wakes_sender x words) tt third in_c r h))
+            (runs_then c d e i (change (place.LinkHalf (its_end (node_site c)) Output) (Put (IsLink value.Empty)))
+            (λ s x _. is_unfinished s x words) tt third in_c r
+            (runs_then d g e i (change (place.Unfinished (its_end (node_site d))) (Put (IsFlag true)))
+            (λ s x _. wakes_sender x words) tt fourth in_d r h)))
 
         pub sends_unwoken : (why : Reason)
-            → RunsAt (wakes (name_at d i) (Some (record { link = l; buffer = buffer }))) d (Err why) e
+            → RunsAt (wakes (name_at g i) (Some (record { link = l; buffer = buffer }))) g (Err why) e
             → RunsAt (node_sends (its_end (node_site a)) (node_site a)) a (Err why) e
         sends_unwoken why h =
             sends_on (Err why)
-            (runs_at_stop (wakes (name_at d i) (Some (record { link = l; buffer = buffer }))) (λ _. gives_bytes words) d
+            (runs_at_stop (wakes (name_at g i) (Some (record { link = l; buffer = buffer }))) (λ _. gives_bytes words) g
             e
             why h)
 
-        pub sends_so : RunsAt (wakes (name_at d i) (Some (record { link = l; buffer = buffer }))) d (Ok tt) e
+        pub sends_so : RunsAt (wakes (name_at g i) (Some (record { link = l; buffer = buffer }))) g (Ok tt) e
             → RunsAt (node_sends (its_end (node_site a)) (node_site a)) a (Ok (part_of buffer words)) e
         sends_so h =
             sends_on (Ok (part_of buffer words))
-            (runs_at_on (wakes (name_at d i) (Some (record { link = l; buffer = buffer }))) (λ _. gives_bytes words) d e
+            (runs_at_on (wakes (name_at g i) (Some (record { link = l; buffer = buffer }))) (λ _. gives_bytes words) g e
             e
             tt (Ok (part_of buffer words)) h (runs_at_given (part_of buffer words) e))
 
@@ -197,10 +206,14 @@ pub unsent_link : (names : List Name) (h : LinkHalf) → ((r : Request) → h �
     → sent_by s f (link_of names h) ≡ stopping HasNoStep
 unsent_link names half.Empty n f s = refl
 unsent_link names (half.Offered r) n f s = absurd (n r refl)
-unsent_link names half.Copied n f s = refl
+unsent_link names (half.Enabled k) n f s = refl
+unsent_link names (half.Awaited k) n f s = refl
+unsent_link names (half.Fired k) n f s = refl
 
 pub unasked_link : (names : List Name) (message : Store) (h : LinkHalf) → ((r : Request) → h ≡ half.Offered r → ⊥)
     → (e : End) (s : Site) → received_by s e message (link_of names h) ≡ stopping HasNoStep
 unasked_link names message half.Empty n e s = refl
 unasked_link names message (half.Offered r) n e s = absurd (n r refl)
-unasked_link names message half.Copied n e s = refl
+unasked_link names message (half.Enabled k) n e s = refl
+unasked_link names message (half.Awaited k) n e s = refl
+unasked_link names message (half.Fired k) n e s = refl

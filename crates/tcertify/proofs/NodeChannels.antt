@@ -22,7 +22,7 @@ use Rattle.tcertify.specs.declared.side.Side.{Side}
 use Rattle.tcertify.specs.declared.side.Side.TheVariants.{Input, Output}
 use Rattle.tcertify.specs.Boards.{board_at}
 use Rattle.tcertify.specs.Channels.{IsLinkSet, address_of, half_among, half_of, halves_of, link_among, link_of}
-use Rattle.tcertify.specs.Channels.{link_or_empty}
+use Rattle.tcertify.specs.Channels.{link_or_empty, unfinished_among}
 use Rattle.tcertify.specs.Channels.{holder_of, held_half, with_holder}
 use Rattle.tcertify.specs.Finding.{AreApart, IsFound}
 use Rattle.tcertify.specs.Nodes.{address_at, board_of, names, node_at}
@@ -241,10 +241,10 @@ link_seen a k side h there rest =
 -- what pends at a half of a link
 halves_set : (old new : Links) (k : ℕ) (side : Side) (g h : LinkHalf) → slice_get (halves_of side old) k ≡ Some g
     → IsLinkSet old k side h new → slice_get (halves_of side new) k ≡ Some h
-halves_set old new k Input g h there (set, same) =
-    ap (λ (xs : List LinkHalf). slice_get xs k) set ∙ set_here old.inputs k h g there
-halves_set old new k Output g h there (set, same) =
-    ap (λ (xs : List LinkHalf). slice_get xs k) set ∙ set_here old.outputs k h g there
+halves_set old new k Input g h there set =
+    ap (λ (l : Links). slice_get l.inputs k) set ∙ set_here old.inputs k h g there
+halves_set old new k Output g h there set =
+    ap (λ (l : Links). slice_get l.outputs k) set ∙ set_here old.outputs k h g there
 
 number_else : (j k : ℕ) (s : Bool) → ((j == k) && s) ≡ false → s ≡ true → j ≡ k → ⊥
 number_else j k s e holds same = cc (e, holds, eq-eqb j k same)
@@ -252,14 +252,20 @@ number_else j k s e holds same = cc (e, holds, eq-eqb j k same)
 halves_else : (old new : Links) (k : ℕ) (side : Side) (h : LinkHalf) → IsLinkSet old k side h new → (j : ℕ) (t : Side)
     → ((k == j) && same_side (side_of side) (side_of t)) ≡ false
     → slice_get (halves_of t new) j ≡ slice_get (halves_of t old) j
-halves_else old new k Input h (set, same) j Input e =
-    ap (λ (xs : List LinkHalf). slice_get xs j) set
+halves_else old new k Input h set j Input e =
+    ap (λ (l : Links). slice_get l.inputs j) set
     ∙ set_elsewhere old.inputs k j h (number_else k j true e refl)
-halves_else old new k Input h (set, same) j Output e = ap (λ (xs : List LinkHalf). slice_get xs j) same
-halves_else old new k Output h (set, same) j Input e = ap (λ (xs : List LinkHalf). slice_get xs j) same
-halves_else old new k Output h (set, same) j Output e =
-    ap (λ (xs : List LinkHalf). slice_get xs j) set
+halves_else old new k Input h set j Output e = ap (λ (l : Links). slice_get l.outputs j) set
+halves_else old new k Output h set j Input e = ap (λ (l : Links). slice_get l.inputs j) set
+halves_else old new k Output h set j Output e =
+    ap (λ (l : Links). slice_get l.outputs j) set
     ∙ set_elsewhere old.outputs k j h (number_else k j true e refl)
+
+-- which outputs are unfinished stays
+unfinished_still : (old new : Links) (k : ℕ) (side : Side) (h : LinkHalf) → IsLinkSet old k side h new
+    → unfinished_among new ≡ unfinished_among old
+unfinished_still old new k Input h set = ap unfinished_among set
+unfinished_still old new k Output h set = ap unfinished_among set
 
 pub link_state : (a : Node) (new : Links) (k : ℕ) (side : Side) (g h : LinkHalf)
     → slice_get (halves_of side a.links) k ≡ Some g → IsLinkSet a.links k side h new → (rest : State)
@@ -269,7 +275,11 @@ pub link_state : (a : Node) (new : Links) (k : ℕ) (side : Side) (g h : LinkHal
     ≡ changed (place.LinkHalf (end_at a.words.number k) (side_of side)) (Put (IsLink (link_of (names a) h)))
     (node_at a rest)
 link_state a new k side g h there set rest =
-    link_put a.words.number a.words.items.items (board_of a) rest k (side_of side) (link_of (names a) h)
+    ap (λ (f : ℕ → Bool). with_words a.words.number a.words.items.items (board_at (record (board_of a) {
+      link = link_among (names a) new;
+      unfinished = f;
+    }) rest)) (unfinished_still a.links new k side h set)
+    ∙ link_put a.words.number a.words.items.items (board_of a) rest k (side_of side) (link_of (names a) h)
     (link_among (names a) new)
     (link_at (names a) new k side ∙ ap (link_or_empty (names a)) (halves_set a.links new k side g h there set))
     (λ j t. by_sides (λ u. ((k == j) && same_side (side_of side) u) ≡ false

@@ -1,5 +1,5 @@
 -- Halves of channels and links that are looked at and set.
-use Rattle.std.proofs.Common.{◌≡◌, ◌<◌, ℕ, zero, suc, refl, sym, ap, ◌∙◌, subst, false, List, [], ◌∷◌, ◌++◌}
+use Rattle.std.proofs.Common.{◌≡◌, ◌<◌, ℕ, zero, suc, refl, sym, ap, ◌∙◌, subst, Bool, false, List, [], ◌∷◌, ◌++◌}
 use Rattle.std.proofs.Common.{Some}
 use Rattle.std.proofs.Common.{arith, get_or, length, ◌⊎◌, inl, inr}
 use Rattle.std.specs.Prelude.{Contains, option_map, slice_get, slice_set}
@@ -7,7 +7,7 @@ use Rattle.std.proofs.lemmas.Bool.{cases_eq}
 use Rattle.std.proofs.lemmas.Option.{slice_get-get_or, slice_get-map, same_Some}
 use Rattle.tagents.specs.Walks.{Sight}
 use Rattle.tplan.specs.Wires.{end_at}
-use Rattle.tprocesses.specs.Machine.{is_met_at, is_offered}
+use Rattle.tprocesses.specs.Machine.{is_due_at, is_met_at}
 use Rattle.tprocesses.specs.Places as place
 use Rattle.tprocesses.specs.Places.{Name, Place}
 use Rattle.tprocesses.specs.Values.{IsHalf, IsLink, Value, half_in, link_in}
@@ -17,14 +17,13 @@ use Rattle.tcertify.specs.declared.channel.LinkHalf.{LinkHalf}
 use Rattle.tcertify.specs.declared.channel.LinkHalf.TheVariants as half
 use Rattle.tcertify.specs.declared.channel.Links.{Links}
 use Rattle.tcertify.specs.declared.channel.Holder.{Holder}
-use Rattle.tcertify.specs.declared.channel.Request.{Request}
 use Rattle.tcertify.specs.declared.lead.Lead.{Lead}
 use Rattle.tcertify.specs.declared.lead.Lead.TheVariants as lead
 use Rattle.tcertify.specs.declared.node.Node.{Node}
 use Rattle.tcertify.specs.declared.side.Side.{Side}
 use Rattle.tcertify.specs.declared.side.Side.TheVariants.{Input, Output}
-use Rattle.tcertify.specs.Channels.{AreKnown, IsKnownHalf, IsKnownHolder, IsLinkSet, address_of, free_channel, half_of}
-use Rattle.tcertify.specs.Channels.{halves_of, with_holder}
+use Rattle.tcertify.specs.Channels.{AreKnown, IsKnownHalf, IsKnownHolder, IsLinkSet, IsUnfinishedSet, address_of}
+use Rattle.tcertify.specs.Channels.{free_channel, half_of, halves_of, with_holder}
 use Rattle.tcertify.specs.Nodes.{HasLead, IsLed, NumbersNode, address_at, addresses, link_place}
 use Rattle.tcertify.specs.Notes.{Numbering}
 use Rattle.tcertify.specs.Sides.{side_of}
@@ -80,9 +79,9 @@ half_leads m b k c side o told there shut = (
   ),
 )
 
--- a half of a link at which nothing was seen to be offered
+-- a half of a link at which a wire was seen not to go on
 pub link_leads : (m b : Node) (k : ℕ) (side : Side) (l : value.Link) → HasLead m (lead.Link k side) b
-    → is_offered l ≡ false
+    → is_due_at (side_of side) l ≡ false
     → IsLed b (record { place = place.LinkHalf (end_at m.words.number k) (side_of side); value = IsLink l } ∷ []) []
     (lead.Link k side)
 link_leads m b k side l told shut =
@@ -95,15 +94,6 @@ link_leads m b k side l told shut =
           (number_told m b (lead.Link k side) told) (0, omega arith, refl);
       shut = shut;
     }
-
--- whoever waits is known
-pub known_half : (n : ℕ) (l : LinkHalf) → ((r : Request) → l ≡ half.Offered r → r.process < n) → IsKnownHalf n l
-known_half n half.Empty h = tt
-known_half n (half.Offered r) h = h r refl
-known_half n half.Copied h = tt
-
-half_so : (n : ℕ) (l : LinkHalf) (q : Request) → IsKnownHalf n l → l ≡ half.Offered q → q.process < n
-half_so n l q h e = let P : LinkHalf → Type 0 = IsKnownHalf n in subst P e h
 
 -- a half that is set keeps that
 asked : (side t : Side) (h : Holder) (c : Channel) (n : ℕ) → IsKnownHolder n h
@@ -174,27 +164,44 @@ known_link n cs l m k side g h known there set new =
     }
   where
     in_list : (t : Side) (xs ys : List LinkHalf) → halves_of t l ≡ xs → slice_get xs k ≡ Some g
-        → ys ≡ slice_set xs k h → (j : ℕ) (q : Request) → slice_get ys j ≡ Some (half.Offered q) → q.process < n
+        → ys ≡ slice_set xs k h → (j : ℕ) (q : LinkHalf) → slice_get ys j ≡ Some q → IsKnownHalf n q
     in_list t xs ys is here put j q at = by (cases_eq k j)
       where
-        by : (k ≡ j) ⊎ (k ≡ j → ⊥) → q.process < n
+        by : (k ≡ j) ⊎ (k ≡ j → ⊥) → IsKnownHalf n q
         by (inl e) =
-            half_so n h q new
-            (same_Some h (half.Offered q) (sym (set_here xs k h g here)
-            ∙ ap (λ (zs : List LinkHalf). slice_get zs k) (sym put) ∙ ap (slice_get ys) e ∙ at))
+            let same : h ≡ q = same_Some h q (sym (set_here xs k h g here)
+            ∙ ap (λ (zs : List LinkHalf). slice_get zs k) (sym put) ∙ ap (slice_get ys) e ∙ at) in
+            subst (λ (x : LinkHalf). IsKnownHalf n x) same new
         by (inr ne) =
             known.at_links j t q
             (ap (λ (zs : List LinkHalf). slice_get zs j) is ∙ sym (set_elsewhere xs k j h ne)
             ∙ ap (λ (zs : List LinkHalf). slice_get zs j) (sym put) ∙ at)
 
-    asks : (s t : Side) (j : ℕ) (q : Request) → slice_get (halves_of s l) k ≡ Some g → IsLinkSet l k s h m
-        → slice_get (halves_of t m) j ≡ Some (half.Offered q) → q.process < n
-    asks Input Input j q here (put, same) at = in_list Input l.inputs m.inputs refl here put j q at
-    asks Input Output j q here (put, same) at =
-        known.at_links j Output q (ap (λ (zs : List LinkHalf). slice_get zs j) (sym same) ∙ at)
-    asks Output Input j q here (put, same) at =
-        known.at_links j Input q (ap (λ (zs : List LinkHalf). slice_get zs j) (sym same) ∙ at)
-    asks Output Output j q here (put, same) at = in_list Output l.outputs m.outputs refl here put j q at
+    -- the halves of a side behind it
+    list_of : (t : Side) (o : Links) → m ≡ o → halves_of t m ≡ halves_of t o
+    list_of t o e = ap (halves_of t) e
+
+    asks : (s t : Side) (j : ℕ) (q : LinkHalf) → slice_get (halves_of s l) k ≡ Some g → IsLinkSet l k s h m
+        → slice_get (halves_of t m) j ≡ Some q → IsKnownHalf n q
+    asks Input Input j q here put at = in_list Input l.inputs m.inputs refl here (list_of Input _ put) j q at
+    asks Input Output j q here put at =
+        known.at_links j Output q (ap (λ (zs : List LinkHalf). slice_get zs j) (sym (list_of Output _ put)) ∙ at)
+    asks Output Input j q here put at =
+        known.at_links j Input q (ap (λ (zs : List LinkHalf). slice_get zs j) (sym (list_of Input _ put)) ∙ at)
+    asks Output Output j q here put at = in_list Output l.outputs m.outputs refl here (list_of Output _ put) j q at
+
+-- where the output of one is over, or has gone over, all halves stay
+pub known_finished : (n : ℕ) (cs : List Channel) (l m : Links) (k : ℕ) (u : Bool) → AreKnown n cs l
+    → IsUnfinishedSet l k u m → AreKnown n cs m
+known_finished n cs l m k u known set =
+    subst (λ (o : Links). AreKnown n cs o) (sym set)
+    (record { at_channels = known.at_channels; at_links = λ j t q at. known.at_links j t q (stays j t q at) })
+  where
+    stays : (j : ℕ) (t : Side) (q : LinkHalf)
+        → slice_get (halves_of t (record l { unfinished = slice_set l.unfinished k u })) j ≡ Some q
+        → slice_get (halves_of t l) j ≡ Some q
+    stays j Input q at = at
+    stays j Output q at = at
 
 -- a half of a link that the node has
 pub half_is_there : (l : Links) (k : ℕ) (side : Side) → k < length l.inputs → k < length l.outputs

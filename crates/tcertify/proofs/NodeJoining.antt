@@ -30,7 +30,7 @@ use Rattle.tcertify.specs.declared.side.Side.{Side}
 use Rattle.tcertify.specs.declared.side.Side.TheVariants.{Input, Output}
 use Rattle.tcertify.specs.Boards.{board_at}
 use Rattle.tcertify.specs.Channels.{AreKnown, half_among, half_of, halves_of, link_among, link_of, link_or_empty}
-use Rattle.tcertify.specs.Channels.{IsKnownHolder, held_half, holder_of, request_of}
+use Rattle.tcertify.specs.Channels.{IsKnownHalf, IsKnownHolder, held_half, holder_of, request_of}
 use Rattle.tcertify.specs.Finding.{IsFound}
 use Rattle.tcertify.specs.Nodes.{IsLed, NumbersNode, RunsAt, board_of, names, node_at}
 use Rattle.tcertify.specs.Notes.{IsNoted, Keeps, Numbering, Tells}
@@ -72,12 +72,13 @@ holder_before ns x (holder.Taken r) low = ap value.TakenBy (request_before ns x 
 holder_before ns x (holder.Enabled k) low = ap value.EnabledBy (name_before ns x k (low k refl))
 holder_before ns x (holder.Awaited k) low = ap value.AwaitedBy (name_before ns x k (low k refl))
 
-link_before : (ns : List Name) (x : Name) (l : LinkHalf) → ((r : Request) → l ≡ half.Offered r → r.process < length ns)
+link_before : (ns : List Name) (x : Name) (l : LinkHalf) → IsKnownHalf (length ns) l
     → link_of (ns ++ x ∷ []) l ≡ link_of ns l
 link_before ns x half.Empty low = refl
-link_before ns x (half.Offered r) low =
-    ap value.Offered (request_before ns x r (low r refl))
-link_before ns x half.Copied low = refl
+link_before ns x (half.Offered r) low = ap value.Offered (request_before ns x r (low r.process refl))
+link_before ns x (half.Enabled k) low = ap value.Enabled (name_before ns x k (low k refl))
+link_before ns x (half.Awaited k) low = ap value.Awaited (name_before ns x k (low k refl))
+link_before ns x (half.Fired k) low = ap value.Fired (name_before ns x k (low k refl))
 
 -- one that is found is there
 pub find_there : {X : Type 0} (test : X → Bool) (xs : List X) (x : X) → find test xs ≡ Some x
@@ -113,7 +114,7 @@ module _ (ns : List Name) (x : Name) (cs : List Channel) (l : Links) (known : Ar
       → link_or_empty (ns ++ x ∷ []) o ≡ link_or_empty ns o
   pending_before side k None at = refl
   pending_before side k (Some h) at =
-      link_before ns x h (λ r e. known.at_links k side r (at ∙ ap Some e))
+      link_before ns x h (known.at_links k side h at)
 
   links_before : link_among (ns ++ x ∷ []) l ≡ link_among ns l
   links_before = λ i k side. at k side i

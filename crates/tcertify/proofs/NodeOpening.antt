@@ -1,7 +1,7 @@
 -- A node before the first step: its processes come one after another.
 use Rattle.std.proofs.Common.{◌≡◌, ◌+◌, ◌*◌, ℕ, zero, suc, refl, sym, ap, ◌∙◌, Bool, true, false, List, [], ◌∷◌, ◌++◌}
 use Rattle.std.proofs.Common.{Option, Some, None, Result, Ok, Err, length, length-append, pos, eq-eqb, cond, add-zero}
-use Rattle.std.specs.Prelude.{◌==◌, ◌&&◌, ◌||◌, slice_get, if◌then◌else◌}
+use Rattle.std.specs.Prelude.{◌==◌, ◌&&◌, ◌||◌, slice_get, unwrap_or, if◌then◌else◌}
 use Rattle.std.specs.List.{count_by, list_any}
 use Rattle.std.proofs.lemmas.Bool.{eqb-true}
 use Rattle.std.proofs.lemmas.List.Sums.{sum_by-append}
@@ -18,7 +18,7 @@ use Rattle.tprocesses.specs.Opening.{has_priority, lives, of_node, opened_stand,
 use Rattle.tprocesses.specs.Parts.{Breaks, Doing, HasNoStep, Reason, change, require, ◌>>◌}
 use Rattle.tprocesses.specs.Places.{Place, Name, Root, Image, After, WordAt, Sending, Standing, Ports, Half, LinkHalf}
 use Rattle.tprocesses.specs.Places.{Error, HaltOnError, Life, Successions, Messages, Kept, Population, HasRun}
-use Rattle.tprocesses.specs.Places.{FlagChanged}
+use Rattle.tprocesses.specs.Places.{FlagChanged, Unfinished}
 use Rattle.tprocesses.specs.Places.{same_name}
 use Rattle.tprocesses.specs.Standing.{comes, fresh, is_absent, stands}
 use Rattle.tprocesses.specs.Touching.{Site, is_zero}
@@ -31,7 +31,7 @@ use Rattle.tcertify.specs.declared.node.Node.{Node}
 use Rattle.tcertify.specs.declared.side.Side.TheVariants.{Input, Output}
 use Rattle.tcertify.specs.declared.stored.StoredWord.{StoredWord}
 use Rattle.tcertify.specs.Boards.{has_run_at}
-use Rattle.tcertify.specs.Channels.{half_among, link_among, link_of, link_or_empty}
+use Rattle.tcertify.specs.Channels.{half_among, link_among, link_of, link_or_empty, unfinished_among}
 use Rattle.tcertify.specs.Lives.{lives_at, successors_at}
 use Rattle.tcertify.specs.NodeOpened.{HasNothing}
 use Rattle.tcertify.specs.Nodes.{names, node_at}
@@ -333,9 +333,14 @@ module _ (plan : NodePlan) (number first : ℕ) (node : Node) (h : HasNothing pl
 
   no_link : (k : ℕ) (s : machine.Side) → link_among (names node) node.links k s ≡ Empty
   no_link k machines.Input =
-      empty_or (slice_get node.links.inputs k) (λ x e. ap (link_of (names node)) (h.links k Input x e))
+      empty_or (slice_get node.links.inputs k) (λ x e. ap (link_of (names node)) (h.links.halves k Input x e))
   no_link k machines.Output =
-      empty_or (slice_get node.links.outputs k) (λ x e. ap (link_of (names node)) (h.links k Output x e))
+      empty_or (slice_get node.links.outputs k) (λ x e. ap (link_of (names node)) (h.links.halves k Output x e))
+
+  -- each output is over
+  over : (o : Option Bool) → ((u : Bool) → o ≡ Some u → u ≡ false) → unwrap_or o false ≡ false
+  over None all = refl
+  over (Some u) all = all u refl
 
   at_place : (z : Place) → node_at node opening z ≡ opening_with p number plan [] z
   at_place (WordAt m k) =
@@ -368,6 +373,9 @@ module _ (plan : NodePlan) (number first : ℕ) (node : Node) (h : HasNothing pl
   at_place (LinkHalf e s) =
       same_if (node.words.number == e.node) (IsLink (link_among (names node) node.links e.link s))
       (opening (LinkHalf e s)) (λ t. ap IsLink (no_link e.link s))
+  at_place (Unfinished e) =
+      same_if (node.words.number == e.node) (IsFlag (unfinished_among node.links e.link)) (opening (Unfinished e))
+      (λ t. ap IsFlag (over (slice_get node.links.unfinished e.link) (h.links.finished e.link)))
   at_place (Error m) =
       same_if (node.words.number == m) (IsFlag node.error) (opening (Error m)) (λ e. ap IsFlag h.error)
   at_place (HaltOnError m) =

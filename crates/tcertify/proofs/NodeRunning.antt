@@ -9,7 +9,7 @@ use Rattle.std.proofs.lemmas.Option.{slice_get-get_or}
 use Rattle.tagents.specs.Walks.{Sight}
 use Rattle.tplan.specs.Wires.{end_at}
 use Rattle.tprocesses.specs.Places.{Place, Name, Image, WordAt, Half, LinkHalf}
-use Rattle.tprocesses.specs.Machine.{is_met_at, is_offered}
+use Rattle.tprocesses.specs.Machine.{is_due_at, is_met_at}
 use Rattle.tprocesses.specs.Changes.{Decrement}
 use Rattle.tprocesses.specs.Values.{Value, half_in, link_in}
 use Rattle.tprocesses.specs.Parts.{Reason, Part, Changed, done, gives, stopping, seeing, changing, telling, ◌>>=◌}
@@ -107,10 +107,12 @@ keeps_on a b c g h =
     record {
       lost = λ e. g.lost (h.lost e);
       notes = λ e numbering x n. h.notes e numbering x (g.notes (h.lost e) numbering x n);
+      earlier = h.earlier ∙ g.earlier;
+      stay = λ k note low at. h.stay k note (subst (λ (n : ℕ). k < n) (sym g.earlier) low) (g.stay k note low at);
     }
 
 pub keeps_all : (a : Notes) → Keeps a a
-keeps_all a = record { lost = λ e. e; notes = λ e numbering x n. n }
+keeps_all a = record { lost = λ e. e; notes = λ e numbering x n. n; earlier = refl; stay = λ k note low at. at }
 
 -- the number of a node
 pub number_stays : (a b : Node) → Grows a b → a.words.number ≡ b.words.number
@@ -143,7 +145,8 @@ led_first a b g seen more deeds rest (lead.Channel k) (c, at, (side, h)) = (
 )
 led_first a b g seen more deeds rest (lead.Link l side) h =
     shut_first seen more _ _
-    (subst (λ (n : ℕ). IsSeenShut seen (LinkHalf (end_at n l) (side_of side)) (λ v. is_offered (link_in v)))
+    (subst (λ (n : ℕ). IsSeenShut seen (LinkHalf (end_at n l) (side_of side))
+    (λ v. is_due_at (side_of side) (link_in v)))
     (number_stays a b g) h)
 led_first a b g seen more deeds rest (lead.Count k) (p, h) = (
   p,

@@ -1,9 +1,12 @@
 -- Where the processes of a node stand.
-use Rattle.std.proofs.Common.{◌≡◌, ◌≤◌, ℕ, refl, sym, ap, ◌∙◌, subst, true, false, List, [], ◌∷◌, Option, Some, arith}
+use Rattle.std.proofs.Common.{◌≡◌, ◌≤◌, ◌<◌, ℕ, refl, sym, ap, ◌∙◌, subst, true, false, List, [], ◌∷◌, Option, Some}
+use Rattle.std.proofs.Common.{Result, Ok, Err, inl, inr, length, arith}
 use Rattle.std.specs.Prelude.{map, slice_get, slice_set, unwrap_or, option_map}
-use Rattle.std.proofs.lemmas.Option.{slice_get-map}
+use Rattle.std.proofs.lemmas.Option.{slice_get-map, slice_get_cases}
 use Rattle.tprocesses.specs.Places.{Name, Image, Standing, same_name}
-use Rattle.tprocesses.specs.Values.{IsStand}
+use Rattle.tprocesses.specs.Parts.{Reason, see}
+use Rattle.tprocesses.specs.Values.{IsStand, Value, stand_in}
+use Rattle.tprocesses.specs.Values as value
 use Rattle.tprocesses.specs.Changes.{Put}
 use Rattle.tprocesses.specs.Machine.{is_ready}
 use Rattle.tcertify.specs.declared.channel.Channel.{Channel}
@@ -11,15 +14,19 @@ use Rattle.tcertify.specs.declared.channel.Links.{Links}
 use Rattle.tcertify.specs.declared.lead.Lead.TheVariants as lead
 use Rattle.tcertify.specs.declared.node.Node.{Node}
 use Rattle.tcertify.specs.declared.process.Process.{Process}
+use Rattle.tcertify.specs.declared.context.Context.{Context}
 use Rattle.tcertify.specs.declared.standing.Stand.{Stand}
+use Rattle.tcertify.specs.declared.standing.Stand.TheVariants as stand
 use Rattle.tcertify.specs.Boards.{board_at}
 use Rattle.tcertify.specs.Channels.{AreKnown, half_among, link_among}
+use Rattle.tcertify.specs.Contexts.{context_of}
 use Rattle.tcertify.specs.Finding.{AreApart}
-use Rattle.tcertify.specs.Nodes.{HasLead, IsLed, NumbersNode, board_of, name_at, names, node_at}
+use Rattle.tcertify.specs.Nodes.{HasLead, IsLed, NumbersNode, RunsAt, board_of, name_at, names, node_at}
 use Rattle.tcertify.specs.Notes.{Numbering}
 use Rattle.tcertify.specs.Processes.{name_of, ports_among, ports_or_none, stand_among, stand_or_absent}
 use Rattle.tcertify.specs.Running.{State, changed}
 use Rattle.tcertify.specs.Standing.{stand_of}
+use Rattle.tcertify.specs.Steps.{IsRunning}
 use Rattle.tcertify.specs.Words.{with_words}
 use Rattle.tcertify.proofs.BoardChanges.{here, stand_put}
 use Rattle.tcertify.proofs.Found.{find_apart, find_else, find_same, map_set}
@@ -112,6 +119,46 @@ stand_seen a k p there rest =
     ∙ here a.words.number (IsStand (stand_among a.words.number a.processes.items.items (name_of a.words.number p)))
     (rest (Standing (name_of a.words.number p)))
     ∙ ap IsStand (stand_found a.words.number a.processes.items.items k p a.processes.apart there)
+
+-- a process of which this is where it stands runs
+pub running_there : (a : Node) (k : ℕ) (p : Process) (c : Context) → slice_get a.processes.items.items k ≡ Some p
+    → IsRunning a k c → p.stand ≡ stand.Runs c
+running_there a k p c there h =
+    let e : Some p.stand ≡ Some (stand.Runs c) = ap (option_map (λ (q : Process). q.stand)) (sym there) ∙ h in cc
+
+-- a process that does not run is never seen to run
+module _ (a b : Node) (k : ℕ) (c : Context) (still : (d : Context) → IsRunning a k d → ⊥)
+    (seen : RunsAt (see (Standing (name_at a k))) a (Ok (IsStand (value.Runs (context_of c)))) b) where
+  stands_else : (p : Process) (s : Stand) → slice_get a.processes.items.items k ≡ Some p → p.stand ≡ s
+      → value.Runs (context_of c) ≡ stand_of s → ⊥
+  stands_else p stand.Absent there e is = cc
+  stands_else p (stand.Rests d) there e is = cc
+  stands_else p (stand.Runs d) there e is =
+      still d (ap (option_map (λ (q : Process). q.stand)) there ∙ ap Some e)
+  stands_else p (stand.Waits d) there e is = cc
+  stands_else p (stand.Chooses d) there e is = cc
+  stands_else p (stand.Chosen d) there e is = cc
+  stands_else p (stand.Listens n d) there e is = cc
+  stands_else p stand.Ended there e is = cc
+
+  value_or : Result Value Reason → Value
+  value_or (Ok v) = v
+  value_or (Err why) = IsStand value.Absent
+
+  never_found : (p : Process) → slice_get a.processes.items.items k ≡ Some p → ⊥
+  unfolding value_or
+  never_found p there =
+      let rest : State = (λ q. IsStand value.Absent) in
+      let run : node_at a rest (Standing (name_at a k)) ≡ IsStand (value.Runs (context_of c)) =
+      ap (λ (r : Result Value Reason × State). value_or r.0) (seen.runs rest) in
+      stands_else p p.stand there refl (ap stand_in (sym run ∙ stand_seen a k p there rest))
+
+  pub never_runs : k < length a.processes.items.items → ⊥
+  never_runs low =
+      elim (slice_get_cases a.processes.items.items k).1 [
+        | inl found ↦ never_found found.0 found.2
+        | inr past ↦ omega (arith, past.0)
+      ]
 
 -- the number of its place
 pub stand_number : (a : Node) (k : ℕ) (p : Process) → slice_get a.processes.items.items k ≡ Some p

@@ -25,6 +25,7 @@ ready_not (stand.Runs k) x lent b never = runs_at_stopped HasNoStep b
 ready_not (stand.Waits k) x lent b never = absurd (never k refl)
 ready_not (stand.Chooses k) x lent b never = runs_at_stopped HasNoStep b
 ready_not (stand.Chosen k) x lent b never = runs_at_stopped HasNoStep b
+ready_not (stand.Listens channel k) x lent b never = runs_at_stopped HasNoStep b
 ready_not stand.Ended x lent b never = runs_at_stopped HasNoStep b
 
 -- one that is not absent does not come
@@ -35,6 +36,7 @@ absent_not (stand.Runs k) never = refl
 absent_not (stand.Waits k) never = refl
 absent_not (stand.Chooses k) never = refl
 absent_not (stand.Chosen k) never = refl
+absent_not (stand.Listens channel k) never = refl
 absent_not stand.Ended never = refl
 
 module _ (a b : Node) (k : ℕ) (s : Stand)

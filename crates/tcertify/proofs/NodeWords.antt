@@ -10,7 +10,7 @@ use Rattle.tcertify.specs.declared.life.Life.{Life}
 use Rattle.tcertify.specs.declared.node.Node.{Node}
 use Rattle.tcertify.specs.declared.process.Process.{Process}
 use Rattle.tcertify.specs.Boards.{Board, board_at, has_run_at}
-use Rattle.tcertify.specs.Channels.{half_among, link_among}
+use Rattle.tcertify.specs.Channels.{half_among, link_among, unfinished_among}
 use Rattle.tcertify.specs.Lives.{lives_at, successors_at}
 use Rattle.tcertify.specs.Nodes.{AreBesides, RunsAt, board_of}
 use Rattle.tcertify.specs.Processes.{name_of, ports_among, stand_among}
@@ -29,6 +29,7 @@ board_from k processes channels links lives error halting changed high low popul
       ports = ports_among k processes;
       half = half_among (map (name_of k) processes) channels;
       link = link_among (map (name_of k) processes) links;
+      unfinished = unfinished_among links;
       error = error;
       halt_on_error = halting;
       is_flag_changed = changed;

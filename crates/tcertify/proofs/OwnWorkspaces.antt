@@ -204,7 +204,6 @@ pub stop_is : (why : Stop) → Breaks AlreadyLive ≡ reason_of why → why ≡ 
 stop_is (stop.Breaks b) e = let same : AlreadyLive ≡ b = cc in cc
 stop_is stop.Halts e = cc
 stop_is stop.SawTheScheduler e = cc
-stop_is stop.HasAlternatives e = cc
 stop_is stop.SeveralReady e = cc
 stop_is stop.WordInUse e = cc
 stop_is stop.FullSink e = cc

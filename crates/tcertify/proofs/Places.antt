@@ -10,7 +10,7 @@ use Rattle.tword.specs.Stores.{Store}
 use Rattle.tword.specs.Actions.{or_break}
 use Rattle.tword.specs.Touches.{Mode, Reads, Writes, word_place_break}
 use Rattle.tprocesses.specs.Places.{Place, WordAt, Sending, Standing, Ports, Half, LinkHalf, Error, HaltOnError}
-use Rattle.tprocesses.specs.Places.{Life, Successions, Messages, Kept, Population, HasRun, FlagChanged}
+use Rattle.tprocesses.specs.Places.{Unfinished, Life, Successions, Messages, Kept, Population, HasRun, FlagChanged}
 use Rattle.tprocesses.specs.Values.{Use, Free, Saved, Receiving, Engaged, Choosing, Awaiting, Last, Spoilt, Value, Word}
 use Rattle.tprocesses.specs.Values.{IsWord}
 use Rattle.tprocesses.specs.Values.{IsAmount, word_in, amount_in}
@@ -197,6 +197,7 @@ module _ (n : ℕ) (ws : List StoredWord) (k : ℕ) (x y : StoredWord) (there : 
   place_set same rest (Ports z) = refl
   place_set same rest (Half m l z) = refl
   place_set same rest (LinkHalf z l) = refl
+  place_set same rest (Unfinished z) = refl
   place_set same rest (Error m) = refl
   place_set same rest (HaltOnError m) = refl
   place_set same rest (Life m l) = refl

@@ -8,7 +8,7 @@ use Rattle.std.proofs.lemmas.List.Elements.{All-cons, All-nil}
 use Rattle.tagents.specs.WalkAccesses.{Changes}
 use Rattle.tword.specs.Stores.{Store}
 use Rattle.tprocesses.specs.Places.{Place, WordAt, Sending, Standing, Ports, Half, LinkHalf, Error, HaltOnError}
-use Rattle.tprocesses.specs.Places.{Life, Successions, Messages, Kept, Population, HasRun, FlagChanged}
+use Rattle.tprocesses.specs.Places.{Unfinished, Life, Successions, Messages, Kept, Population, HasRun, FlagChanged}
 use Rattle.tprocesses.specs.Values.{Use, Value, Word, IsWord, IsAmount}
 use Rattle.tprocesses.specs.Changes.{Put, Puts}
 use Rattle.tprocesses.specs.Touching.{Site, put_words}
@@ -66,6 +66,7 @@ module _ (n : ℕ) (vs ws : List StoredWord) (rest : State) where
     stands_at (Ports z) = refl
     stands_at (Half m l z) = refl
     stands_at (LinkHalf z l) = refl
+    stands_at (Unfinished z) = refl
     stands_at (Error m) = refl
     stands_at (HaltOnError m) = refl
     stands_at (Life m l) = refl

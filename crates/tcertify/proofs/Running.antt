@@ -1,5 +1,5 @@
 -- Parts that are run one after another, and what they access.
-use Rattle.std.proofs.Common.{◌≡◌, ℕ, refl, ap, sym, subst, ◌∙◌, Result, Ok, Err, List, [], ◌∷◌, ◌++◌, append-nil}
+use Rattle.std.proofs.Common.{◌≡◌, ◌<◌, ℕ, refl, ap, sym, subst, ◌∙◌, Result, Ok, Err, List, [], ◌∷◌, ◌++◌, append-nil}
 use Rattle.std.specs.Prelude.{All}
 use Rattle.std.proofs.lemmas.List.Elements.{All-append, All-nil, All-weaker}
 use Rattle.tprocesses.specs.Parts.{Reason, Part, gives, stopping, seeing, changing, telling, ◌>>=◌}
@@ -78,10 +78,13 @@ keeps_on old between new a b =
     record {
       lost = λ e. a.lost (b.lost e);
       notes = λ e numbering access h. b.notes e numbering access (a.notes (b.lost e) numbering access h);
+      earlier = b.earlier ∙ a.earlier;
+      stay = λ k note low at. b.stay k note (subst (λ (n : ℕ). k < n) (sym a.earlier) low) (a.stay k note low at);
     }
 
 pub keeps_all : (notes : Notes) → Keeps notes notes
-keeps_all notes = record { lost = λ e. e; notes = λ e numbering access h. h }
+keeps_all notes =
+    record { lost = λ e. e; notes = λ e numbering access h. h; earlier = refl; stay = λ k note low at. at }
 
 -- accesses that were noted
 pub noted_still : (numbering : Numbering) (old new : Notes) (told : List Accessed) → Keeps old new

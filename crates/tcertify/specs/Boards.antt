@@ -2,7 +2,7 @@
 -- Source: own choice.
 use Rattle.std.specs.Prelude.{ℕ, zero, suc, ◌==◌, ℤ, pos, Bool, false, List, if◌then◌else◌}
 use Rattle.tproc.specs.declared.channels.Side.{Side}
-use Rattle.tprocesses.specs.Places.{Name, Standing, Ports, Half, LinkHalf, Error, HaltOnError, Life}
+use Rattle.tprocesses.specs.Places.{Name, Standing, Ports, Half, LinkHalf, Unfinished, Error, HaltOnError, Life}
 use Rattle.tprocesses.specs.Places.{Successions, Population, HasRun, FlagChanged}
 use Rattle.tprocesses.specs.Values.{Stand, Holder, Link, IsStand, ArePorts, IsHalf, IsLink, IsFlag, IsAmount, IsCount}
 use Rattle.tcertify.specs.Running.{State}
@@ -13,6 +13,7 @@ pub record Board : Type 0 where
   pub ports : Name → List ℕ
   pub half : ℕ → Side → Holder
   pub link : ℕ → Side → Link
+  pub unfinished : ℕ → Bool
   pub error : Bool
   pub halt_on_error : Bool
   pub is_flag_changed : Bool
@@ -33,6 +34,7 @@ board_at b s (Standing x) = if b.node == x.node then IsStand (b.stand x) else s 
 board_at b s (Ports x) = if b.node == x.node then ArePorts (b.ports x) else s (Ports x)
 board_at b s (Half n c side) = if b.node == n then IsHalf (b.half c side) else s (Half n c side)
 board_at b s (LinkHalf e side) = if b.node == e.node then IsLink (b.link e.link side) else s (LinkHalf e side)
+board_at b s (Unfinished e) = if b.node == e.node then IsFlag (b.unfinished e.link) else s (Unfinished e)
 board_at b s (Error n) = if b.node == n then IsFlag b.error else s (Error n)
 board_at b s (HaltOnError n) = if b.node == n then IsFlag b.halt_on_error else s (HaltOnError n)
 board_at b s (FlagChanged n) = if b.node == n then IsFlag b.is_flag_changed else s (FlagChanged n)

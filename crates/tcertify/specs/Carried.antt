@@ -3,12 +3,16 @@
 use Rattle.tcpu.specs.declared.registers.Next.{Next}
 use Rattle.tprocesses.specs.Values.{Context}
 use Rattle.tcertify.specs.declared.carrying.Carried.{Carried}
-use Rattle.tcertify.specs.Contexts.{context_of}
+use Rattle.tcertify.specs.declared.context.Left.{Left}
 
 -- what follows an instruction, and the context behind it
 abbrev pub Followed : Type 0
 Followed = Next × Context
 
--- what a call answered
-abbrev pub followed : Carried → Followed
-followed k = (k.next, context_of k.context)
+-- a context with the registers that an instruction left
+abbrev pub with_left : Context → Left → Context
+with_left c l = record c { wptr = l.wptr; iptr = l.iptr; a = l.a; b = l.b; c = l.c }
+
+-- what a call answered for a process that had this context
+abbrev pub followed : Context → Carried → Followed
+followed c k = (k.next, with_left c k.left)

@@ -1,6 +1,7 @@
 -- The channels and links of a node by their addresses and numbers.
 -- Source: own choice.
-use Rattle.std.specs.Prelude.{ℕ, ◌≡◌, ◌<◌, ◌==◌, List, find, Option, Some, None, slice_get, slice_set}
+use Rattle.std.specs.Prelude.{ℕ, ◌≡◌, ◌<◌, ◌==◌, Bool, false, List, find, Option, Some, None, slice_get, slice_set}
+use Rattle.std.specs.Prelude.{unwrap_or}
 use Rattle.tproc.specs.declared.channels.Side as machine
 use Rattle.tproc.specs.declared.channels.Side.TheVariants as machines
 use Rattle.tprocesses.specs.Places.{Name}
@@ -53,7 +54,9 @@ half_among names channels address machines.Output =
 abbrev pub link_of : List Name → LinkHalf → value.Link
 link_of names half.Empty = value.Empty
 link_of names (half.Offered r) = value.Offered (request_of names r)
-link_of names half.Copied = value.Copied
+link_of names (half.Enabled k) = value.Enabled (name_in names k)
+link_of names (half.Awaited k) = value.Awaited (name_in names k)
+link_of names (half.Fired k) = value.Fired (name_in names k)
 
 -- a half of a link that the node has
 abbrev pub link_or_empty : List Name → Option LinkHalf → value.Link
@@ -70,6 +73,10 @@ abbrev pub link_among : List Name → Links → ℕ → machine.Side → value.L
 link_among names links k machines.Input = link_or_empty names (slice_get links.inputs k)
 link_among names links k machines.Output = link_or_empty names (slice_get links.outputs k)
 
+-- the message of the output of the link of this number has gone over, and its process has not gone on
+abbrev pub unfinished_among : Links → ℕ → Bool
+unfinished_among links k = unwrap_or (slice_get links.unfinished k) false
+
 -- the number of the process that has a half of a channel
 abbrev pub process_in : Holder → Option ℕ
 process_in holder.Nobody = None
@@ -81,12 +88,24 @@ process_in (holder.Awaited k) = Some k
 abbrev pub IsKnownHolder : ℕ → Holder → Type 0
 IsKnownHolder count h = (k : ℕ) → process_in h ≡ Some k → k < count
 
--- whoever has a half of a channel or waits at a link is among the first processes, as many as this
+-- the number of the process that has a half of a link
+abbrev pub process_on : LinkHalf → Option ℕ
+process_on half.Empty = None
+process_on (half.Offered r) = Some r.process
+process_on (half.Enabled k) = Some k
+process_on (half.Awaited k) = Some k
+process_on (half.Fired k) = Some k
+
+-- whoever has a half of a link is among the first processes, as many as this
+abbrev pub IsKnownHalf : ℕ → LinkHalf → Type 0
+IsKnownHalf count h = (k : ℕ) → process_on h ≡ Some k → k < count
+
+-- whoever has a half of a channel or of a link is among the first processes, as many as this
 pub record AreKnown (count : ℕ) (channels : List Channel) (links : Links) : Type 0 where
   pub at_channels : (i : ℕ) (c : Channel) (side : Side) → slice_get channels i ≡ Some c
       → IsKnownHolder count (half_of side c).holder
-  pub at_links : (k : ℕ) (side : Side) (r : Request) → slice_get (halves_of side links) k ≡ Some (half.Offered r)
-      → r.process < count
+  pub at_links : (k : ℕ) (side : Side) (h : LinkHalf) → slice_get (halves_of side links) k ≡ Some h
+      → IsKnownHalf count h
 
 -- a channel of which somebody has a half, or nobody
 abbrev pub with_holder : Side → Holder → Channel → Channel
@@ -103,8 +122,12 @@ pub record IsHalfSet (old : List Channel) (k : ℕ) (side : Side) (h : Holder) (
 
 -- links of which a half is so now
 abbrev pub IsLinkSet : Links → ℕ → Side → LinkHalf → Links → Type 0
-IsLinkSet old k Input h new = (new.inputs ≡ slice_set old.inputs k h) × (new.outputs ≡ old.outputs)
-IsLinkSet old k Output h new = (new.outputs ≡ slice_set old.outputs k h) × (new.inputs ≡ old.inputs)
+IsLinkSet old k Input h new = new ≡ record old { inputs = slice_set old.inputs k h }
+IsLinkSet old k Output h new = new ≡ record old { outputs = slice_set old.outputs k h }
+
+-- links of which the output of one has gone over now, or is over
+abbrev pub IsUnfinishedSet : Links → ℕ → Bool → Links → Type 0
+IsUnfinishedSet old k unfinished new = new ≡ record old { unfinished = slice_set old.unfinished k unfinished }
 
 -- a channel of which nobody has a half, with the places of its halves
 abbrev pub free_channel : (address input output : ℕ) → Channel
@@ -115,13 +138,7 @@ free_channel address input output =
       output = record { holder = holder.Nobody; place = output };
     }
 
--- nothing pends at any half
-abbrev pub AreEmpty : Links → Type 0
-AreEmpty l =
-    (k : ℕ) (side : Side) (h : LinkHalf) → slice_get (halves_of side l) k ≡ Some h → h ≡ half.Empty
-
--- whoever waits at a link is among the first processes, as many as this
-abbrev pub IsKnownHalf : ℕ → LinkHalf → Type 0
-IsKnownHalf count half.Empty = Unit {0}
-IsKnownHalf count (half.Offered r) = r.process < count
-IsKnownHalf count half.Copied = Unit {0}
+-- nothing pends at any half, and each output is over
+pub record AreEmpty (l : Links) : Type 0 where
+  pub halves : (k : ℕ) (side : Side) (h : LinkHalf) → slice_get (halves_of side l) k ≡ Some h → h ≡ half.Empty
+  pub finished : (k : ℕ) (unfinished : Bool) → slice_get l.unfinished k ≡ Some unfinished → unfinished ≡ false

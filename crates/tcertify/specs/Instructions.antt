@@ -7,7 +7,7 @@ use Rattle.tcode.specs.declared.instruction.Instruction.{Instruction}
 use Rattle.tcode.specs.declared.instruction.DecodeFault.{DecodeFault}
 use Rattle.tcode.specs.declared.instruction.DecodeFault.TheVariants as fault
 use Rattle.tcode.specs.Decoding.{decode}
-use Rattle.tword.specs.Actions.{Action, answer, breaks, requiring}
+use Rattle.tword.specs.Actions.{Action, answer, breaks, requiring, touching_byte}
 use Rattle.tcpu.specs.declared.registers.Registers.{Registers}
 use Rattle.tcpu.specs.Outcomes.{Outcome}
 use Rattle.tprocesses.specs.Parts.{Part, gives, require, SawTheScheduler, ◌>>=◌, ◌>>◌}
@@ -29,6 +29,18 @@ touch_byte s mode address = touch s mode (byte_span address) >>= (λ words. give
 abbrev pub decoded : Site → ℕ → Part Instruction
 decoded s iptr = do
   p ← perform s [] (decode s.kind iptr)
+  require p.known SawTheScheduler
+  gives p.value
+
+-- what an action does behind its first byte
+abbrev pub behind_byte : {A : Type 0} → ℕ → Action A → Action A
+behind_byte b (touching_byte mode a next) = next b
+behind_byte b x = x
+
+-- the instruction at an address of which this byte was read first
+abbrev pub decoded_behind : Site → ℕ → ℕ → Part Instruction
+decoded_behind s iptr first = do
+  p ← perform s [] (behind_byte first (decode s.kind iptr))
   require p.known SawTheScheduler
   gives p.value
 

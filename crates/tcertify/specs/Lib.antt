@@ -26,6 +26,7 @@ pub mod Finding
 pub mod Sides
 -- processes, channels and workspaces of a node
 pub mod Processes
+pub mod Fingerprints
 pub mod Channels
 pub mod Lives
 -- outputs that are over

@@ -1,6 +1,6 @@
 -- Parts of messages on channels and links, and of a successor's step.
 -- Source: own choice, parts of `tprocesses`.
-use Rattle.std.specs.Prelude.{ℕ, suc, [], Some, None}
+use Rattle.std.specs.Prelude.{ℕ, suc, true, [], Some, None}
 use Rattle.tword.specs.declared.span.Span.{Span}
 use Rattle.tword.specs.Stores.{Store}
 use Rattle.tplan.specs.declared.plan.End.{End}
@@ -11,14 +11,14 @@ use Rattle.tprocesses.specs.Changes.{Engage, Put, free_word}
 use Rattle.tprocesses.specs.LinkMessages.{lends}
 use Rattle.tprocesses.specs.Parts.{Part, Doing, change, gives, see, ◌>>=◌, ◌>>◌}
 use Rattle.tprocesses.specs.Performing.{copied}
-use Rattle.tprocesses.specs.Places.{Name, After, Half, LinkHalf, Successions, WordAt}
+use Rattle.tprocesses.specs.Places.{Name, After, Half, LinkHalf, Successions, Unfinished, WordAt}
 use Rattle.tprocesses.specs.Standing.{comes, forget, fresh, stands, wakes}
 use Rattle.tprocesses.specs.Touching.{Site, forgotten, kept, put, replaced, save, touch, unsent, word_count}
 use Rattle.tprocesses.specs.Touching.{word_number}
 use Rattle.tprocesses.specs.Touching.{word_place, words_for}
 use Rattle.tprocesses.specs.Values as value
-use Rattle.tprocesses.specs.Values.{Context, Free, Nobody, Receiving, Request, Waits, IsCount, IsHalf, IsLink, IsWord}
-use Rattle.tprocesses.specs.Values.{count_in}
+use Rattle.tprocesses.specs.Values.{Context, Free, Nobody, Receiving, Request, Waits, IsCount, IsFlag, IsHalf, IsLink}
+use Rattle.tprocesses.specs.Values.{IsWord, count_in}
 
 -- a process waits, with a buffer that may be touched as the message will
 abbrev pub awaits : Site → Name → Context → Side → Span → Doing
@@ -58,7 +58,8 @@ offers s x c side buffer = do
 -- the message of an output has gone over: its process is ready, and these are its bytes
 abbrev pub leaves_sent : End → Request → Store → Part Store
 leaves_sent f output message = do
-  change (LinkHalf f Output) (Put (IsLink value.Copied))
+  change (LinkHalf f Output) (Put (IsLink value.Empty))
+  change (Unfinished f) (Put (IsFlag true))
   wakes output.process (Some (record { link = f.link; buffer = output.buffer }))
   gives message
 

@@ -12,7 +12,7 @@ use Rattle.tprocesses.specs.Values.{Value, stand_in, half_in, link_in}
 use Rattle.tprocesses.specs.Changes.{Decrement}
 use Rattle.tprocesses.specs.Parts.{Reason, Part, Changed}
 use Rattle.tprocesses.specs.Touching.{Site}
-use Rattle.tprocesses.specs.Machine.{is_met_at, is_offered, is_ready}
+use Rattle.tprocesses.specs.Machine.{is_due_at, is_met_at, is_ready}
 use Rattle.tcertify.specs.declared.channel.Channel.{Channel}
 use Rattle.tcertify.specs.declared.fault.Fault.{Fault}
 use Rattle.tcertify.specs.declared.fault.Fault.TheVariants as fault
@@ -25,7 +25,7 @@ use Rattle.tcertify.specs.declared.notes.Notes.{Notes}
 use Rattle.tcertify.specs.declared.side.Side.{Side}
 use Rattle.tcertify.specs.declared.side.Side.TheVariants as sides
 use Rattle.tcertify.specs.Boards.{Board, board_at, has_run_at}
-use Rattle.tcertify.specs.Channels.{half_among, link_among}
+use Rattle.tcertify.specs.Channels.{half_among, link_among, unfinished_among}
 use Rattle.tcertify.specs.Lives.{lives_at, successors_at}
 use Rattle.tcertify.specs.Notes.{AreNoted, Keeps, Numbering, NumbersWords}
 use Rattle.tcertify.specs.Processes.{name_in, name_of, ports_among, ports_or_none, stand_among}
@@ -72,6 +72,7 @@ board_of n =
       ports = ports_among n.words.number n.processes.items.items;
       half = half_among (names n) n.channels.items.items;
       link = link_among (names n) n.links;
+      unfinished = unfinished_among n.links;
       error = n.error;
       halt_on_error = n.halt_on_error;
       is_flag_changed = n.is_flag_changed;
@@ -109,6 +110,8 @@ pub record NumbersNode (numbering : Numbering) (n : Node) : Type 0 where
       → numbering (place.LinkHalf (end_at n.words.number k) Input) ≡ n.fixed_place + 6 + k
   pub link_output : (k : ℕ) → k < 4
       → numbering (place.LinkHalf (end_at n.words.number k) Output) ≡ n.fixed_place + 10 + k
+  pub unfinished : (k : ℕ) → k < 4
+      → numbering (place.Unfinished (end_at n.words.number k)) ≡ n.fixed_place + 14 + k
 
 -- its processes, channels and workspaces keep their numbers, and all places do; new ones may have come
 pub record Grows (old new : Node) : Type 0 where
@@ -136,7 +139,8 @@ IsLed n seen changed (lead.Channel k) =
     × ((side : machine.Side) × IsSeenShut seen (place.Half n.words.number c side)
     (λ v. is_met_at (place.Half n.words.number c side) (half_in v)))
 IsLed n seen changed (lead.Link l side) =
-    IsSeenShut seen (place.LinkHalf (end_at n.words.number l) (side_of side)) (λ v. is_offered (link_in v))
+    IsSeenShut seen (place.LinkHalf (end_at n.words.number l) (side_of side))
+    (λ v. is_due_at (side_of side) (link_in v))
 IsLed n seen changed (lead.Count k) =
     (p : ℕ) × Contains changed (record { place = WordAt n.words.number k; change = Decrement p })
 
@@ -178,6 +182,16 @@ pub record IsBegun (old new : Node) : Type 0 where
   pub same : new ≡ record old { words = record old.words { notes = new.words.notes }; leads = new.leads }
   pub notes : new.words.notes.items.items ≡ []
   pub none : new.words.notes.is_lost ≡ false
+  pub earlier : new.words.notes.earlier ≡ length new.words.notes.items.items
+  pub leads : new.leads.items ≡ []
+
+-- what was noted is kept as that of earlier steps, where there was no lead, or nothing is noted any more
+pub record GoesOn (old new : Node) : Type 0 where
+  pub same : new ≡ record old { words = record old.words { notes = new.words.notes }; leads = new.leads }
+  pub notes : (new.words.notes.items.items ≡ [])
+      ⊎ ((old.leads.items ≡ []) × (new.words.notes.items.items ≡ old.words.notes.items.items))
+  pub none : new.words.notes.is_lost ≡ false
+  pub earlier : new.words.notes.earlier ≡ length new.words.notes.items.items
   pub leads : new.leads.items ≡ []
 
 -- except for their words and notes two nodes are alike

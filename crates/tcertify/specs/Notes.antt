@@ -1,6 +1,6 @@
 -- Notes of what a step has touched, and the accesses that they tell of.
 -- Source: own choice.
-use Rattle.std.specs.Prelude.{ℕ, ◌≡◌, ◌+◌, ◌==◌, Bool, true, false, List, All, Contains}
+use Rattle.std.specs.Prelude.{ℕ, ◌≡◌, ◌+◌, ◌<◌, ◌≤◌, ◌==◌, Bool, true, false, List, All, Contains, Some, slice_get}
 use Rattle.tagents.specs.WalkAccesses as walks
 use Rattle.tprocesses.specs.Places.{Place, WordAt, Sending}
 use Rattle.tprocesses.specs.Changes.{ChangeKind, Puts, Engages, Adds, Raises, Decrements}
@@ -49,16 +49,29 @@ pub record IsNoted (numbering : Numbering) (notes : List Note) (access : Accesse
   pub place : numbering access.place ≡ note.place
   pub tells : tells_of note.mode access.place access.mode ≡ true
 
--- the notes still tell of each access of which they told, unless a note got lost
+-- the notes still tell of each access of which they told, unless a note got lost; those of earlier steps are as they
+-- were
 pub record Keeps (old new : Notes) : Type 0 where
   pub lost : new.is_lost ≡ false → old.is_lost ≡ false
   pub notes : new.is_lost ≡ false → (numbering : Numbering) (access : Accessed)
       → IsNoted numbering old.items.items access → IsNoted numbering new.items.items access
+  pub earlier : new.earlier ≡ old.earlier
+  pub stay : (k : ℕ) (note : Note) → k < old.earlier → slice_get old.items.items k ≡ Some note
+      → slice_get new.items.items k ≡ Some note
 
 -- the notes tell of each access of which one of this mode at the place tells, unless a note got lost
 pub record Tells (notes : Notes) (place : ℕ) (mode : Mode) : Type 0 where
   pub noted : notes.is_lost ≡ false → (numbering : Numbering) (access : Accessed) → numbering access.place ≡ place
       → tells_of mode access.place access.mode ≡ true → IsNoted numbering notes.items.items access
+
+-- the note of this number is one of this step at the place, and one of this mode tells of each access of which it tells
+pub record MayRaise (notes : Notes) (k place : ℕ) (mode : Mode) : Type 0 where
+  pub note : Note
+  pub there : slice_get notes.items.items k ≡ Some note
+  pub late : notes.earlier ≤ k
+  pub same : note.place ≡ place
+  pub tells : (p : Place) (access : walks.Mode ChangeKind) → tells_of note.mode p access ≡ true
+      → tells_of mode p access ≡ true
 
 -- the accesses are noted, unless a note got lost
 abbrev pub AreNoted : Numbering → Notes → List Accessed → Type 0

@@ -18,6 +18,7 @@ stand_of (stand.Runs c) = value.Runs (context_of c)
 stand_of (stand.Waits c) = value.Waits (context_of c)
 stand_of (stand.Chooses c) = value.Chooses (context_of c)
 stand_of (stand.Chosen c) = value.Chosen (context_of c)
+stand_of (stand.Listens channel c) = value.Listens channel (context_of c)
 stand_of stand.Ended = value.Ended
 
 -- the put of where the process stands

@@ -1,6 +1,6 @@
 -- A step of a process, and an instruction up to what follows it.
 -- Source: own choice, parts of the steps of `tprocesses`.
-use Rattle.std.specs.Prelude.{not, ◌||◌, ◌==◌, is_none, unwrap_or}
+use Rattle.std.specs.Prelude.{ℕ, ◌≡◌, not, ◌||◌, ◌==◌, is_none, unwrap_or, Some, option_map, slice_get}
 use Rattle.tword.specs.Words.{plus}
 use Rattle.tcode.specs.declared.instruction.Instruction.{Instruction}
 use Rattle.tcpu.specs.declared.registers.Registers.{Registers}
@@ -15,6 +15,9 @@ use Rattle.tprocesses.specs.Standing.{moves}
 use Rattle.tprocesses.specs.Touching.{Site}
 use Rattle.tprocesses.specs.Uses.{Uses, has_needed, known_writes, uses_of}
 use Rattle.tprocesses.specs.Values.{Context, stand_in}
+use Rattle.tcertify.specs.declared.context.Context as machine
+use Rattle.tcertify.specs.declared.node.Node.{Node}
+use Rattle.tcertify.specs.declared.standing.Stand.TheVariants as stand
 use Rattle.tcertify.specs.Carried.{Followed}
 
 -- the step of a process, where it stands
@@ -22,6 +25,10 @@ abbrev pub step_of_process : Site → Name → Doing
 step_of_process s x = do
   stood ← see (Standing x)
   process_step x (stand_in stood) s
+
+-- the process of a number runs with this context
+abbrev pub IsRunning : Node → ℕ → machine.Context → Type 0
+IsRunning n k c = option_map (λ p. p.stand) (slice_get n.processes.items.items k) ≡ Some (stand.Runs c)
 
 -- what an instruction does at these registers
 abbrev pub performed : Site → Context → Instruction → Registers → Part (Performed Outcome)

@@ -30,7 +30,6 @@ abbrev pub reason_of : Stop → Reason
 reason_of (stop.Breaks b) = reason.Breaks b
 reason_of stop.Halts = reason.Halts
 reason_of stop.SawTheScheduler = reason.SawTheScheduler
-reason_of stop.HasAlternatives = reason.HasAlternatives
 reason_of stop.SeveralReady = reason.SeveralReady
 reason_of stop.WordInUse = reason.WordInUse
 reason_of stop.FullSink = reason.FullSink

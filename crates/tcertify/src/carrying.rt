@@ -3,16 +3,16 @@
 ghost use Rattle.std.specs.Prelude.{◌≡◌};
 ghost use Rattle.tprocesses.specs.Instructions as instructions;
 
-use crate::context::Context;
+use crate::context::Left;
 use tcode::{Function, Instruction, Operation, operation_of};
 use tcpu::Next;
 use tword::Kind;
 
-/// What follows an instruction, and the context behind it.
+/// What follows an instruction, and the registers that it leaves.
 #[derive(Clone, Copy)]
 pub struct Carried {
     pub next: Next,
-    pub context: Context,
+    pub left: Left,
 }
 
 /// Whether an instruction looks at a flag by itself, for a node of a kind.

@@ -16,8 +16,12 @@ pub enum LinkHalf {
     Empty,
     /// A process offers a message, or asks for one.
     Offered(Request),
-    /// The message of an output has gone over, and its process has not gone on.
-    Copied,
+    /// A process, by its number, that has enabled the input.
+    Enabled(u32),
+    /// Such a process that waits for the input and for others.
+    Awaited(u32),
+    /// A process that the input made go on.
+    Fired(u32),
 }
 
 /// Who has a half of an internal channel.
@@ -55,4 +59,6 @@ pub struct Channel {
 pub struct Links {
     pub inputs: [LinkHalf; 4],
     pub outputs: [LinkHalf; 4],
+    /// The message of an output has gone over, and its process has not gone on.
+    pub unfinished: [bool; 4],
 }

@@ -1,7 +1,8 @@
 //! Channels that are found by their addresses, and the halves of channels and links.
 
 ghost use Rattle.std.specs.Prelude.{ℕ, ◌≡◌, ◌<◌, ◌++◌, ◌∷◌, [], IfOk, OnErr, OnOk, Some, None, length, slice_get};
-ghost use Rattle.tcertify.specs.Channels.{AreEmpty, IsHalfSet, IsLinkSet, address_of, free_channel, half_of, halves_of};
+ghost use Rattle.tcertify.specs.Channels.{AreEmpty, IsHalfSet, IsLinkSet, IsUnfinishedSet, address_of, free_channel};
+ghost use Rattle.tcertify.specs.Channels.{half_of, halves_of};
 ghost use Rattle.tcertify.specs.Finding.{IsFound};
 
 use crate::channel::{Channel, Half, Holder, LinkHalf, Links};
@@ -133,13 +134,14 @@ impl Channels {
 }
 
 impl Links {
-    /// Links at which nothing pends.
+    /// Links at which nothing pends, and whose outputs are over.
     pub fn new() -> Links
         ensures { AreEmpty result }
     {
         Links {
             inputs: [LinkHalf::Empty; 4],
             outputs: [LinkHalf::Empty; 4],
+            unfinished: [false; 4],
         }
     }
 
@@ -165,5 +167,23 @@ impl Links {
             Side::Input => self.inputs[link as usize] = half,
             Side::Output => self.outputs[link as usize] = half,
         }
+    }
+
+    /// Whether the message of an output has gone over, and its process has not gone on.
+    #[inline(always)]
+    pub fn is_unfinished(&self, link: u32) -> bool
+        requires { link < 4 }
+        ensures { slice_get self.now.unfinished link ≡ Some result }
+    {
+        self.unfinished[link as usize]
+    }
+
+    /// It has gone over now, or its process has gone on.
+    #[inline(always)]
+    pub fn set_unfinished(&mut self, link: u32, unfinished: bool)
+        requires { link < 4 }
+        ensures { IsUnfinishedSet self.old link unfinished self.new }
+    {
+        self.unfinished[link as usize] = unfinished;
     }
 }

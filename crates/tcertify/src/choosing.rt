@@ -1,10 +1,9 @@
 //! What alternatives ask of registers and of the bytes of words.
 
 ghost use Rattle.std.specs.Prelude.{◌≡◌, not, ◌||◌, ◌==◌, is_none};
-ghost use Rattle.tproc.specs.LinkChannels as links;
 ghost use Rattle.tprocesses.specs.Changes.{known_word};
 ghost use Rattle.tprocesses.specs.Choosing as spec;
-ghost use Rattle.tprocesses.specs.Parts.{HasAlternatives, WordInUse, require};
+ghost use Rattle.tprocesses.specs.Parts.{WordInUse, require};
 ghost use Rattle.tprocesses.specs.Standing as standing;
 ghost use Rattle.tcertify.specs.Cells.{cells_of};
 ghost use Rattle.tcertify.specs.Contexts.{choice_in, choice_of, context_of};
@@ -15,7 +14,6 @@ ghost use Rattle.tcertify.specs.Words.{told};
 
 use crate::cells::Cells;
 use crate::context::{Choice, Context};
-use crate::node_scheduling::is_link;
 use crate::standing::Stand;
 use crate::stop::Stop;
 use tword::Word;
@@ -121,7 +119,7 @@ pub(crate) fn has_none(ports: &[u32]) -> Result<(), Stop>
 /// The context of a process that waits for channels.
 ///
 /// # Errors
-/// `SeveralReady` where it does not: another channel has made it go on.
+/// `SeveralReady` where it does not: another channel or a link has made it go on.
 pub(crate) fn waiting(stand: Stand) -> Result<Context, Stop>
     ensures { (a : node.Node) → RunsAt (spec.waiting (stand_of stand)) a (told context_of result) a }
 {
@@ -142,20 +140,6 @@ pub(crate) fn known_number(cells: &Cells) -> Result<Word, Stop>
         return Err(Stop::SawTheScheduler);
     }
     Ok(cells.word())
-}
-
-/// Whether a channel is an internal one.
-///
-/// # Errors
-/// `HasAlternatives` where it is a link.
-pub(crate) fn is_internal(channel: Word) -> Result<(), Stop>
-    ensures { (a : node.Node) → RunsAt (require (not (links.is_link channel)) HasAlternatives) a (told nothing result)
-        a }
-{
-    if is_link(channel) {
-        return Err(Stop::HasAlternatives);
-    }
-    Ok(())
 }
 
 /// Whether a guard is the first that is ready, by the word at the workspace.

@@ -5,6 +5,7 @@ ghost use Rattle.tprocesses.specs.Instructions as spec;
 ghost use Rattle.tprocesses.specs.Uses.{has_needed, is_known};
 ghost use Rattle.tprocesses.specs.Uses as values;
 ghost use Rattle.tprocesses.specs.Standing as standing;
+ghost use Rattle.tcertify.specs.Carried.{with_left};
 ghost use Rattle.tcertify.specs.Contexts.{context_of, need_of, origin_of, uses_with};
 
 use crate::priority::Priority;
@@ -41,6 +42,16 @@ pub struct Context {
     pub c: Option<Word>,
     pub children: u32,
     pub lent: Option<Lent>,
+}
+
+/// The registers that an instruction leaves, of which A, B and C may not be known.
+#[derive(Clone, Copy)]
+pub struct Left {
+    pub wptr: Word,
+    pub iptr: Word,
+    pub a: Option<Word>,
+    pub b: Option<Word>,
+    pub c: Option<Word>,
 }
 
 impl Context {
@@ -106,20 +117,34 @@ impl Context {
         }
     }
 
-    /// The context behind an instruction that left these registers. read: whether all that it read is known.
+    /// What an instruction leaves that left these registers. read: whether all that it read is known.
     #[inline(always)]
-    pub fn behind(&self, uses: &Uses, read: bool, registers: &Registers) -> Context
-        ensures { (written : List values.Origin) → context_of result
+    pub fn behind(&self, uses: &Uses, read: bool, registers: &Registers) -> Left
+        ensures { (written : List values.Origin) → with_left (context_of self.now) result
             ≡ spec.context_after (context_of self.now) (uses_with uses.now written) read registers.now }
     {
-        Context {
-            priority: self.priority,
-            choice: self.choice,
+        Left {
             wptr: registers.wptr,
             iptr: registers.iptr,
             a: known_value(self.is_known(uses.a, read), registers.a),
             b: known_value(self.is_known(uses.b, read), registers.b),
             c: known_value(self.is_known(uses.c, read), registers.c),
+        }
+    }
+
+    /// The context with the registers that an instruction left.
+    #[inline(always)]
+    pub fn with_left(&self, left: &Left) -> Context
+        ensures { context_of result ≡ with_left (context_of self.now) left.now }
+    {
+        Context {
+            priority: self.priority,
+            choice: self.choice,
+            wptr: left.wptr,
+            iptr: left.iptr,
+            a: left.a,
+            b: left.b,
+            c: left.c,
             children: self.children,
             lent: self.lent,
         }

@@ -9,7 +9,7 @@ pub enum Lead {
     Process(u32),
     /// A half of the channel of this number was seen to be free.
     Channel(u32),
-    /// No message was seen to be offered, or to be asked for, at a half of a link.
+    /// A wire was seen not to go on at a half of a link: nobody offers a message there, or waits for one.
     Link { link: u32, side: Side },
     /// The word of this number was counted down.
     Count(u32),

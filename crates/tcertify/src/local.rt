@@ -80,9 +80,36 @@ pub fn do_local(
                 instruction.operand,
             )
         }
-        Function::Opr => do_operation(context, registers, words, idle, instruction),
+        Function::Opr => operate_apart(context, registers, words, idle, instruction),
         _ => do_alone(registers, idle, instruction),
     }
+}
+
+/// Does an operation as `do_operation` does.
+///
+/// # Errors
+/// Those of `do_operation`.
+// The registers are worked on in a place of their own, so that those of other instructions need not lie in memory.
+#[inline(always)]
+fn operate_apart(
+    context: &Context,
+    registers: &mut Registers,
+    words: &mut Words,
+    idle: &mut IdleMemory,
+    instruction: Instruction,
+) -> Result<Done, Stop>
+    requires kind { idle.old.memory.kind ≡ words.old.kind }
+    requires function { instruction.function ≡ Function.Opr }
+    ensures done { Runs (perform (site_of words.old)
+        (known_writes (context_of context.now) (uses_of words.old.kind instruction (unwrap_or context.now.a 0)))
+        (effect words.old.kind instruction registers.old)) words.old (told (outcome registers.new) result) words.new }
+    ensures site { site_of words.new ≡ site_of words.old }
+    ensures idle { idle.new.memory.kind ≡ idle.old.memory.kind }
+{
+    let mut now = *registers;
+    let outcome = do_operation(context, &mut now, words, idle, instruction);
+    *registers = now;
+    outcome
 }
 
 /// Does an operation as `do_local` does an instruction.

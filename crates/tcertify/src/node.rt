@@ -34,6 +34,6 @@ pub struct Node {
     pub fresh_place: u32,
     /// What the current step leads to, as far as it was seen.
     pub leads: Vec<Lead>,
-    ghost placed: { fixed_place + 14 ≤ 2 ^ 32 },
+    ghost placed: { fixed_place + 18 ≤ 2 ^ 32 },
     ghost known: { AreKnown (length processes.items.items) channels.items.items links },
 }

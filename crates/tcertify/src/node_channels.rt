@@ -3,7 +3,7 @@
 ghost use Rattle.std.specs.Prelude.{ℕ, ◌≡◌, ◌<◌, Ok, IfOk, List, None, length};
 ghost use Rattle.tplan.specs.Wires.{end_at};
 ghost use Rattle.tprocesses.specs.Changes.{Put};
-ghost use Rattle.tprocesses.specs.Machine.{is_met_at, is_offered};
+ghost use Rattle.tprocesses.specs.Machine.{is_due_at, is_met_at};
 ghost use Rattle.tprocesses.specs.Places.{Name};
 ghost use Rattle.tprocesses.specs.Parts.{change, done, see};
 ghost use Rattle.tprocesses.specs.Places as place;
@@ -27,14 +27,16 @@ use crate::side::Side;
 use crate::stop::Stop;
 use tword::Word;
 
-/// Whether a process offers a message at a half of a link, or asks for one.
+/// Whether a wire may go on at a half of a link: a process waits there for a message, or at the input for several
+/// channels.
 #[inline(always)]
-fn is_offered(half: &LinkHalf) -> bool
-    ensures { (names : List Name) → result ≡ is_offered (link_of names half.now) }
+fn is_due(side: Side, half: &LinkHalf) -> bool
+    ensures { (names : List Name) → result ≡ is_due_at (side_of side) (link_of names half.now) }
 {
     match half {
         LinkHalf::Offered(_) => true,
-        LinkHalf::Empty | LinkHalf::Copied => false,
+        LinkHalf::Awaited(_) => matches!(side, Side::Input),
+        LinkHalf::Empty | LinkHalf::Enabled(_) | LinkHalf::Fired(_) => false,
     }
 }
 
@@ -146,11 +148,12 @@ impl Node {
         ensures looks { RunsAt (see (place.LinkHalf (end_at self.old.words.number link) (side_of side))) self.old
             (Ok (IsLink (link_of (names self.old) result))) self.new }
         ensures known { IsKnownHalf (length self.old.processes.items.items) result }
+        ensures processes { self.new.processes.items.items ≡ self.old.processes.items.items }
     {
         let half = self.links.half(link, side);
         let place = self.link_place(link, side);
         self.words.notes.add(place, Mode::Looks);
-        if !is_offered(&half) {
+        if !is_due(side, &half) {
             self.note_lead(Lead::Link { link, side });
         }
         half
@@ -161,8 +164,9 @@ impl Node {
     pub fn set_link_half(&mut self, link: u32, side: Side, half: LinkHalf)
         requires there { link < 4 }
         requires known { IsKnownHalf (length self.old.processes.items.items) half }
-        ensures { RunsAt (change (place.LinkHalf (end_at self.old.words.number link) (side_of side))
+        ensures sets { RunsAt (change (place.LinkHalf (end_at self.old.words.number link) (side_of side))
             (Put (IsLink (link_of (names self.old) half)))) self.old (Ok tt) self.new }
+        ensures processes { self.new.processes.items.items ≡ self.old.processes.items.items }
     {
         self.links.set_half(link, side, half);
         let place = self.link_place(link, side);

@@ -8,17 +8,18 @@ ghost use Rattle.tprocesses.specs.Standing.{unsave_upper};
 ghost use Rattle.tprocesses.specs.Touching.{save_upper, word_number};
 ghost use Rattle.tprocesses.specs.Values.{Nobody};
 ghost use Rattle.tcertify.specs.Channels.{IsKnownHolder, holder_of};
-ghost use Rattle.tcertify.specs.Choosing.{awaits_port};
+ghost use Rattle.tcertify.specs.Choosing.{awaits_port, enables_any};
 ghost use Rattle.tcertify.specs.Contexts.{choice_of, context_of};
 ghost use Rattle.tcertify.specs.Nodes.{Does, RunsAt, address_at, name_at, names, node_site, nothing, ports_at};
 ghost use Rattle.tcertify.specs.Words.{told, use_of};
 
 use crate::cells::Cells;
 use crate::channel::Holder;
-use crate::choosing::{NONE_SELECTED, choice_of, is_clear, is_internal, known, skips_then};
+use crate::choosing::{NONE_SELECTED, choice_of, is_clear, known, skips_then};
 use crate::context::{Choice, Context};
 use crate::fault::Fault;
 use crate::node::Node;
+use crate::node_scheduling::is_link;
 use crate::notes::Mode;
 use crate::side::Side;
 use crate::spans::word_number;
@@ -113,20 +114,34 @@ impl Node {
     /// The channel at B is enabled.
     ///
     /// # Errors
-    /// `SawTheScheduler` where B is not known, `HasAlternatives` where it is a link, else those of `enables`.
+    /// `SawTheScheduler` where B is not known, else those of `enables_any`.
     fn enables_port(&mut self, process: u32, context: &Context) -> Result<(), Fault>
         requires { process < length self.old.processes.items.items }
         ensures { Does (spec.enables_port (node_site self.old) (name_at self.old process) (context_of context.now))
             nothing self.old result self.new }
     {
         let channel = known(context.b)?;
-        is_internal(channel)?;
-        self.enables(process, channel)?;
+        self.enables_any(process, channel)?;
         self.goes_on(process, &context.drop_channel());
         Ok(())
     }
 
-    /// A channel is enabled, without a look at its sender.
+    /// A channel or the input of a link is enabled.
+    ///
+    /// # Errors
+    /// Those of `enables_link` of a link, else those of `enables`.
+    fn enables_any(&mut self, process: u32, channel: Word) -> Result<(), Fault>
+        requires { process < length self.old.processes.items.items }
+        ensures { Does (enables_any (node_site self.old) (name_at self.old process) channel) nothing self.old result
+            self.new }
+    {
+        if is_link(channel) {
+            return self.enables_link(process, channel);
+        }
+        self.enables(process, channel)
+    }
+
+    /// An internal channel is enabled, without a look at its sender.
     ///
     /// # Errors
     /// Those of the channel word, those of `enables_held`; `OutOfMemory`.
@@ -282,14 +297,31 @@ impl Node {
         Ok(())
     }
 
-    /// A process waits for a channel that it has enabled.
+    /// A process waits for a channel or for the input of a link that it has enabled.
     ///
     /// # Errors
-    /// `ChannelMisuse` where it has not; `OutOfMemory`.
+    /// Those of `awaits_link` of a link, else those of `awaits_channel`.
     fn awaits_port(&mut self, process: u32, channel: Word) -> Result<(), Fault>
         requires { process < length self.old.processes.items.items }
         ensures done { Does (awaits_port (node_site self.old) (name_at self.old process) channel) nothing self.old
             result self.new }
+        ensures processes { self.new.processes.items.items ≡ self.old.processes.items.items }
+    {
+        if !is_link(channel) {
+            return self.awaits_channel(process, channel);
+        }
+        self.awaits_link(process, channel)?;
+        Ok(())
+    }
+
+    /// A process waits for an internal channel that it has enabled.
+    ///
+    /// # Errors
+    /// `ChannelMisuse` where it has not; `OutOfMemory`.
+    fn awaits_channel(&mut self, process: u32, channel: Word) -> Result<(), Fault>
+        requires { process < length self.old.processes.items.items }
+        ensures done { Does (spec.awaits_channel (node_site self.old) (name_at self.old process) channel) nothing
+            self.old result self.new }
         ensures processes { self.new.processes.items.items ≡ self.old.processes.items.items }
     {
         let number = self.channel_at(channel)?;

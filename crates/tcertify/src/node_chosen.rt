@@ -10,6 +10,7 @@ use crate::choosing::waiting;
 use crate::fault::Fault;
 use crate::node::Node;
 use crate::node_disabling::is_taken;
+use crate::node_scheduling::is_link;
 use crate::side::Side;
 use crate::standing::Stand;
 use crate::stop::Stop;
@@ -19,8 +20,8 @@ impl Node {
     /// A channel, at this address, on which a message is sent makes the process go on that waits for it and for others.
     ///
     /// # Errors
-    /// `SeveralReady` where the process does not wait any more, or a message is sent on another of its channels;
-    /// `OutOfMemory`.
+    /// `SeveralReady` where the process does not wait any more, or a message is sent on another internal channel of
+    /// those that it has enabled; `OutOfMemory`.
     #[cold]
     #[inline(never)]
     pub(crate) fn lets_go_on(
@@ -44,7 +45,7 @@ impl Node {
         Ok(())
     }
 
-    /// No message is sent on the channels that a process has enabled, but on the one at this address.
+    /// No message is sent on the internal channels that a process has enabled, but on the one at this address.
     ///
     /// # Errors
     /// `SeveralReady` where one is; `OutOfMemory`.
@@ -61,7 +62,8 @@ impl Node {
         Ok(())
     }
 
-    /// No message is sent on the channel at the second address, if it is another one than that at the first.
+    /// No message is sent on the channel at the second address, if it is another one than that at the first, and no
+    /// link.
     ///
     /// # Errors
     /// `SeveralReady` where one is; `OutOfMemory`.
@@ -69,7 +71,7 @@ impl Node {
         ensures done { Does (asks_other (node_site self.old) channel port) nothing self.old result self.new }
         ensures processes { self.new.processes.items.items ≡ self.old.processes.items.items }
     {
-        if port.get() == channel.get() {
+        if port.get() == channel.get() || is_link(port) {
             return Ok(());
         }
         self.requires_silence(port)

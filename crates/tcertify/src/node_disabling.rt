@@ -14,12 +14,11 @@ ghost use Rattle.tcertify.specs.Words.{told, use_of};
 
 use crate::cells::Cells;
 use crate::channel::Holder;
-use crate::choosing::{
-    choice_of, is_clear, is_first, is_internal, known, known_number, need_not_wait,
-};
+use crate::choosing::{choice_of, is_clear, is_first, known, known_number, need_not_wait};
 use crate::context::{Choice, Context};
 use crate::fault::Fault;
 use crate::node::Node;
+use crate::node_scheduling::is_link;
 use crate::notes::Mode;
 use crate::side::Side;
 use crate::spans::word_number;
@@ -76,8 +75,8 @@ impl Node {
     /// alternative that is under way.
     ///
     /// # Errors
-    /// `WordInUse` where it would have to wait, `SawTheScheduler` where C is not known, `HasAlternatives` where it is a
-    /// link, those of `disables` and of `selects`.
+    /// `WordInUse` where it would have to wait, `SawTheScheduler` where C is not known, those of `disables_link` of a
+    /// link, else those of `disables_internal`.
     fn disables_port(
         &mut self,
         process: u32,
@@ -90,7 +89,26 @@ impl Node {
     {
         need_not_wait(choice)?;
         let channel = known(context.c)?;
-        is_internal(channel)?;
+        if is_link(channel) {
+            return self.disables_link(process, context, channel);
+        }
+        self.disables_internal(process, context, channel)
+    }
+
+    /// An internal channel is disabled, and its guard is chosen where it is the first that is ready.
+    ///
+    /// # Errors
+    /// Those of `disables` and of `selects`.
+    fn disables_internal(
+        &mut self,
+        process: u32,
+        context: &Context,
+        channel: Word,
+    ) -> Result<(), Fault>
+        requires { process < length self.old.processes.items.items }
+        ensures { Does (spec.disables_internal (node_site self.old) (name_at self.old process) (context_of context.now)
+            channel) nothing self.old result self.new }
+    {
         let ready = self.disables(process, channel)?;
         self.selects(process, context, ready)
     }
@@ -188,7 +206,12 @@ impl Node {
     /// # Errors
     /// Those of a write of the word at the workspace, `SawTheScheduler` where that decides and is not known, or where A
     /// is not; `OutOfMemory` where the memory does not have the word, which it has once it may be written.
-    fn selects(&mut self, process: u32, context: &Context, ready: bool) -> Result<(), Fault>
+    pub(crate) fn selects(
+        &mut self,
+        process: u32,
+        context: &Context,
+        ready: bool,
+    ) -> Result<(), Fault>
         requires { process < length self.old.processes.items.items }
         ensures { Does (spec.selects (node_site self.old) (name_at self.old process) (context_of context.now) ready)
             nothing self.old result self.new }

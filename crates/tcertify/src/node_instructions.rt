@@ -1,12 +1,17 @@
 //! The instructions of a node's processes, and their steps.
 
-ghost use Rattle.std.specs.Prelude.{◌≡◌, ◌<◌, length};
+ghost use Rattle.std.specs.Prelude.{◌≡◌, ◌<◌, Ok, length};
 ghost use Rattle.tprocesses.specs.Instructions as spec;
-ghost use Rattle.tcertify.specs.Carried.{followed};
+ghost use Rattle.tprocesses.specs.Parts.{see};
+ghost use Rattle.tprocesses.specs.Places.{Standing};
+ghost use Rattle.tprocesses.specs.Values.{IsStand, Runs};
+ghost use Rattle.tword.specs.Words.{plus};
+ghost use Rattle.tcertify.specs.Carried.{followed, with_left};
 ghost use Rattle.tcertify.specs.Contexts.{context_of};
+ghost use Rattle.tcertify.specs.declared.context.Context.{Context};
 ghost use Rattle.tcertify.specs.Instructions.{decoded, outcome};
 ghost use Rattle.tcertify.specs.Nodes.{Does, RunsAt, name_at, node_site, nothing};
-ghost use Rattle.tcertify.specs.Steps.{ended, instructed, performed, step_of_process};
+ghost use Rattle.tcertify.specs.Steps.{IsRunning, ended, instructed, performed, step_of_process};
 ghost use Rattle.tcertify.specs.Words.{told};
 
 use crate::alone::IdleMemory;
@@ -17,6 +22,7 @@ use crate::decoding::decode;
 use crate::fault::Fault;
 use crate::local::do_local;
 use crate::node::Node;
+use crate::notes::Mode;
 use crate::performing::Done;
 use crate::standing::Stand;
 use crate::stop::Stop;
@@ -74,7 +80,7 @@ impl Node {
     ) -> Result<Carried, Stop>
         requires kind { idle.old.memory.kind ≡ self.old.words.kind }
         ensures done { RunsAt (instructed (node_site self.old) (context_of context.now) instruction) self.old
-            (told followed result) self.new }
+            (told (followed (context_of context.now)) result) self.new }
         ensures idle { idle.new.memory.kind ≡ idle.old.memory.kind }
     {
         let top = context.a.unwrap_or(Word::new(0));
@@ -93,12 +99,11 @@ impl Node {
         let left = context.behind(&uses, done.known, &registers);
         Ok(Carried {
             next: done.next,
-            context: left,
+            left,
         })
     }
 
-    /// What follows an instruction.
-    /// scheduled: the context for an operation of the scheduler; after: that for all else.
+    /// What follows an instruction of a process that had this context.
     ///
     /// # Errors
     /// `Halts` where Error is set and HaltOnError is; those of the scheduler's operation; those of a rest;
@@ -108,20 +113,47 @@ impl Node {
         &mut self,
         alloc: Global,
         process: u32,
-        next: Next,
-        scheduled: &Context,
-        after: &Context,
+        context: &Context,
+        instruction: &Instruction,
+        carried: &Carried,
     ) -> Result<(), Fault>
         requires { process < length self.old.processes.items.items }
-        ensures { Does (spec.followed next (node_site self.old) (name_at self.old process) (context_of scheduled.now)
-            (context_of after.now)) nothing self.old result self.new }
+        ensures { Does (spec.followed carried.now.next (node_site self.old) (name_at self.old process)
+            (record (context_of context.now) { iptr = plus context.now.iptr instruction.now.length })
+            (with_left (context_of context.now) carried.now.left)) nothing self.old result self.new }
     {
-        match next {
-            Next::Go => self.goes_on(process, after),
-            Next::Jumped => self.jumps(process, after)?,
-            Next::Halt => self.sets_error(process, after)?,
+        if let Next::Go = carried.next {
+            self.goes_on(process, &context.with_left(&carried.left));
+            return Ok(());
+        }
+        self.follows_else(alloc, process, context, instruction, carried)
+    }
+
+    /// What follows an instruction, as `follows` does it, where that is not just the next one.
+    ///
+    /// # Errors
+    /// Those of `follows`.
+    // Apart, so that its contexts are made here alone.
+    #[inline(always)]
+    fn follows_else(
+        &mut self,
+        alloc: Global,
+        process: u32,
+        context: &Context,
+        instruction: &Instruction,
+        carried: &Carried,
+    ) -> Result<(), Fault>
+        requires { process < length self.old.processes.items.items }
+        ensures { Does (spec.followed carried.now.next (node_site self.old) (name_at self.old process)
+            (record (context_of context.now) { iptr = plus context.now.iptr instruction.now.length })
+            (with_left (context_of context.now) carried.now.left)) nothing self.old result self.new }
+    {
+        match carried.next {
+            Next::Go => self.goes_on(process, &context.with_left(&carried.left)),
+            Next::Jumped => self.jumps(process, &context.with_left(&carried.left))?,
+            Next::Halt => self.sets_error(process, &context.with_left(&carried.left))?,
             Next::Schedule(operation) => {
-                return self.schedules(alloc, process, operation, scheduled);
+                return self.schedules(alloc, process, operation, &context.past(instruction));
             }
         }
         Ok(())
@@ -143,13 +175,11 @@ impl Node {
     ) -> Result<(), Fault>
         requires { process < length self.old.processes.items.items }
         ensures { Does (ended (context_of context.now) instruction.now (node_site self.old) (name_at self.old process)
-            (followed carried.now)) nothing self.old result self.new }
+            (followed (context_of context.now) carried.now)) nothing self.old result self.new }
     {
-        let after = carried.context;
-        may_move(context.choice, context.wptr, after.wptr)?;
-        self.moves(context.wptr, after.wptr)?;
-        let scheduled = context.past(instruction);
-        self.follows(alloc, process, carried.next, &scheduled, &after)
+        may_move(context.choice, context.wptr, carried.left.wptr)?;
+        self.moves(context.wptr, carried.left.wptr)?;
+        self.follows(alloc, process, context, instruction, carried)
     }
 
     /// Does an instruction of a process. idle: a memory of the node's kind that is not touched.
@@ -199,12 +229,24 @@ impl Node {
         self.executes(alloc, idle, process, context, instruction)
     }
 
+    /// A look at a process that runs with this context.
+    #[inline(always)]
+    fn sees_running(&mut self, process: u32, context: &Context)
+        requires there { process < length self.old.processes.items.items }
+        requires runs { IsRunning self.old process context.now }
+        ensures { RunsAt (see (Standing (name_at self.old process))) self.old
+            (Ok (IsStand (Runs (context_of context.now)))) self.new }
+    {
+        let place = self.processes.items[process as usize].place;
+        self.words.notes.add(place, Mode::Looks);
+    }
+
     /// A step of a process: its next instruction, or that it goes on where it rests or was chosen. idle: a memory of
     /// the node's kind that is not touched.
     ///
     /// # Errors
-    /// `HasNoStep` where it is not ready; those of the instruction, those of `resumes` and of `goes_on_chosen`;
-    /// `OutOfMemory`.
+    /// `HasNoStep` where it is not ready, or listens; those of the instruction, those of `resumes` and of
+    /// `goes_on_chosen`; `OutOfMemory`.
     pub fn process_step(
         &mut self,
         alloc: Global,
@@ -217,13 +259,36 @@ impl Node {
             self.new }
         ensures idle { idle.new.memory.kind ≡ idle.old.memory.kind }
     {
+        match &self.processes.items[process as usize].stand {
+            Stand::Runs(seen) => {
+                let context = *seen;
+                self.sees_running(process, &context);
+                self.runs(alloc, idle, process, &context)
+            }
+            _ => self.still_step(process),
+        }
+    }
+
+    /// A step of a process that does not run.
+    ///
+    /// # Errors
+    /// `HasNoStep` where it is not ready, or listens; those of `resumes` and of `goes_on_chosen`; `OutOfMemory`.
+    #[inline(never)]
+    fn still_step(&mut self, process: u32) -> Result<(), Fault>
+        requires there { process < length self.old.processes.items.items }
+        requires still { (context : Context) → ¬ IsRunning self.old process context }
+        ensures { Does (step_of_process (node_site self.old) (name_at self.old process)) nothing self.old result
+            self.new }
+    {
         match self.stand(process) {
             Stand::Rests(context) => self.resumes(process, &context),
-            Stand::Runs(context) => self.runs(alloc, idle, process, &context),
             Stand::Chosen(context) => self.goes_on_chosen(process, &context),
-            Stand::Absent | Stand::Waits(_) | Stand::Chooses(_) | Stand::Ended => {
-                Err(Fault::Stops(Stop::HasNoStep))
-            }
+            Stand::Runs(_) => unreachable!(),
+            Stand::Absent
+            | Stand::Waits(_)
+            | Stand::Chooses(_)
+            | Stand::Listens { .. }
+            | Stand::Ended => Err(Fault::Stops(Stop::HasNoStep)),
         }
     }
 }

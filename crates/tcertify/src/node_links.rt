@@ -2,9 +2,12 @@
 
 ghost use Rattle.std.specs.Prelude.{◌≡◌, ◌<◌, ◌+◌, true, length};
 ghost use Rattle.tplan.specs.Wires.{end_at};
+ghost use Rattle.tproc.specs.declared.channels.Side.TheVariants.{Input};
 ghost use Rattle.tproc.specs.LinkChannels as links;
+ghost use Rattle.tprocesses.specs.Choosing as choosing;
 ghost use Rattle.tprocesses.specs.LinkMessages as spec;
 ghost use Rattle.tcertify.specs.Contexts.{context_of};
+ghost use Rattle.tcertify.specs.declared.node.Node as node;
 ghost use Rattle.tcertify.specs.Messages.{lays_down, offers};
 ghost use Rattle.tcertify.specs.Nodes.{Does, RunsAt, name_at, node_site, nothing};
 ghost use Rattle.tcertify.specs.Sides.{side_of};
@@ -58,12 +61,38 @@ fn link_of(side: Side, channel: Word) -> u32
     }
 }
 
+/// The link whose input a link channel names.
+#[inline(always)]
+pub(crate) fn input_link(channel: Word) -> u32
+    requires { links.is_link channel ≡ true }
+    ensures link { result ≡ links.link_of Input channel }
+    ensures among { result < 4 }
+{
+    link_index(channel).saturating_sub(4)
+}
+
+/// Whether a link channel names an input.
+///
+/// # Errors
+/// `Unaligned`, `WrongEnd`.
+pub(crate) fn is_input(channel: Word) -> Result<(), Stop>
+    ensures { (a : node.Node) → RunsAt (choosing.is_input channel) a (told nothing result) a }
+{
+    if !is_aligned(channel) {
+        return Err(Stop::Breaks(Break::Unaligned));
+    }
+    if !is_right_end(Side::Input, channel) {
+        return Err(Stop::Breaks(Break::WrongEnd));
+    }
+    Ok(())
+}
+
 impl Node {
     /// A process offers a message on a link, or asks for one, and waits.
     ///
     /// # Errors
-    /// `Unaligned`, `WrongEnd`, `ZeroLength`, `LinkBusy` where one pends, those of the saved words and of the buffer;
-    /// `OutOfMemory`.
+    /// `Unaligned`, `WrongEnd`, `ZeroLength`, `LinkBusy` where one pends or is unfinished, those of the saved words and
+    /// of the buffer; `OutOfMemory`.
     pub fn takes_link(
         &mut self,
         process: u32,
@@ -90,6 +119,7 @@ impl Node {
         let LinkHalf::Empty = self.link_half(link, side) else {
             return Err(Fault::Stops(Stop::Breaks(Break::LinkBusy)));
         };
+        self.finished(side, link)?;
         self.set_link_half(link, side, LinkHalf::Offered(Request { process, buffer }));
         self.offers(process, context, side, &buffer)
     }
@@ -149,7 +179,8 @@ impl Node {
         };
         self.see_span(&output.buffer)?;
         let message = self.words.bytes_of(alloc, &output.buffer)?;
-        self.set_link_half(link, Side::Output, LinkHalf::Copied);
+        self.set_link_half(link, Side::Output, LinkHalf::Empty);
+        self.set_unfinished(link, true);
         let buffer = output.buffer;
         self.wakes(
             output.process,

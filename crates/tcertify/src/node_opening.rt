@@ -28,7 +28,7 @@ use tproc::workspace_of;
 use tword::Word;
 
 /// How many places each node has besides its words, processes, channels and workspaces.
-const FIXED_PLACES: u32 = 14;
+const FIXED_PLACES: u32 = 18;
 
 /// The context of a process of an image before its first step.
 fn first_context(process: &Process) -> Context

@@ -1,22 +1,82 @@
-//! Outputs of links that are over.
+//! Outputs of links that are over, and those whose processes have not gone on.
 
-ghost use Rattle.std.specs.Prelude.{◌<◌, negsuc};
+ghost use Rattle.std.specs.Prelude.{◌≡◌, ◌<◌, ◌+◌, Ok, negsuc};
+ghost use Rattle.tplan.specs.Wires.{end_at};
+ghost use Rattle.tprocesses.specs.Changes.{Put};
+ghost use Rattle.tprocesses.specs.LinkMessages.{finished};
+ghost use Rattle.tprocesses.specs.Parts.{change, see};
+ghost use Rattle.tprocesses.specs.Places as place;
 ghost use Rattle.tprocesses.specs.Standing as spec;
 ghost use Rattle.tprocesses.specs.Touching.{count_outputs};
+ghost use Rattle.tprocesses.specs.Values.{IsFlag};
 ghost use Rattle.tcertify.specs.Contexts.{lent_of};
 ghost use Rattle.tcertify.specs.Nodes.{Does, RunsAt, node_site, nothing};
 ghost use Rattle.tcertify.specs.Outputs.{frees_output};
+ghost use Rattle.tcertify.specs.Sides.{side_of};
 ghost use Rattle.tcertify.specs.Words.{told};
 
-use crate::channel::LinkHalf;
 use crate::context::Lent;
 use crate::fault::Fault;
 use crate::node::Node;
+use crate::notes::Mode;
 use crate::side::Side;
 use crate::stop::Stop;
-use tword::Span;
+use tword::{Break, Span};
 
 impl Node {
+    /// The number of the place that says whether the output of a link is unfinished.
+    #[inline(always)]
+    fn unfinished_place(&self, link: u32) -> u32
+        requires { link < 4 }
+        ensures { result ≡ self.now.fixed_place + 14 + link }
+    {
+        self.fixed_place + 14 + link
+    }
+
+    /// Whether the message of an output has gone over, and its process has not gone on.
+    #[inline(always)]
+    fn is_unfinished(&mut self, link: u32) -> bool
+        requires { link < 4 }
+        ensures { RunsAt (see (place.Unfinished (end_at self.old.words.number link))) self.old (Ok (IsFlag result))
+            self.new }
+    {
+        let place = self.unfinished_place(link);
+        self.words.notes.add(place, Mode::Looks);
+        self.links.is_unfinished(link)
+    }
+
+    /// The message of an output has gone over now, or its process has gone on.
+    #[inline(always)]
+    pub(crate) fn set_unfinished(&mut self, link: u32, unfinished: bool)
+        requires { link < 4 }
+        ensures { RunsAt (change (place.Unfinished (end_at self.old.words.number link)) (Put (IsFlag unfinished)))
+            self.old (Ok tt) self.new }
+    {
+        self.links.set_unfinished(link, unfinished);
+        let place = self.unfinished_place(link);
+        self.words.notes.add(place, Mode::Puts);
+    }
+
+    /// Whether the process of the last output of a link has gone on; an input has none.
+    ///
+    /// # Errors
+    /// `LinkBusy` where it has not.
+    pub(crate) fn finished(&mut self, side: Side, link: u32) -> Result<(), Stop>
+        requires { link < 4 }
+        ensures { RunsAt (finished (side_of side) (end_at self.old.words.number link)) self.old (told nothing result)
+            self.new }
+    {
+        match side {
+            Side::Input => Ok(()),
+            Side::Output => {
+                if self.is_unfinished(link) {
+                    return Err(Stop::Breaks(Break::LinkBusy));
+                }
+                Ok(())
+            }
+        }
+    }
+
     /// The buffer of an output may be written again.
     ///
     /// # Errors
@@ -43,10 +103,10 @@ impl Node {
         requires { link < 4 }
         ensures { RunsAt (frees_output (node_site self.old) link) self.old (told nothing result) self.new }
     {
-        let LinkHalf::Copied = self.link_half(link, Side::Output) else {
+        if !self.is_unfinished(link) {
             return Err(Stop::HasNoStep);
-        };
-        self.set_link_half(link, Side::Output, LinkHalf::Empty);
+        }
+        self.set_unfinished(link, false);
         Ok(())
     }
 

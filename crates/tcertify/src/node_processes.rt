@@ -47,7 +47,7 @@ fn is_ready(stand: &Stand) -> bool
     ensures { result ≡ is_ready (stand_of stand.now) }
 {
     match stand {
-        Stand::Rests(_) | Stand::Runs(_) | Stand::Chosen(_) => true,
+        Stand::Rests(_) | Stand::Runs(_) | Stand::Chosen(_) | Stand::Listens { .. } => true,
         Stand::Absent | Stand::Waits(_) | Stand::Chooses(_) | Stand::Ended => false,
     }
 }

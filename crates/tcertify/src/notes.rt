@@ -1,10 +1,10 @@
 //! Notes of what a step has touched.
 
-ghost use Rattle.std.specs.Prelude.{false, true, ◌≡◌, []};
+ghost use Rattle.std.specs.Prelude.{false, true, ◌≡◌, [], length};
 ghost use Rattle.tagents.specs.WalkAccesses as walks;
 ghost use Rattle.tprocesses.specs.Changes.{ChangeKind};
 ghost use Rattle.tprocesses.specs.Places.{Place};
-ghost use Rattle.tcertify.specs.Notes.{Keeps, Tells, tells_of};
+ghost use Rattle.tcertify.specs.Notes.{Keeps, MayRaise, Tells, tells_of};
 
 use crate::priority::Priority;
 use std::alloc::Global;
@@ -42,7 +42,9 @@ impl Mode {
             (Mode::Looks, Mode::Looks)
             | (Mode::Claims, Mode::Looks | Mode::Claims)
             | (Mode::Puts, Mode::Looks | Mode::Claims | Mode::Puts)
-            | (Mode::Lends, Mode::Lends) => true,
+            | (Mode::Lends, Mode::Lends)
+            | (Mode::Adds, Mode::Adds)
+            | (Mode::Raises, Mode::Raises) => true,
             _ => false,
         }
     }
@@ -55,12 +57,19 @@ pub struct Note {
     pub mode: Mode,
 }
 
-/// What a step has touched. Where memory is out, a note gets lost.
+/// How many hints there are.
+const HINTS: usize = 64;
+
+/// What a step has touched. Where memory is out, a note gets lost. Notes of earlier steps may stand first.
 #[derive(Drop)]
 pub struct Notes {
     pub items: Vec<Note>,
     /// Whether a note got lost.
     pub is_lost: bool,
+    /// So many of the first items are those of earlier steps.
+    pub earlier: usize,
+    /// Where the last note of a place may be. It is only a hint, so the note that is there is looked at.
+    hints: [u16; HINTS],
 }
 
 impl Notes {
@@ -72,27 +81,57 @@ impl Notes {
         Notes {
             items: Vec::new(alloc),
             is_lost: false,
+            earlier: 0,
+            hints: [0; HINTS],
         }
     }
 
-    /// Notes that the place of this number is touched so. Where the last note is of this place, one note may tell both.
+    /// Notes that the place of this number is touched so. Nothing is done where a note tells of that already.
     #[inline(always)]
     pub fn add(&mut self, place: u32, mode: Mode)
         ensures keeps { Keeps self.old self.new }
         ensures tells { Tells self.new place mode }
     {
-        let count = self.items.len();
-        if 0 < count {
-            let last = &mut self.items[count - 1];
-            if last.place == place {
-                if last.mode.tells(mode) {
-                    return;
-                }
-                if mode.tells(last.mode) {
-                    last.mode = mode;
-                    return;
-                }
-            }
+        if self.tells(place, mode) {
+            return;
+        }
+        self.note(place, mode);
+    }
+
+    /// Whether the note at the hint of a place tells of all accesses of which one of this mode tells.
+    #[inline(always)]
+    fn tells(&self, place: u32, mode: Mode) -> bool
+        ensures { result ≡ true → Tells self.now place mode }
+    {
+        let hint = self.hints[place as usize % HINTS];
+        match self.items.get(hint as usize) {
+            Some(known) => known.place == place && known.mode.tells(mode),
+            None => false,
+        }
+    }
+
+    /// Whether the note of this number is one of this step at the place, and one of this mode tells of all accesses of
+    /// which it tells.
+    #[inline(always)]
+    fn may_raise(&self, number: usize, place: u32, mode: Mode) -> bool
+        ensures { result ≡ true → MayRaise self.now number place mode }
+    {
+        match self.items.get(number) {
+            Some(known) => self.earlier <= number && known.place == place && mode.tells(known.mode),
+            None => false,
+        }
+    }
+
+    /// Notes it in place of the note at the hint, if that may be raised; else behind the other notes.
+    #[inline(never)]
+    fn note(&mut self, place: u32, mode: Mode)
+        ensures keeps { Keeps self.old self.new }
+        ensures tells { Tells self.new place mode }
+    {
+        let hint = self.hints[place as usize % HINTS] as usize;
+        if self.may_raise(hint, place, mode) {
+            self.items[hint].mode = mode;
+            return;
         }
         self.push(place, mode);
     }
@@ -103,8 +142,13 @@ impl Notes {
         ensures keeps { Keeps self.old self.new }
         ensures tells { Tells self.new place mode }
     {
+        let count = self.items.len();
         if self.items.push(Note { place, mode }).is_err() {
             self.is_lost = true;
+            return;
+        }
+        if let Ok(hint) = u16::try_from(count) {
+            self.hints[place as usize % HINTS] = hint;
         }
     }
 
@@ -112,8 +156,20 @@ impl Notes {
     pub fn clear(&mut self)
         ensures items { self.new.items.items ≡ [] }
         ensures none { self.new.is_lost ≡ false }
+        ensures earlier { self.new.earlier ≡ length self.new.items.items }
     {
         self.items.clear();
+        self.keep();
+    }
+
+    /// All notes are those of earlier steps, before a step.
+    #[inline(always)]
+    pub fn keep(&mut self)
+        ensures items { self.new.items.items ≡ self.old.items.items }
+        ensures none { self.new.is_lost ≡ false }
+        ensures earlier { self.new.earlier ≡ length self.new.items.items }
+    {
         self.is_lost = false;
+        self.earlier = self.items.len();
     }
 }

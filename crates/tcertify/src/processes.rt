@@ -12,6 +12,7 @@ use crate::process::{Process, Root};
 use crate::process_table::Processes;
 use crate::standing::Stand;
 use std::alloc::{AllocError, Global};
+use std::collections::HashMap;
 
 /// Whether two roots are the same.
 #[inline(always)]
@@ -79,6 +80,8 @@ impl Processes {
     {
         Processes {
             items: Vec::new(alloc),
+            latest: HashMap::new(alloc),
+            earlier: Vec::new(alloc),
         }
     }
 
@@ -86,10 +89,13 @@ impl Processes {
     pub fn find(&self, process: &Process) -> Option<usize>
         ensures { IsFound (name_of 0) (name_of 0 process.now) self.now.items.items result }
     {
-        for number in 0..self.items.len() {
+        let mut next = self.latest.get(&process.fingerprint()).copied();
+        while let Some(candidate) = next {
+            let number = candidate as usize;
             if self.items[number].is_named_as(process) {
                 return Some(number);
             }
+            next = self.earlier[number];
         }
         None
     }
@@ -133,13 +139,20 @@ impl Processes {
     /// One more process.
     ///
     /// # Errors
-    /// Where the allocator refuses; nothing is changed then.
+    /// Where the allocator refuses, or where there are 2^32 processes; nothing is changed then.
     pub fn push(&mut self, process: Process) -> Result<(), AllocError>
         requires { IsFound (name_of 0) (name_of 0 process) self.old.items.items None }
         ensures ok { OnOk result (self.new.items.items ≡ self.old.items.items ++ process ∷ []) }
         ensures err { OnErr result (self.new.items.items ≡ self.old.items.items) }
     {
-        self.items.push(process)?;
+        let Ok(number) = u32::try_from(self.items.len()) else {
+            return Err(AllocError);
+        };
+        self.items.reserve(1)?;
+        self.earlier.reserve(1)?;
+        let before = self.latest.insert(process.fingerprint(), number)?;
+        self.earlier.push_reserved(before);
+        self.items.push_reserved(process);
         Ok(())
     }
 

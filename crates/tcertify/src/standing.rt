@@ -1,6 +1,7 @@
 //! Where a process stands.
 
 use crate::context::Context;
+use tword::Word;
 
 /// Where a process stands.
 #[derive(Clone, Copy)]
@@ -17,5 +18,7 @@ pub enum Stand {
     Chooses(Context),
     /// It is ready, since one of them was.
     Chosen(Context),
+    /// It is ready, and disables the input of a link that did not make it go on: nobody may send at the far end.
+    Listens { channel: Word, context: Context },
     Ended,
 }

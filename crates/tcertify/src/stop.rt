@@ -14,9 +14,7 @@ pub enum Stop {
     Halts,
     /// A register or a byte decides that the scheduler may have changed.
     SawTheScheduler,
-    /// An alternative over a link, which this machine does not have.
-    HasAlternatives,
-    /// The scheduler decides which of several channels an alternative chooses.
+    /// The scheduler, or the timing of links, decides which of several channels an alternative chooses.
     SeveralReady,
     /// A word is touched that is in use as a channel, as a count or for an alternative.
     WordInUse,

@@ -1,27 +1,27 @@
 -- The accesses of a step: what is kept of a place tells of all that was accessed there, and the step knows of all that
 -- its accesses collide with.
-use Rattle.std.proofs.Common.{◌≡◌, ◌≢◌, ℕ, ◌≤◌, ◌⊎◌, inl, inr, Bool, true, false, not, cond, ◌&&◌, ◌||◌, ◌==◌, List, []}
-use Rattle.std.proofs.Common.{◌∷◌}
+use Rattle.std.proofs.Common.{◌≡◌, ◌≢◌, ℕ, ◌<◌, ◌≤◌, ◌⊎◌, inl, inr, Bool, true, false, not, cond, ◌&&◌, ◌||◌, ◌==◌}
+use Rattle.std.proofs.Common.{List, [], ◌∷◌}
 use Rattle.std.proofs.Common.{ap, refl, sym, ◌∙◌, subst, arith, slice_index, nat_le, None, Contains}
 use Rattle.std.proofs.Common.{true≢false}
 use Rattle.std.proofs.lemmas.Bool.{eqb-true, eq-eqb, leb-true}
 use Rattle.std.proofs.lemmas.List.{get_or-set_other}
 use Rattle.tagents.specs.Agents.{Agents}
-use Rattle.tagents.specs.Clocks.{Entry}
 use Rattle.tagents.specs.Tables.{Access as PlaceAccess, Accesses, Table}
 use Rattle.tclocks.specs.declared.mode.Mode.{Mode}
 use Rattle.tclocks.specs.declared.step.Step.{Step}
 use Rattle.tclocks.specs.declared.step.Access.{Access}
 use Rattle.tclocks.specs.Modes.{collide, covers}
 use Rattle.tclocks.specs.Places.{knows_of, races, first_race, NotesAccess}
-use Rattle.tclocks.specs.Checks.{Check, clock_of, accesses_at, IsAccessed}
+use Rattle.tclocks.specs.Checks.{Check, clock_of, clock_in, accesses_at, HasCounted, IsAccessed}
+use Rattle.tclocks.specs.Own.{NoneKnowFrom}
 use Rattle.tclocks.specs.Numbers.{Numbers}
-use Rattle.tclocks.specs.Followed.{counted, IsClosed, Tells, IsCovered, AreAccessed, HasCover}
+use Rattle.tclocks.specs.Followed.{EachOf, counted, CountsToo, EachClock, IsCovered, AreOrdered, AreAccessed, HasCover}
 use Rattle.tclocks.proofs.Lists.{test, found-none}
 use Rattle.tclocks.proofs.ModeLemmas.{both-ways, covers-collide, covers-trans}
 
 -- a test that one of two holds
-either : (a b : Bool) → (a || b) ≡ true → (a ≡ true) ⊎ (b ≡ true)
+pub either : (a b : Bool) → (a || b) ≡ true → (a ≡ true) ⊎ (b ≡ true)
 either true b h = inl refl
 either false b h = inr h
 
@@ -45,24 +45,22 @@ pub same-or-not : (i j : ℕ) → (i ≡ j) ⊎ (i ≢ j)
 same-or-not i j = grind arith
 
 module _ {State Agent Label Place Kind : Type 0} (m : Agents State Agent Label) (accesses : Accesses Place Kind Label)
-    (numbers : Numbers Agent Place Kind) (entries : List (Entry Agent Label)) (f : Entry Agent Label) (x n : ℕ)
-    (clock : List ℕ) (bound : ℕ → ℕ) where
-  -- the step comes behind the others: its number, its clock, and how many steps each agent has begun
+    (numbers : Numbers Agent Place Kind) (base : Check) (x n : ℕ) (clock : List ℕ) (bound : ℕ → ℕ) where
+  -- the step comes behind the others: its clock, and how many steps each agent has begun
   pub record IsNext : Type 0 where
-    pub agent : numbers.agent (m.agent_of f.label) ≡ x
-    pub place : f.place ≡ n
-    pub past : (a : Agent) → f.past a ≡ counted numbers clock a
+    pub same : clock_of base x ≡ clock
     pub own : slice_index clock x ≡ n
     pub begun : bound x ≡ n
-    pub closed : IsClosed m numbers entries clock
+    pub alone : NoneKnowFrom base x n
     pub collide : (p : Place) (j k : Kind) → accesses.collide j k ≡ true
         → collide (numbers.mode p j) (numbers.mode p k) ≡ true
 
   abbrev pub step : Step
   step = record { agent = x; number = n }
 
-  closed-all : IsNext → IsClosed m numbers (f ∷ entries) clock
-  closed-all s = (λ k a. (let e : f.past a ≡ counted numbers clock a = s.past a in omega (arith, e)), s.closed)
+  -- an access of it
+  abbrev made : PlaceAccess ℕ Mode → Access
+  made access = record { mode = access.mode; step = step }
 
   abbrev pub AreKept : Check → Type 0
   AreKept c = (place : ℕ) (access : Access) → Contains (accesses_at c place) access
@@ -70,24 +68,50 @@ module _ {State Agent Label Place Kind : Type 0} (m : Agents State Agent Label) 
 
   abbrev pub AreCovered : Check → Table m accesses → Type 0
   AreCovered c table = (p : Place) (k : Kind) (a : Agent)
-      → IsCovered m numbers (f ∷ entries) (accesses_at c (numbers.place p)) (numbers.mode p k) a (table p k a)
+      → IsCovered base (accesses_at c (numbers.place p)) (numbers.mode p k) (numbers.agent a) (table p k a)
+
+  abbrev pub AreAllOrdered : Check → Type 0
+  AreAllOrdered c = (place : ℕ) → AreOrdered base (accesses_at c place)
 
   abbrev pub AreBegun : Table m accesses → Type 0
   AreBegun table = (p : Place) (k : Kind) (a : Agent) → table p k a ≤ bound (numbers.agent a)
 
-  -- an access that the step knows of was counted by its clock
+  -- an access of the step's own number was counted by its clock
+  own-counted : IsNext → (access : Access) → access.step.number ≤ bound access.step.agent → access.step.agent ≡ x
+      → access.step.number ≤ slice_index clock access.step.agent
+  own-counted s access few e =
+      let top : access.step.number ≤ bound x = subst (λ (i : ℕ). access.step.number ≤ bound i) e few in
+      subst (λ (i : ℕ). access.step.number ≤ slice_index clock i) (sym e) (omega (arith, top, s.own, s.begun))
+
+  -- and so was each one that the step knows of
   known : IsNext → (access : Access) → access.step.number ≤ bound access.step.agent
       → knows_of x clock access.step ≡ true → access.step.number ≤ slice_index clock access.step.agent
   known s access few k =
       elim (either (access.step.agent == x) (nat_le access.step.number (slice_index clock access.step.agent)) k) as
       (λ _. access.step.number ≤ slice_index clock access.step.agent) [
-        | inl own ↦
-            let e : access.step.agent ≡ x = eqb-true access.step.agent x own in
-            let top : access.step.number ≤ bound x = subst (λ (i : ℕ). access.step.number ≤ bound i) e few in
-            subst (λ (i : ℕ). access.step.number ≤ slice_index clock i) (sym e)
-            (omega (arith, top, s.own, s.begun))
+        | inl own ↦ own-counted s access few (eqb-true access.step.agent x own)
         | inr counts ↦ leb-true access.step.number (slice_index clock access.step.agent) counts
       ]
+
+  -- what holds of all clocks that have counted an access holds of the clock of the step
+  at-clock : IsNext → (access : Access) (a k : ℕ) → EachClock (CountsToo access.step a k) base
+      → access.step.number ≤ slice_index clock access.step.agent → k ≤ slice_index clock a
+  at-clock s access a k tells = subst (λ (own : List ℕ). CountsToo access.step a k own) s.same (tells.agents x)
+
+  -- a step of the agent that nobody else knows of tells of all that the clock knows
+  alone-tells : IsNext → (number : ℕ) → NoneKnowFrom base x number → (a k : ℕ) → k ≤ slice_index clock a
+      → EachClock (CountsToo (record { agent = x; number = number }) a k) base
+  alone-tells s number alone a k h = record {
+    agents = λ other. elim (same-or-not other x) as
+        (λ _. CountsToo (record { agent = x; number = number }) a k (clock_of base other)) [
+          | inl e ↦ λ counts. subst (λ (own : List ℕ). k ≤ slice_index own a)
+              (sym (ap (λ (i : ℕ). clock_of base i) e ∙ s.same)) h
+          | inr away ↦ λ counts. (let few : slice_index (clock_of base other) x < number = alone.clocks other away in
+              absurd (omega (arith, few, counts)))
+        ];
+    slots = λ slot counts. (let few : slice_index (clock_in base slot) x < number = alone.slots slot in
+        absurd (omega (arith, few, counts)));
+  }
 
   -- an access collides with nothing that the step does not know of
   permits : IsNext → (c : Check) (access : PlaceAccess ℕ Mode) (table : Table m accesses) → AreKept c
@@ -108,7 +132,7 @@ module _ {State Agent Label Place Kind : Type 0} (m : Agents State Agent Label) 
             ∙ covers-collide other.mode (numbers.mode p j) (numbers.mode p k) over (s.collide p j k clash)) in
             let calm : races x clock access.mode other ≡ false =
             found-none (races x clock access.mode) (accesses_at c access.place) other none there in
-            tells clock (closed-all s)
+            at-clock s other (numbers.agent a) (table p j a) tells
             (known s other (kept access.place other there)
             (known-one (collide other.mode access.mode) (knows_of x clock other.step) calm hits))
       ]
@@ -169,18 +193,6 @@ module _ {State Agent Label Place Kind : Type 0} (m : Agents State Agent Label) 
         | inr miss ↦ subst (λ (b : Bool). table p k a ≤ cond b n (table p k a)) (sym miss) (omega arith)
       ]
 
-  -- a new access tells of all that the step knows
-  new_tells : IsNext → (access : Access) → access.step ≡ step → (a : Agent) (k : ℕ) → k ≤ counted numbers clock a
-      → Tells m numbers (f ∷ entries) access a k
-  new_tells s access same a k h other closed counts =
-      let count : n ≤ slice_index other x =
-      subst (λ (t : Step). t.number ≤ slice_index other t.agent) same counts in
-      let first : f.place ≤ counted numbers other (m.agent_of f.label) =
-      subst (λ (i : ℕ). f.place ≤ slice_index other i) (sym s.agent) (omega (arith, count, s.place)) in
-      let all : f.past a ≤ counted numbers other a = closed.0 first a in
-      let e : f.past a ≡ counted numbers clock a = s.past a in
-      omega (arith, all, e, h)
-
   -- what is kept of a place tells of the accesses there, those of the step too
   covered_more : IsNext → (c d : Check) (access : PlaceAccess ℕ Mode) (table : Table m accesses) → AreKept c
       → AreCovered c table
@@ -190,30 +202,31 @@ module _ {State Agent Label Place Kind : Type 0} (m : Agents State Agent Label) 
       → AreCovered d (with_access access table)
   covered_more s c d access table kept covered noted others p k a =
       elim (test (hits access p k a)) as
-      (λ _. IsCovered m numbers (f ∷ entries) (accesses_at d (numbers.place p)) (numbers.mode p k) a
+      (λ _. IsCovered base (accesses_at d (numbers.place p)) (numbers.mode p k) (numbers.agent a)
       (with_access access table p k a)) [
         | inl hit ↦
             let is : IsHit access p k a = is_hit access p k a hit in
             subst (λ (b : Bool).
-            IsCovered m numbers (f ∷ entries) (accesses_at d (numbers.place p)) (numbers.mode p k) a
+            IsCovered base (accesses_at d (numbers.place p)) (numbers.mode p k) (numbers.agent a)
             (cond b n (table p k a))) (sym hit)
             (inr (
               record { mode = access.mode; step = step },
               subst (λ (place : ℕ). Contains (accesses_at d place) (record { mode = access.mode; step = step })) is.here
                   noted.noted,
               is.over,
-              λ other closed counts. subst (λ (i : ℕ). n ≤ slice_index other i) (sym is.own) counts,
+              alone-tells s n s.alone (numbers.agent a) n
+                  (subst (λ (i : ℕ). n ≤ slice_index clock i) (sym is.own) (omega (arith, s.own))),
             ))
         | inr miss ↦
             subst (λ (b : Bool).
-            IsCovered m numbers (f ∷ entries) (accesses_at d (numbers.place p)) (numbers.mode p k) a
+            IsCovered base (accesses_at d (numbers.place p)) (numbers.mode p k) (numbers.agent a)
             (cond b n (table p k a))) (sym miss)
             (elim (same-or-not (numbers.place p) access.place) as
-            (λ _. IsCovered m numbers (f ∷ entries) (accesses_at d (numbers.place p)) (numbers.mode p k) a
+            (λ _. IsCovered base (accesses_at d (numbers.place p)) (numbers.mode p k) (numbers.agent a)
             (table p k a)) [
               | inr away ↦
                   subst (λ (list : List Access).
-                  IsCovered m numbers (f ∷ entries) list (numbers.mode p k) a (table p k a))
+                  IsCovered base list (numbers.mode p k) (numbers.agent a) (table p k a))
                   (sym (others (numbers.place p) away)) (covered p k a)
               | inl here ↦ at_place s c d access table kept noted p k a here (covered p k a)
             ])
@@ -223,14 +236,14 @@ module _ {State Agent Label Place Kind : Type 0} (m : Agents State Agent Label) 
           → NotesAccess clock (record { mode = access.mode; step = step }) (accesses_at c access.place)
           (accesses_at d access.place)
           → (p : Place) (k : Kind) (a : Agent) → numbers.place p ≡ access.place
-          → IsCovered m numbers (f ∷ entries) (accesses_at c (numbers.place p)) (numbers.mode p k) a (table p k a)
-          → IsCovered m numbers (f ∷ entries) (accesses_at d (numbers.place p)) (numbers.mode p k) a (table p k a)
+          → IsCovered base (accesses_at c (numbers.place p)) (numbers.mode p k) (numbers.agent a) (table p k a)
+          → IsCovered base (accesses_at d (numbers.place p)) (numbers.mode p k) (numbers.agent a) (table p k a)
       at_place s c d access table kept noted p k a here (inl none) = inl none
       at_place s c d access table kept noted p k a here (inr (old, has, over, tells)) =
           let there : Contains (accesses_at c access.place) old =
           subst (λ (place : ℕ). Contains (accesses_at c place) old) here has in
           elim (noted.kept old there) as
-          (λ _. IsCovered m numbers (f ∷ entries) (accesses_at d (numbers.place p)) (numbers.mode p k) a
+          (λ _. IsCovered base (accesses_at d (numbers.place p)) (numbers.mode p k) (numbers.agent a)
           (table p k a)) [
             | inl still ↦
                 inr (old, subst (λ (place : ℕ). Contains (accesses_at d place) old) (sym here) still, over, tells)
@@ -239,8 +252,9 @@ module _ {State Agent Label Place Kind : Type 0} (m : Agents State Agent Label) 
               subst (λ (place : ℕ). Contains (accesses_at d place) (record { mode = access.mode; step = step }))
                   (sym here) noted.noted,
               covers-trans access.mode old.mode (numbers.mode p k) replaced.covered over,
-              new_tells s (record { mode = access.mode; step = step }) refl a (table p k a)
-                  (tells clock (closed-all s) (known s old (kept access.place old there) replaced.known)),
+              alone-tells s n s.alone (numbers.agent a) (table p k a)
+                  (at-clock s old (numbers.agent a) (table p k a) tells
+                  (known s old (kept access.place old there) replaced.known)),
             )
           ]
 
@@ -260,9 +274,48 @@ module _ {State Agent Label Place Kind : Type 0} (m : Agents State Agent Label) 
             ]
       ]
 
+  -- of accesses that collide, the agent of one still knows of the other
+  ordered_more : IsNext → (c d : Check) (access : PlaceAccess ℕ Mode) → AreKept c → AreAllOrdered c
+      → first_race x clock access.mode (accesses_at c access.place) ≡ None
+      → NotesAccess clock (record { mode = access.mode; step = step }) (accesses_at c access.place)
+      (accesses_at d access.place)
+      → ((place : ℕ) → place ≢ access.place → accesses_at d place ≡ accesses_at c place) → AreAllOrdered d
+  ordered_more s c d access kept ordered none noted others place =
+      elim (same-or-not place access.place) as (λ _. AreOrdered base (accesses_at d place)) [
+        | inr away ↦ subst (λ (list : List Access). AreOrdered base list) (sym (others place away)) (ordered place)
+        | inl here ↦ subst (λ (q : ℕ). AreOrdered base (accesses_at d q)) (sym here) at_place
+      ]
+    where
+      knows : (y : Access) → Contains (accesses_at c access.place) y → collide y.mode access.mode ≡ true
+          → HasCounted base x y.step
+      knows y has hits =
+          subst (λ (own : List ℕ). y.step.number ≤ slice_index own y.step.agent) (sym s.same)
+          (known s y (kept access.place y has)
+          (known-one (collide y.mode access.mode) (knows_of x clock y.step)
+          (found-none (races x clock access.mode) (accesses_at c access.place) y none has) hits))
+
+      pair : (y z : Access) → (y ≡ made access) ⊎ Contains (accesses_at c access.place) y
+          → (z ≡ made access) ⊎ Contains (accesses_at c access.place) z → collide y.mode z.mode ≡ true
+          → HasCounted base y.step.agent z.step ⊎ HasCounted base z.step.agent y.step
+      pair y z (inr old) (inr other) hits = ordered access.place y z old other hits
+      pair y z (inl e) (inr other) hits =
+          inl (subst (λ (w : Access). HasCounted base w.step.agent z.step) (sym e)
+          (knows z other (both-ways z.mode access.mode ∙ subst (λ (w : Access). collide w.mode z.mode ≡ true) e hits)))
+      pair y z (inr old) (inl e) hits =
+          inr (subst (λ (w : Access). HasCounted base w.step.agent y.step) (sym e)
+          (knows y old (subst (λ (w : Access). collide y.mode w.mode ≡ true) e hits)))
+      pair y z (inl e) (inl g) hits =
+          inl (subst (λ (w : Access). HasCounted base w.step.agent z.step) (sym e)
+          (subst (λ (w : Access). HasCounted base x w.step) (sym g)
+          (subst (λ (own : List ℕ). n ≤ slice_index own x) (sym s.same) (omega (arith, s.own)))))
+
+      at_place : AreOrdered base (accesses_at d access.place)
+      at_place y z has had hits = pair y z (noted.only y has) (noted.only z had) hits
+
   -- what is proved of the accesses of a step
   pub record AreTabled (done : List (PlaceAccess ℕ Mode)) (c : Check) (table : Table m accesses) : Type 0 where
     pub kept : AreKept c
+    pub ordered : AreAllOrdered c
     pub covered : AreCovered c (tabled done table)
     pub begun : AreBegun (tabled done table)
     pub grows : (p : Place) (k : Kind) (a : Agent) → table p k a ≤ tabled done table p k a
@@ -288,19 +341,55 @@ module _ {State Agent Label Place Kind : Type 0} (m : Agents State Agent Label) 
       wide
       (eq-eqb (numbers.agent a) x own)))
 
+  -- an access, and those behind it
+  one_more : IsNext → (access : PlaceAccess ℕ Mode) (rest : List (PlaceAccess ℕ Mode)) (d : Check)
+      (table : Table m accesses) → AreBegun table
+      → ((p : Place) (j k : Kind) (a : Agent) → access.place ≡ numbers.place p
+      → covers access.mode (numbers.mode p k) ≡ true → accesses.collide j k ≡ true
+      → table p j a ≤ counted numbers clock a)
+      → AreTabled rest d (with_access access table) → AreTabled (access ∷ rest) d table
+  one_more s access rest d table begun permitted more = record {
+    kept = more.kept;
+    ordered = more.ordered;
+    covered = more.covered;
+    begun = more.begun;
+    grows = λ p k a. (let one : table p k a ≤ with_access access table p k a =
+        table_grows s access table begun p k a in
+        let all : with_access access table p k a ≤ tabled rest (with_access access table) p k a =
+        more.grows p k a in
+        omega (arith, one, all));
+    notes = λ p k a has own. elim has as (λ _. n ≤ tabled (access ∷ rest) table p k a) [
+      | inl here ↦
+          let now : with_access access table p k a ≡ n = hit access table p k a here.0 here.1 own in
+          let all : with_access access table p k a ≤ tabled rest (with_access access table) p k a =
+          more.grows p k a in
+          omega (arith, now, all)
+      | inr later ↦ more.notes p k a later own
+    ];
+    permits = λ p j k a has clash. elim has as (λ _. table p j a ≤ counted numbers clock a) [
+      | inl here ↦ permitted p j k a here.0 here.1 clash
+      | inr later ↦
+          let one : table p j a ≤ with_access access table p j a = table_grows s access table begun p j a in
+          let all : with_access access table p j a ≤ counted numbers clock a = more.permits p j k a later clash in
+          omega (arith, one, all)
+    ];
+  }
+
+  -- accesses that are told
   pub accessed : IsNext → (done : List (PlaceAccess ℕ Mode)) (c d : Check) (table : Table m accesses)
-      → clock_of c x ≡ clock → AreKept c → AreCovered c table → AreBegun table → AreAccessed step done c d
-      → AreTabled done d table
-  accessed s [] c d table same kept covered begun are =
+      → clock_of c x ≡ clock → AreKept c → AreAllOrdered c → AreCovered c table → AreBegun table
+      → AreAccessed step done c d → AreTabled done d table
+  accessed s [] c d table same kept ordered covered begun are =
       record {
         kept = subst (λ (e : Check). AreKept e) (sym are) kept;
+        ordered = subst (λ (e : Check). AreAllOrdered e) (sym are) ordered;
         covered = subst (λ (e : Check). AreCovered e table) (sym are) covered;
         begun = begun;
         grows = λ p k a. omega arith;
         notes = λ p k a has own. absurd has;
         permits = λ p j k a has clash. absurd has;
       }
-  accessed s (access ∷ rest) c d table same kept covered begun (between, is, are) =
+  accessed s (access ∷ rest) c d table same kept ordered covered begun (between, is, are) =
       let noted : NotesAccess clock (record { mode = access.mode; step = step }) (accesses_at c access.place)
       (accesses_at between access.place) =
       subst (λ (own : List ℕ). NotesAccess own (record { mode = access.mode; step = step })
@@ -310,32 +399,93 @@ module _ {State Agent Label Place Kind : Type 0} (m : Agents State Agent Label) 
       let others : (place : ℕ) → place ≢ access.place → accesses_at between place ≡ accesses_at c place =
       others_same c between access is in
       let next : clock_of between x ≡ clock = ap (λ (e : Check). clock_of e x) is.only ∙ same in
-      let more : AreTabled rest d (with_access access table) =
-      accessed s rest between d (with_access access table) next (kept_more s c between access kept noted others)
+      one_more s access rest d table begun (permits s c access table kept covered none)
+      (accessed s rest between d (with_access access table) next (kept_more s c between access kept noted others)
+      (ordered_more s c between access kept ordered none noted others)
       (covered_more s c between access table kept covered noted others)
-      (begun_more s access table begun) are in
+      (begun_more s access table begun) are)
+
+  -- an access that its agent made before, and of which nobody else knows
+  abbrev pub IsOwned : Check → PlaceAccess ℕ Mode → Type 0
+  IsOwned c access = (old : Access) × Contains (accesses_at c access.place) old × (old.step.agent ≡ x)
+      × (covers old.mode access.mode ≡ true) × NoneKnowFrom base x old.step.number
+
+  -- the step knows of all that such an access collides with: who made that did not know of this one
+  own_permits : IsNext → (c : Check) (access : PlaceAccess ℕ Mode) (table : Table m accesses) → AreKept c
+      → AreAllOrdered c → AreCovered c table → IsOwned c access
+      → (p : Place) (j k : Kind) (a : Agent) → access.place ≡ numbers.place p
+      → covers access.mode (numbers.mode p k) ≡ true
+      → accesses.collide j k ≡ true → table p j a ≤ counted numbers clock a
+  own_permits s c access table kept ordered covered (old, there, by, wide, alone) p j k a here more clash =
+      elim (covered p j a) as (λ _. table p j a ≤ counted numbers clock a) [
+        | inl zero_steps ↦ omega (arith, zero_steps)
+        | inr (other, has, over, tells) ↦
+            let beside : Contains (accesses_at c access.place) other =
+            subst (λ (place : ℕ). Contains (accesses_at c place) other) (sym here) has in
+            let hits : collide old.mode other.mode ≡ true =
+            covers-collide old.mode (numbers.mode p k) other.mode
+            (covers-trans old.mode access.mode (numbers.mode p k) wide more)
+            (both-ways (numbers.mode p k) other.mode
+            ∙ covers-collide other.mode (numbers.mode p j) (numbers.mode p k) over (s.collide p j k clash)) in
+            at-clock s other (numbers.agent a) (table p j a) tells
+            (elim (same-or-not other.step.agent x) as
+            (λ _. other.step.number ≤ slice_index clock other.step.agent) [
+              | inl own ↦ own-counted s other (kept access.place other beside) own
+              | inr away ↦ elim (ordered access.place old other there beside hits) as
+                  (λ _. other.step.number ≤ slice_index clock other.step.agent) [
+                    | inl counts ↦
+                        subst (λ (own : List ℕ). other.step.number ≤ slice_index own other.step.agent)
+                        (ap (λ (i : ℕ). clock_of base i) by ∙ s.same) counts
+                    | inr knows ↦
+                        let few : slice_index (clock_of base other.step.agent) x < old.step.number =
+                        alone.clocks other.step.agent away in
+                        let count : old.step.number ≤ slice_index (clock_of base other.step.agent) x =
+                        subst (λ (i : ℕ). old.step.number ≤ slice_index (clock_of base other.step.agent) i) by knows in
+                        absurd (omega (arith, few, count))
+                  ]
+            ])
+      ]
+
+  own_covered : IsNext → (c : Check) (access : PlaceAccess ℕ Mode) (table : Table m accesses) → AreCovered c table
+      → IsOwned c access → AreCovered c (with_access access table)
+  own_covered s c access table covered (old, there, by, wide, alone) p k a =
+      elim (test (hits access p k a)) as
+      (λ _. IsCovered base (accesses_at c (numbers.place p)) (numbers.mode p k) (numbers.agent a)
+      (with_access access table p k a)) [
+        | inl hit ↦
+            let is : IsHit access p k a = is_hit access p k a hit in
+            subst (λ (b : Bool).
+            IsCovered base (accesses_at c (numbers.place p)) (numbers.mode p k) (numbers.agent a)
+            (cond b n (table p k a))) (sym hit)
+            (inr (
+              old,
+              subst (λ (place : ℕ). Contains (accesses_at c place) old) is.here there,
+              covers-trans old.mode access.mode (numbers.mode p k) wide is.over,
+              subst (λ (i : ℕ). EachClock (CountsToo (record { agent = i; number = old.step.number })
+                  (numbers.agent a) n) base) (sym by)
+                  (alone-tells s old.step.number alone (numbers.agent a) n
+                  (subst (λ (i : ℕ). n ≤ slice_index clock i) (sym is.own) (omega (arith, s.own)))),
+            ))
+        | inr miss ↦
+            subst (λ (b : Bool).
+            IsCovered base (accesses_at c (numbers.place p)) (numbers.mode p k) (numbers.agent a)
+            (cond b n (table p k a))) (sym miss) (covered p k a)
+      ]
+
+  -- accesses that need not be told
+  pub owned : IsNext → (own : List (PlaceAccess ℕ Mode)) (c : Check) (table : Table m accesses) → AreKept c
+      → AreAllOrdered c → AreCovered c table → AreBegun table → EachOf (IsOwned c) own → AreTabled own c table
+  owned s [] c table kept ordered covered begun each =
       record {
-        kept = more.kept;
-        covered = more.covered;
-        begun = more.begun;
-        grows = λ p k a. (let one : table p k a ≤ with_access access table p k a =
-            table_grows s access table begun p k a in
-            let all : with_access access table p k a ≤ tabled rest (with_access access table) p k a =
-            more.grows p k a in
-            omega (arith, one, all));
-        notes = λ p k a has own. elim has as (λ _. n ≤ tabled (access ∷ rest) table p k a) [
-          | inl here ↦
-              let now : with_access access table p k a ≡ n = hit access table p k a here.0 here.1 own in
-              let all : with_access access table p k a ≤ tabled rest (with_access access table) p k a =
-              more.grows p k a in
-              omega (arith, now, all)
-          | inr later ↦ more.notes p k a later own
-        ];
-        permits = λ p j k a has clash. elim has as (λ _. table p j a ≤ counted numbers clock a) [
-          | inl here ↦ permits s c access table kept covered none p j k a here.0 here.1 clash
-          | inr later ↦
-              let one : table p j a ≤ with_access access table p j a = table_grows s access table begun p j a in
-              let all : with_access access table p j a ≤ counted numbers clock a = more.permits p j k a later clash in
-              omega (arith, one, all)
-        ];
+        kept = kept;
+        ordered = ordered;
+        covered = covered;
+        begun = begun;
+        grows = λ p k a. omega arith;
+        notes = λ p k a has own. absurd has;
+        permits = λ p j k a has clash. absurd has;
       }
+  owned s (access ∷ rest) c table kept ordered covered begun each =
+      one_more s access rest c table begun (own_permits s c access table kept ordered covered each.0)
+      (owned s rest c (with_access access table) kept ordered (own_covered s c access table covered each.0)
+      (begun_more s access table begun) each.1)

@@ -25,5 +25,5 @@ told-by-cover m accesses numbers check writers agent slots done label told = rec
   by = told.by;
   added = told.added;
   leads = told.leads;
-  all = λ p k has. has-cover done (numbers.place p) (numbers.mode p k) (told.all p k has);
+  all = λ p k has. inl (has-cover done (numbers.place p) (numbers.mode p k) (told.all p k has));
 }

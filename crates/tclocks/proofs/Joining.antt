@@ -2,12 +2,10 @@
 use Rattle.std.proofs.Common.{◌≡◌, ◌≢◌, ℕ, ◌+◌, ◌<◌, ◌≤◌, ◌⊎◌, inl, inr, List, [], ◌∷◌, ap, refl, sym, ◌∙◌, subst}
 use Rattle.std.proofs.Common.{length, max, arith, slice_index, slice_set, slice_index_or}
 use Rattle.std.proofs.lemmas.List.{get_or-set_same, get_or-set_other, set-set, length-set}
-use Rattle.tagents.specs.Agents.{Agents}
-use Rattle.tagents.specs.Clocks.{Entry}
+use Rattle.tclocks.specs.declared.step.Step.{Step}
 use Rattle.tclocks.specs.Clocks.{joined, raised}
 use Rattle.tclocks.specs.Checks.{Check, clock_of, clock_in, with_joined}
-use Rattle.tclocks.specs.Numbers.{Numbers}
-use Rattle.tclocks.specs.Followed.{EachOf, OneOf, with_all_joined, counted, IsClosed}
+use Rattle.tclocks.specs.Followed.{OneOf, with_all_joined, CountsToo}
 use Rattle.tclocks.proofs.ClockLemmas.{slice_index-joined, length-joined}
 
 -- a clock that joined those in these slots
@@ -121,62 +119,50 @@ length-raised clock agent = length-set clock agent (slice_index clock agent + 1)
 pub same-or-not : (i j : ℕ) → (i ≡ j) ⊎ (i ≢ j)
 same-or-not i j = grind arith
 
-module _ {State Agent Label Place Kind : Type 0} (m : Agents State Agent Label)
-    (numbers : Numbers Agent Place Kind) where
-  -- closed clocks, joined
-  pub closed-joined : (entries : List (Entry Agent Label)) (clock other : List ℕ) → IsClosed m numbers entries clock
-      → IsClosed m numbers entries other → IsClosed m numbers entries (joined clock other)
-  closed-joined [] clock other h g = tt
-  closed-joined (z ∷ zs) clock other h g = (
-    λ k a. (let own : counted numbers (joined clock other) (m.agent_of z.label)
-        ≡ max (counted numbers clock (m.agent_of z.label)) (counted numbers other (m.agent_of z.label)) =
-        slice_index-joined clock other (numbers.agent (m.agent_of z.label)) in
-        let both : counted numbers (joined clock other) a ≡ max (counted numbers clock a) (counted numbers other a) =
-        slice_index-joined clock other (numbers.agent a) in
-        elim (one-max z.place (counted numbers clock (m.agent_of z.label))
-        (counted numbers other (m.agent_of z.label)) (omega (arith, k, own))) as
-        (λ _. z.past a ≤ counted numbers (joined clock other) a) [
-          | inl first ↦ let b : z.past a ≤ counted numbers clock a = h.0 first a in omega (arith, b, both)
-          | inr second ↦ let b : z.past a ≤ counted numbers other a = g.0 second a in omega (arith, b, both)
-        ]),
-    closed-joined zs clock other h.1 g.1,
-  )
+-- so it counts no less
+pub raised-grows : (clock : List ℕ) (agent i : ℕ) → agent < length clock
+    → slice_index clock i ≤ slice_index (raised clock agent) i
+raised-grows clock agent i l =
+    elim (same-or-not i agent) as (λ _. slice_index clock i ≤ slice_index (raised clock agent) i) [
+      | inl e ↦ subst (λ (j : ℕ). slice_index clock j ≤ slice_index (raised clock agent) j) (sym e)
+          (let r : slice_index (raised clock agent) agent ≡ slice_index clock agent + 1 = raised-same clock agent l in
+          omega (arith, r))
+      | inr n ↦ let r : slice_index (raised clock agent) i ≡ slice_index clock i = raised-other clock agent i n in
+          omega (arith, r)
+    ]
 
-  pub closed-joined_all : (entries : List (Entry Agent Label)) (table : List (List ℕ)) (slots : List ℕ) (clock : List ℕ)
-      → IsClosed m numbers entries clock
-      → ((slot : ℕ) → IsClosed m numbers entries (slice_index_or table slot []))
-      → IsClosed m numbers entries (joined_all table slots clock)
-  closed-joined_all entries table [] clock h each = h
-  closed-joined_all entries table (slot ∷ slots) clock h each =
-      closed-joined_all entries table slots (joined clock (slice_index_or table slot []))
-      (closed-joined entries clock (slice_index_or table slot []) h (each slot)) each
+-- of clocks that count steps of an agent with another step, the joined ones do
+pub counts-joined : (step : Step) (agent n : ℕ) (clock other : List ℕ) → CountsToo step agent n clock
+    → CountsToo step agent n other → CountsToo step agent n (joined clock other)
+counts-joined step agent n clock other h g k =
+    let own : slice_index (joined clock other) step.agent
+    ≡ max (slice_index clock step.agent) (slice_index other step.agent) =
+    slice_index-joined clock other step.agent in
+    let both : slice_index (joined clock other) agent ≡ max (slice_index clock agent) (slice_index other agent) =
+    slice_index-joined clock other agent in
+    elim (one-max step.number (slice_index clock step.agent) (slice_index other step.agent) (omega (arith, k, own))) as
+    (λ _. n ≤ slice_index (joined clock other) agent) [
+      | inl first ↦ let b : n ≤ slice_index clock agent = h first in omega (arith, b, both)
+      | inr second ↦ let b : n ≤ slice_index other agent = g second in omega (arith, b, both)
+    ]
 
-  -- a clock that counts one more step, which none of these is
-  pub closed-raised : (entries : List (Entry Agent Label)) (clock : List ℕ) (agent : ℕ) → agent < length clock
-      → EachOf (λ z. numbers.agent (m.agent_of z.label) ≡ agent → z.place ≤ slice_index clock agent) entries
-      → IsClosed m numbers entries clock → IsClosed m numbers entries (raised clock agent)
-  closed-raised [] clock agent l few h = tt
-  closed-raised (z ∷ zs) clock agent l few h = (
-    λ k a. (let known : z.past a ≤ counted numbers clock a =
-        h.0 (before (numbers.agent (m.agent_of z.label)) z.place few.0 k) a in
-        let more : counted numbers clock a ≤ counted numbers (raised clock agent) a = grows (numbers.agent a) in
-        omega (arith, known, more)),
-    closed-raised zs clock agent l few.1 h.1,
-  )
-    where
-      grows : (i : ℕ) → slice_index clock i ≤ slice_index (raised clock agent) i
-      grows i = elim (same-or-not i agent) as (λ _. slice_index clock i ≤ slice_index (raised clock agent) i) [
-        | inl e ↦ subst (λ (j : ℕ). slice_index clock j ≤ slice_index (raised clock agent) j) (sym e)
-            (let r : slice_index (raised clock agent) agent ≡ slice_index clock agent + 1 = raised-same clock agent l in
-            omega (arith, r))
-        | inr n ↦ let r : slice_index (raised clock agent) i ≡ slice_index clock i = raised-other clock agent i n in
-            omega (arith, r)
-      ]
+pub counts-joined_all : (step : Step) (agent n : ℕ) (table : List (List ℕ)) (slots : List ℕ) (clock : List ℕ)
+    → CountsToo step agent n clock → ((slot : ℕ) → CountsToo step agent n (slice_index_or table slot []))
+    → CountsToo step agent n (joined_all table slots clock)
+counts-joined_all step agent n table [] clock h each = h
+counts-joined_all step agent n table (slot ∷ slots) clock h each =
+    counts-joined_all step agent n table slots (joined clock (slice_index_or table slot []))
+    (counts-joined step agent n clock (slice_index_or table slot []) h (each slot)) each
 
-      before : (i n : ℕ) → (i ≡ agent → n ≤ slice_index clock agent) → n ≤ slice_index (raised clock agent) i
-          → n ≤ slice_index clock i
-      before i n bound k = elim (same-or-not i agent) as (λ _. n ≤ slice_index clock i) [
-        | inl e ↦ subst (λ (j : ℕ). n ≤ slice_index clock j) (sym e) (bound e)
-        | inr d ↦ let r : slice_index (raised clock agent) i ≡ slice_index clock i = raised-other clock agent i d in
-            omega (arith, k, r)
-      ]
+-- and so does one that counts one more step, which is not that one
+pub counts-raised : (step : Step) (agent n : ℕ) (clock : List ℕ) (by : ℕ) → by < length clock
+    → (step.agent ≡ by → step.number ≤ slice_index clock by) → CountsToo step agent n clock
+    → CountsToo step agent n (raised clock by)
+counts-raised step agent n clock by l old h k =
+    let known : n ≤ slice_index clock agent = h (before (same-or-not step.agent by)) in
+    let more : slice_index clock agent ≤ slice_index (raised clock by) agent = raised-grows clock by agent l in
+    omega (arith, known, more)
+  where
+    before : (step.agent ≡ by) ⊎ (step.agent ≢ by) → step.number ≤ slice_index clock step.agent
+    before (inl e) = subst (λ (i : ℕ). step.number ≤ slice_index clock i) (sym e) (old e)
+    before (inr d) = subst (λ (i : ℕ). step.number ≤ i) (raised-other clock by step.agent d) k

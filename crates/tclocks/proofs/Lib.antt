@@ -30,3 +30,5 @@ pub mod Renumbering
 pub mod Knowing
 -- agents that share a number
 pub mod Turning
+-- how long nobody else knows of an access
+pub mod Owning

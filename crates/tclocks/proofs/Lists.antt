@@ -1,6 +1,6 @@
 -- Facts on each or one of a list, and what lists contain.
 use Rattle.std.proofs.Common.{◌≡◌, ◌⊎◌, inl, inr, Bool, true, false, cond, List, [], ◌∷◌, suc, zero, ap, refl, sym, ◌∙◌}
-use Rattle.std.proofs.Common.{arith, None, Some, find, Contains}
+use Rattle.std.proofs.Common.{arith, None, Some, find, Contains, ℕ, ◌<◌, ◌≤◌, length, get_or}
 use Rattle.tclocks.specs.Followed.{EachOf, OneOf}
 
 pub each-more : {A : Type 0} (P Q : A → Type 0) → ((x : A) → P x → Q x) → (xs : List A) → EachOf P xs → EachOf Q xs
@@ -52,3 +52,12 @@ found-none p (x ∷ xs) y none has =
   where
     some-none : {A : Type 0} (x : A) → Some x ≡ None → ⊥
     some-none x e = cc
+
+-- what is behind the end of a list
+pub past-end : {A : Type 0} (xs : List A) (i : ℕ) (d : A) → length xs ≤ i → get_or xs i d ≡ d
+past-end [] i d h = refl
+past-end (x ∷ xs) zero d h = absurd (omega (arith, h))
+past-end (x ∷ xs) (suc i) d h = past-end xs i d (omega (arith, h))
+
+pub below-or-not : (i n : ℕ) → (i < n) ⊎ (n ≤ i)
+below-or-not i n = grind arith

@@ -45,8 +45,9 @@ module _ {State Agent Label Place Kind : Type 0} (m : Agents State Agent Label) 
     places = tt;
     pasts = tt;
     clocks = λ i h. absurd (omega (arith, h));
-    slots = λ slot. record { closed = tt; within = λ i. omega arith; known = λ a. inl refl };
+    slots = λ slot. record { within = λ i. omega arith; known = λ a. inl refl };
     tables = λ p k a. omega arith;
     kept = λ place access has. absurd (omega (arith, has.1));
     covered = λ p k a. inl refl;
+    ordered = λ place x y has. absurd (omega (arith, has.1));
   }

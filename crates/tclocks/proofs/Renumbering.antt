@@ -1,26 +1,18 @@
 -- What was not added yet may be given other numbers: no step knows of it, and nothing was accessed there.
-use Rattle.std.proofs.Common.{◌≡◌, ℕ, ◌<◌, ◌≤◌, ◌⊎◌, inl, inr, true, List, [], ◌∷◌, ap, refl, sym, ◌∙◌, subst, arith}
-use Rattle.std.proofs.Common.{suc, zero}
-use Rattle.std.proofs.Common.{length, slice_index, Contains, get_or}
+use Rattle.std.proofs.Common.{◌≡◌, ℕ, ◌<◌, ◌≤◌, ◌⊎◌, inl, inr, true, List, [], ◌∷◌, ap, sym, ◌∙◌, subst, arith}
+use Rattle.std.proofs.Common.{length, slice_index, Contains}
 use Rattle.tagents.specs.Agents.{Agents}
 use Rattle.tagents.specs.Clocks.{Entry}
 use Rattle.tagents.specs.Tables.{Accesses, Table}
 use Rattle.tclocks.specs.declared.mode.Mode.{Mode}
+use Rattle.tclocks.specs.declared.step.Step.{Step}
 use Rattle.tclocks.specs.declared.step.Access.{Access}
 use Rattle.tclocks.specs.Modes.{collide, covers}
 use Rattle.tclocks.specs.Checks.{Check, clock_of, clock_in, accesses_at, steps_of}
 use Rattle.tclocks.specs.Numbers.{Numbers, Extends}
-use Rattle.tclocks.specs.Followed.{EachOf, OneOf, counted, IsWithin, IsClosed, IsClockOf, IsClockBy, Tells, IsCovered}
+use Rattle.tclocks.specs.Followed.{EachOf, OneOf, counted, IsWithin, CountsToo, IsCovered, IsClockOf, IsClockBy}
 use Rattle.tclocks.specs.Followed.{HavePassed, Follows}
-use Rattle.tclocks.proofs.Lists.{each-more, each-both, one-more, one-each}
-
-past-end : {A : Type 0} (xs : List A) (i : ℕ) (d : A) → length xs ≤ i → get_or xs i d ≡ d
-past-end [] i d h = refl
-past-end (x ∷ xs) zero d h = absurd (omega (arith, h))
-past-end (x ∷ xs) (suc i) d h = past-end xs i d (omega (arith, h))
-
-below-or-not : (i n : ℕ) → (i < n) ⊎ (n ≤ i)
-below-or-not i n = grind arith
+use Rattle.tclocks.proofs.Lists.{each-more, each-both, one-more, one-each, past-end, below-or-not}
 
 module _ {State Agent Label Place Kind : Type 0} (m : Agents State Agent Label) (accesses : Accesses Place Kind Label)
     (numbers more : Numbers Agent Place Kind) (entries : List (Entry Agent Label)) (table : Table m accesses)
@@ -55,39 +47,6 @@ module _ {State Agent Label Place Kind : Type 0} (m : Agents State Agent Label) 
       → more.agent (m.agent_of z.label) ≡ numbers.agent (m.agent_of z.label)
   same-agent z h = extends.agents (m.agent_of z.label) h.0
 
-  -- so clocks are closed by either numbers
-  past-more : (z : Entry Agent Label) → IsKnown z → (clock : List ℕ) (a : Agent)
-      → z.past a ≤ counted numbers clock a → z.past a ≤ counted more clock a
-  past-more z h clock a few = elim (below-or-not (numbers.agent a) count) as (λ _. z.past a ≤ counted more clock a) [
-    | inl old ↦ subst (λ (i : ℕ). z.past a ≤ slice_index clock i) (sym (extends.agents a old)) few
-    | inr new ↦ omega (arith, unknown z h a new)
-  ]
-
-  past-back : (z : Entry Agent Label) → IsKnown z → (clock : List ℕ) (a : Agent)
-      → z.past a ≤ counted more clock a → z.past a ≤ counted numbers clock a
-  past-back z h clock a few = elim (below-or-not (numbers.agent a) count) as (λ _. z.past a ≤ counted numbers clock a) [
-    | inl old ↦ subst (λ (i : ℕ). z.past a ≤ slice_index clock i) (extends.agents a old) few
-    | inr new ↦ omega (arith, unknown z h a new)
-  ]
-
-  closed-more : (zs : List (Entry Agent Label)) → EachOf IsKnown zs → (clock : List ℕ) → IsClosed m numbers zs clock
-      → IsClosed m more zs clock
-  closed-more [] each clock h = tt
-  closed-more (z ∷ zs) each clock h = (
-    λ k a. past-more z each.0 clock a
-        (h.0 (subst (λ (i : ℕ). z.place ≤ slice_index clock i) (same-agent z each.0) k) a),
-    closed-more zs each.1 clock h.1,
-  )
-
-  closed-back : (zs : List (Entry Agent Label)) → EachOf IsKnown zs → (clock : List ℕ) → IsClosed m more zs clock
-      → IsClosed m numbers zs clock
-  closed-back [] each clock h = tt
-  closed-back (z ∷ zs) each clock h = (
-    λ k a. past-back z each.0 clock a
-        (h.0 (subst (λ (i : ℕ). z.place ≤ slice_index clock i) (sym (same-agent z each.0)) k) a),
-    closed-back zs each.1 clock h.1,
-  )
-
   -- what a clock has counted of an agent by the new number
   counted-cases : (clock : List ℕ) → IsWithin check clock → (a : Agent)
       → (counted more clock a ≡ 0) ⊎ (counted more clock a ≡ counted numbers clock a)
@@ -101,7 +60,6 @@ module _ {State Agent Label Place Kind : Type 0} (m : Agents State Agent Label) 
   clocks-more i h =
       let was : IsClockOf m numbers entries check i (clock_of check i) = seen.clocks i h in record {
         long = was.long;
-        closed = closed-more entries known (clock_of check i) was.closed;
         within = was.within;
         known = λ a other. elim (counted-cases (clock_of check i) was.within a) as
             (λ _. (counted more (clock_of check i) a ≡ 0)
@@ -138,7 +96,6 @@ module _ {State Agent Label Place Kind : Type 0} (m : Agents State Agent Label) 
   slots-more : (slot : ℕ) → IsClockBy m more entries check (writers slot) (clock_in check slot)
   slots-more slot =
       let was : IsClockBy m numbers entries check (writers slot) (clock_in check slot) = seen.slots slot in record {
-        closed = closed-more entries known (clock_in check slot) was.closed;
         within = was.within;
         known = λ a. elim (counted-cases (clock_in check slot) was.within a) as
             (λ _. (counted more (clock_in check slot) a ≡ 0)
@@ -171,27 +128,30 @@ module _ {State Agent Label Place Kind : Type 0} (m : Agents State Agent Label) 
       let few : table p k a ≤ steps_of check (numbers.agent a) = seen.tables p k a in
       omega (arith, few, no-steps (numbers.agent a) new)
 
-  tells-more : (access : Access) (p : Place) (k : Kind) (a : Agent) → Tells m numbers entries access a (table p k a)
-      → Tells m more entries access a (table p k a)
-  tells-more access p k a tells clock closed counts =
-      let few : table p k a ≤ counted numbers clock a = tells clock (closed-back entries known clock closed) counts in
+  counts-more : (step : Step) (p : Place) (k : Kind) (a : Agent) (clock : List ℕ)
+      → CountsToo step (numbers.agent a) (table p k a) clock → CountsToo step (more.agent a) (table p k a) clock
+  counts-more step p k a clock tells counts =
+      let few : table p k a ≤ counted numbers clock a = tells counts in
       elim (below-or-not (numbers.agent a) count) as (λ _. table p k a ≤ counted more clock a) [
         | inl old ↦ subst (λ (i : ℕ). table p k a ≤ slice_index clock i) (sym (extends.agents a old)) few
         | inr new ↦ omega (arith, table-none p k a new)
       ]
 
   covered-more : (p : Place) (k : Kind) (a : Agent)
-      → IsCovered m more entries (accesses_at check (more.place p)) (more.mode p k) a (table p k a)
+      → IsCovered check (accesses_at check (more.place p)) (more.mode p k) (more.agent a) (table p k a)
   covered-more p k a = elim (seen.covered p k a) as
-      (λ _. IsCovered m more entries (accesses_at check (more.place p)) (more.mode p k) a (table p k a)) [
+      (λ _. IsCovered check (accesses_at check (more.place p)) (more.mode p k) (more.agent a) (table p k a)) [
         | inl none ↦ inl none
         | inr (access, has, over, tells) ↦ elim (below-or-not (numbers.place p) (length check.places)) as
-            (λ _. IsCovered m more entries (accesses_at check (more.place p)) (more.mode p k) a (table p k a)) [
+            (λ _. IsCovered check (accesses_at check (more.place p)) (more.mode p k) (more.agent a) (table p k a)) [
               | inl old ↦ inr (
                 access,
                 subst (λ (place : ℕ). Contains (accesses_at check place) access) (sym (extends.places p old)) has,
                 subst (λ (mode : Mode). covers access.mode mode ≡ true) (sym (extends.modes p k)) over,
-                tells-more access p k a tells,
+                record {
+                  agents = λ i. counts-more access.step p k a (clock_of check i) (tells.agents i);
+                  slots = λ slot. counts-more access.step p k a (clock_in check slot) (tells.slots slot);
+                },
               )
               | inr new ↦
                   let nothing : Contains {X = Access} [] access =
@@ -244,4 +204,5 @@ module _ {State Agent Label Place Kind : Type 0} (m : Agents State Agent Label) 
         ];
     kept = seen.kept;
     covered = covered-more;
+    ordered = seen.ordered;
   }

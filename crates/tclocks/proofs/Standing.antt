@@ -9,26 +9,27 @@ use Rattle.std.proofs.lemmas.List.{get_or-set_other, length-append, length-repli
 use Rattle.tagents.specs.Agents.{Agents}
 use Rattle.tagents.specs.Clocks.{Entry}
 use Rattle.tagents.specs.Tables.{Accesses, Table}
+use Rattle.tclocks.specs.declared.step.Step.{Step}
 use Rattle.tclocks.specs.declared.step.Access.{Access}
 use Rattle.tclocks.specs.Clocks.{joined}
-use Rattle.tclocks.specs.Checks.{Check, clock_of, clock_in, accesses_at, steps_of, with_agent, with_slot}
+use Rattle.tclocks.specs.Checks.{Check, clock_of, clock_in, accesses_at, steps_of, HasCounted, with_agent, with_slot}
 use Rattle.tclocks.specs.Checks.{with_places, with_handed, with_added, with_cleared}
 use Rattle.tclocks.specs.Numbers.{Numbers, AreNumbers}
-use Rattle.tclocks.specs.Followed.{EachOf, OneOf, counted, IsWithin, entry_of, IsClosed, IsClockOf, IsClockBy}
-use Rattle.tclocks.specs.Followed.{IsCovered, HavePassed, Follows}
+use Rattle.tclocks.specs.Followed.{OneOf, counted, IsWithin, entry_of, CountsToo, EachClock, IsCovered, AreOrdered}
+use Rattle.tclocks.specs.Followed.{IsClockOf, IsClockBy, Follows}
 use Rattle.tclocks.specs.Laws.{with_writers}
 use Rattle.tclocks.proofs.Lists.{test, each-more, one-more}
 use Rattle.tclocks.proofs.ClockLemmas.{slice_index-joined}
-use Rattle.tclocks.proofs.Joining.{same-or-not, is-max, closed-joined}
+use Rattle.tclocks.proofs.Joining.{same-or-not, is-max, counts-joined}
 
 -- a list with defaults behind its end
-get_or-defaults : {A : Type 0} (xs ys : List A) (i : ℕ) (d : A) → ((k : ℕ) → get_or ys k d ≡ d)
+pub get_or-defaults : {A : Type 0} (xs ys : List A) (i : ℕ) (d : A) → ((k : ℕ) → get_or ys k d ≡ d)
     → get_or (xs ++ ys) i d ≡ get_or xs i d
 get_or-defaults [] ys i d all = all i
 get_or-defaults (x ∷ xs) ys zero d all = refl
 get_or-defaults (x ∷ xs) ys (suc i) d all = get_or-defaults xs ys i d all
 
-get_or-copies : {A : Type 0} (n k : ℕ) (d : A) → get_or (replicate n d) k d ≡ d
+pub get_or-copies : {A : Type 0} (n k : ℕ) (d : A) → get_or (replicate n d) k d ≡ d
 get_or-copies zero k d = refl
 get_or-copies (suc n) zero d = refl
 get_or-copies (suc n) (suc k) d = get_or-copies n k d
@@ -54,34 +55,53 @@ set-one [] i x d = inr refl
 set-one (y ∷ ys) zero x d = inl refl
 set-one (y ∷ ys) (suc i) x d = set-one ys i x d
 
+-- what holds of all in a list, and behind it, still does where one is set
+pub each-set : {A : Type 0} (P : A → Type 0) (xs : List A) (i : ℕ) (x d : A) → P x → P d → ((k : ℕ) → P (get_or xs k d))
+    → (k : ℕ) → P (get_or (slice_set xs i x) k d)
+each-set P xs i x d here behind each k = elim (same-or-not k i) as (λ _. P (get_or (slice_set xs i x) k d)) [
+  | inr away ↦ subst P (sym (get_or-set_other xs i k x d away)) (each k)
+  | inl e ↦ subst (λ (j : ℕ). P (get_or (slice_set xs i x) j d)) (sym e)
+      (elim (set-one xs i x d) as (λ _. P (get_or (slice_set xs i x) i d)) [
+        | inl s ↦ subst P (sym s) here
+        | inr s ↦ subst P (sym s) behind
+      ])
+]
+
+-- a clock with no counts counts steps of an agent with a step, if all clocks do: there are slots that are not there
+nothing-counts : (step : Step) (agent n : ℕ) (check : Check) → EachClock (CountsToo step agent n) check
+    → CountsToo step agent n []
+nothing-counts step agent n check tells =
+    subst (λ (c : List ℕ). CountsToo step agent n c) (get_or-behind check.slots []) (tells.slots (length check.slots))
+
+-- one more agent has done nothing
+abbrev pub zeros : Check → List ℕ
+zeros check = replicate (length check.clocks + 1) 0
+
+clock-old : (check : Check) (i : ℕ) → i ≢ length check.clocks → clock_of (with_agent check) i ≡ clock_of check i
+clock-old check i other = get_or-before check.clocks (zeros check) [] i other
+
+-- so each clock has counted what it had
+pub counts-stay : (check : Check) (i j : ℕ)
+    → slice_index (clock_of (with_agent check) i) j ≡ slice_index (clock_of check i) j
+counts-stay check i j = elim (same-or-not i (length check.clocks)) as
+    (λ _. slice_index (clock_of (with_agent check) i) j ≡ slice_index (clock_of check i) j) [
+      | inl e ↦ subst (λ (k : ℕ). slice_index (clock_of (with_agent check) k) j ≡ slice_index (clock_of check k) j)
+          (sym e)
+          (ap (λ (c : List ℕ). slice_index c j) (get_or-end check.clocks (zeros check) [])
+          ∙ get_or-copies (length check.clocks + 1) j 0
+          ∙ sym (ap (λ (c : List ℕ). slice_index c j) (get_or-behind check.clocks [])))
+      | inr other ↦ ap (λ (c : List ℕ). slice_index c j) (clock-old check i other)
+    ]
+
 eqb-apart : (i j : ℕ) → (i == j) ≡ false → i ≡ j → ⊥
 eqb-apart i j h e = true≢false (sym (eq-eqb i j e) ∙ h)
 
 module _ {State Agent Label Place Kind : Type 0} (m : Agents State Agent Label) (accesses : Accesses Place Kind Label)
     (numbers : Numbers Agent Place Kind) where
-  -- each step that passed has a number
-  pub have_numbers : (entries : List (Entry Agent Label)) (table : Table m accesses)
-      → HavePassed m accesses numbers entries table → EachOf (λ z. 0 < z.place) entries
-  have_numbers [] table h = tt
-  have_numbers (f ∷ earlier) table (before, checked, passed) = (checked.counted, have_numbers earlier before passed)
-
-  -- a clock that knows nothing is closed
-  closed-nothing : (entries : List (Entry Agent Label)) (clock : List ℕ) → ((i : ℕ) → slice_index clock i ≡ 0)
-      → EachOf (λ z. 0 < z.place) entries → IsClosed m numbers entries clock
-  closed-nothing [] clock none h = tt
-  closed-nothing (z ∷ zs) clock none h = (
-    λ k a. absurd (omega (arith, k, h.0, none (numbers.agent (m.agent_of z.label)))),
-    closed-nothing zs clock none h.1,
-  )
-
   module _ (entries : List (Entry Agent Label)) (table : Table m accesses) (writers : ℕ → List Label) (check : Check)
       (seen : Follows m accesses numbers entries table writers check) where
-    numbers-there : EachOf (λ z. 0 < z.place) entries
-    numbers-there = have_numbers entries table seen.passed
-
     by-nobody : (some : List Label) → IsClockBy m numbers entries check some []
     by-nobody some = record {
-      closed = closed-nothing entries [] (λ i. refl) numbers-there;
       within = λ i. omega arith;
       known = λ a. inl refl;
     }
@@ -90,8 +110,10 @@ module _ {State Agent Label Place Kind : Type 0} (m : Agents State Agent Label) 
     with_slots : (slots : List (List ℕ)) (places : List (List Access)) (others : ℕ → List Label)
         → ((place : ℕ) → slice_index_or places place [] ≡ accesses_at check place)
         → ((slot : ℕ) → IsClockBy m numbers entries check (others slot) (slice_index_or slots slot []))
+        → ((step : Step) (agent n : ℕ) → EachClock (CountsToo step agent n) check → (slot : ℕ)
+        → CountsToo step agent n (slice_index_or slots slot []))
         → Follows m accesses numbers entries table others (record check { slots = slots; places = places })
-    with_slots slots places others same written = record {
+    with_slots slots places others same written tell = record {
       numbered = record {
         same = seen.numbered.same;
         collide = seen.numbered.collide;
@@ -103,28 +125,39 @@ module _ {State Agent Label Place Kind : Type 0} (m : Agents State Agent Label) 
       pasts = seen.pasts;
       clocks = λ i h. (let was : IsClockOf m numbers entries check i (clock_of check i) = seen.clocks i h in record {
         long = was.long;
-        closed = was.closed;
         within = was.within;
         known = was.known;
       });
       slots = λ slot. record {
-        closed = (written slot).closed;
         within = (written slot).within;
         known = (written slot).known;
       };
       tables = seen.tables;
       kept = λ place access has. seen.kept place access
           (subst (λ (list : List Access). Contains list access) (same place) has);
-      covered = λ p k a. subst
-          (λ (list : List Access). IsCovered m numbers entries list (numbers.mode p k) a (table p k a))
-          (sym (same (numbers.place p))) (seen.covered p k a);
+      covered = λ p k a. elim (seen.covered p k a) as
+          (λ _. IsCovered (record check { slots = slots; places = places })
+          (slice_index_or places (numbers.place p) []) (numbers.mode p k) (numbers.agent a) (table p k a)) [
+            | inl none ↦ inl none
+            | inr (access, has, over, tells) ↦ inr (
+              access,
+              subst (λ (list : List Access). Contains list access) (sym (same (numbers.place p))) has,
+              over,
+              record {
+                agents = tells.agents;
+                slots = tell access.step (numbers.agent a) (table p k a) tells;
+              },
+            )
+          ];
+      ordered = λ place. subst (λ (list : List Access). AreOrdered check list) (sym (same place)) (seen.ordered place);
     }
 
     -- one slot was written
     pub with_written : (slot : ℕ) (some : List Label) (clock : List ℕ) → IsClockBy m numbers entries check some clock
+        → ((step : Step) (agent n : ℕ) → EachClock (CountsToo step agent n) check → CountsToo step agent n clock)
         → Follows m accesses numbers entries table (with_writers slot some writers)
         (record check { slots = slice_set check.slots slot clock })
-    with_written slot some clock written =
+    with_written slot some clock written tell =
         with_slots (slice_set check.slots slot clock) check.places (with_writers slot some writers) (λ place. refl)
         (λ other. elim (test (other == slot)) as
         (λ _. IsClockBy m numbers entries check (with_writers slot some writers other)
@@ -147,10 +180,13 @@ module _ {State Agent Label Place Kind : Type 0} (m : Agents State Agent Label) 
               (sym (get_or-set_other check.slots slot other clock [] (λ e. eqb-apart other slot away e)))
               (seen.slots other))
         ])
+        (λ step agent n tells other. each-set (CountsToo step agent n) check.slots slot clock []
+        (tell step agent n tells) (nothing-counts step agent n check tells) tells.slots other)
 
     pub cleared : (slot : ℕ) → Follows m accesses numbers entries table (with_writers slot [] writers)
         (with_cleared slot check)
     cleared slot = with_written slot [] [] (by-nobody [])
+        (λ step agent n tells. nothing-counts step agent n check tells)
 
     pub slot_added : Follows m accesses numbers entries table writers (with_slot check)
     slot_added =
@@ -158,36 +194,24 @@ module _ {State Agent Label Place Kind : Type 0} (m : Agents State Agent Label) 
         (λ slot. subst (λ (c : List ℕ). IsClockBy m numbers entries check (writers slot) c)
         (sym (get_or-defaults check.slots ([] ∷ []) slot [] (λ k. get_or-copies 1 k [])))
         (seen.slots slot))
+        (λ step agent n tells slot. subst (λ (c : List ℕ). CountsToo step agent n c)
+        (sym (get_or-defaults check.slots ([] ∷ []) slot [] (λ k. get_or-copies 1 k []))) (tells.slots slot))
 
     pub places_added : (count : ℕ) → Follows m accesses numbers entries table writers (with_places count check)
     places_added count =
         with_slots check.slots (check.places ++ replicate count []) writers
         (λ place. get_or-defaults check.places (replicate count []) place [] (λ k. get_or-copies count k []))
-        seen.slots
-
-    -- one more agent has done nothing
-    abbrev zeros : List ℕ
-    zeros = replicate (length check.clocks + 1) 0
-
-    clock-old : (i : ℕ) → i ≢ length check.clocks → clock_of (with_agent check) i ≡ clock_of check i
-    clock-old i other = get_or-before check.clocks zeros [] i other
+        seen.slots (λ step agent n tells. tells.slots)
 
     steps-stay : (i : ℕ) → steps_of (with_agent check) i ≡ steps_of check i
-    steps-stay i = elim (same-or-not i (length check.clocks)) as
-        (λ _. steps_of (with_agent check) i ≡ steps_of check i) [
-          | inl e ↦ subst (λ (j : ℕ). steps_of (with_agent check) j ≡ steps_of check j) (sym e)
-              (ap (λ (c : List ℕ). slice_index c (length check.clocks)) (get_or-end check.clocks zeros [])
-              ∙ get_or-copies (length check.clocks + 1) (length check.clocks) 0
-              ∙ sym (ap (λ (c : List ℕ). slice_index c (length check.clocks)) (get_or-behind check.clocks [])))
-          | inr other ↦ ap (λ (c : List ℕ). slice_index c i) (clock-old i other)
-        ]
+    steps-stay i = counts-stay check i i
 
     within-stays : (clock : List ℕ) → IsWithin check clock → IsWithin (with_agent check) clock
     within-stays clock within i = let few : slice_index clock i ≤ steps_of check i = within i in
         omega (arith, few, steps-stay i)
 
     length-more : length (with_agent check).clocks ≡ length check.clocks + 1
-    length-more = length-append check.clocks (zeros ∷ [])
+    length-more = length-append check.clocks (zeros check ∷ [])
 
     pub agent_added : AreNumbers m accesses numbers (with_agent check)
         → Follows m accesses numbers entries table writers (with_agent check)
@@ -207,10 +231,9 @@ module _ {State Agent Label Place Kind : Type 0} (m : Agents State Agent Label) 
       clocks = λ i h. elim (same-or-not i (length check.clocks)) as
           (λ _. IsClockOf m numbers entries (with_agent check) i (clock_of (with_agent check) i)) [
             | inl e ↦ subst (λ (c : List ℕ). IsClockOf m numbers entries (with_agent check) i c)
-                (sym (ap (λ (j : ℕ). clock_of (with_agent check) j) e ∙ get_or-end check.clocks zeros [])) record {
+                (sym (ap (λ (j : ℕ). clock_of (with_agent check) j) e
+                ∙ get_or-end check.clocks (zeros check) [])) record {
                   long = omega (arith, e, length-replicate {A = ℕ} (length check.clocks + 1) 0);
-                  closed = closed-nothing entries zeros (λ k. get_or-copies (length check.clocks + 1) k 0)
-                      numbers-there;
                   within = λ k. omega (arith, get_or-copies {A = ℕ} (length check.clocks + 1) k 0);
                   known = λ a other. inl (get_or-copies (length check.clocks + 1) (numbers.agent a) 0);
                 }
@@ -218,16 +241,14 @@ module _ {State Agent Label Place Kind : Type 0} (m : Agents State Agent Label) 
                 let was : IsClockOf m numbers entries check i (clock_of check i) =
                 seen.clocks i (omega (arith, h, other, length-more)) in
                 subst (λ (c : List ℕ). IsClockOf m numbers entries (with_agent check) i c)
-                (sym (clock-old i other)) record {
+                (sym (clock-old check i other)) record {
                   long = was.long;
-                  closed = was.closed;
                   within = within-stays (clock_of check i) was.within;
                   known = was.known;
                 }
           ];
       slots = λ slot. (let was : IsClockBy m numbers entries check (writers slot) (clock_in check slot) =
           seen.slots slot in record {
-            closed = was.closed;
             within = within-stays (clock_in check slot) was.within;
             known = was.known;
           });
@@ -236,7 +257,28 @@ module _ {State Agent Label Place Kind : Type 0} (m : Agents State Agent Label) 
       kept = λ place access has. (let few : access.step.number ≤ steps_of check access.step.agent =
           seen.kept place access has in
           omega (arith, few, steps-stay access.step.agent));
-      covered = seen.covered;
+      covered = λ p k a. elim (seen.covered p k a) as
+          (λ _. IsCovered (with_agent check) (accesses_at check (numbers.place p)) (numbers.mode p k) (numbers.agent a)
+          (table p k a)) [
+            | inl none ↦ inl none
+            | inr (access, has, over, tells) ↦ inr (
+              access,
+              has,
+              over,
+              record {
+                agents = λ i counts. (let more : table p k a ≤ slice_index (clock_of check i) (numbers.agent a) =
+                    tells.agents i (subst (λ (c : ℕ). access.step.number ≤ c) (counts-stay check i access.step.agent)
+                    counts) in
+                    omega (arith, more, counts-stay check i (numbers.agent a)));
+                slots = tells.slots;
+              },
+            )
+          ];
+      ordered = λ place x y has had hits. elim (seen.ordered place x y has had hits) as
+          (λ _. HasCounted (with_agent check) x.step.agent y.step ⊎ HasCounted (with_agent check) y.step.agent x.step) [
+            | inl h ↦ inl (subst (λ (c : ℕ). y.step.number ≤ c) (sym (counts-stay check x.step.agent y.step.agent)) h)
+            | inr h ↦ inr (subst (λ (c : ℕ). x.step.number ≤ c) (sym (counts-stay check y.step.agent x.step.agent)) h)
+          ];
     }
 
   -- the clock of the agent that did the last step, handed on
@@ -255,10 +297,9 @@ module _ {State Agent Label Place Kind : Type 0} (m : Agents State Agent Label) 
     pub handed : (slot : ℕ) → Follows m accesses numbers all table (with_writers slot (label ∷ []) writers)
         (with_handed x slot check)
     handed slot = with_written all table writers check seen slot (label ∷ []) (clock_of check x) record {
-      closed = own.closed;
       within = own.within;
       known = λ a. inr (inl (inl refl, omega arith));
-    }
+    } (λ step agent n tells. tells.agents x)
 
     pub added : (slot : ℕ) → Follows m accesses numbers all table (with_writers slot (label ∷ writers slot) writers)
         (with_added x slot check)
@@ -269,7 +310,6 @@ module _ {State Agent Label Place Kind : Type 0} (m : Agents State Agent Label) 
         slice_index-joined (clock_in check slot) (clock_of check x) in
         with_written all table writers check seen slot (label ∷ writers slot)
         (joined (clock_in check slot) (clock_of check x)) record {
-          closed = closed-joined m numbers all (clock_in check slot) (clock_of check x) was.closed own.closed;
           within = λ i. (let first : slice_index (clock_in check slot) i ≤ steps_of check i = was.within i in
               let second : slice_index (clock_of check x) i ≤ steps_of check i = own.within i in
               omega (arith, first, second, both i));
@@ -281,6 +321,8 @@ module _ {State Agent Label Place Kind : Type 0} (m : Agents State Agent Label) 
                 | inr second ↦ inr (inl (inl refl, omega (arith, both (numbers.agent a), second)))
               ];
         }
+        (λ step agent n tells. counts-joined step agent n (clock_in check slot) (clock_of check x) (tells.slots slot)
+        (tells.agents x))
       where
         from_slot : (a : Agent)
             → counted numbers (joined (clock_in check slot) (clock_of check x)) a

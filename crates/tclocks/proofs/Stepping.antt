@@ -1,28 +1,34 @@
 -- A step that was told to the check is checked, and the check follows the run on.
-use Rattle.std.proofs.Common.{◌≡◌, ◌≢◌, ℕ, ◌+◌, ◌<◌, ◌≤◌, ◌⊎◌, inl, inr, true, false, List, [], ◌∷◌, ap, sym, ◌∙◌}
+use Rattle.std.proofs.Common.{◌≡◌, ◌≢◌, ℕ, ◌+◌, ◌<◌, ◌≤◌, ◌⊎◌, inl, inr, true, false, List, [], ◌∷◌, ap, refl, sym, ◌∙◌}
 use Rattle.std.proofs.Common.{subst, arith}
 use Rattle.std.proofs.Common.{length, slice_index, slice_set, slice_index_or, true≢false}
 use Rattle.std.proofs.lemmas.List.{length-set}
 use Rattle.tagents.specs.Agents.{Agents}
 use Rattle.tagents.specs.Races.{ComesBefore}
 use Rattle.tagents.specs.Clocks.{Entry, OneKnows, NoneKnows}
-use Rattle.tagents.specs.Tables.{Access as PlaceAccess, Accesses, Table, IsChecked}
+use Rattle.tagents.specs.Tables.{Access as PlaceAccess, Accesses, HasAccess, Table, IsChecked}
 use Rattle.tclocks.specs.declared.mode.Mode.{Mode}
 use Rattle.tclocks.specs.declared.step.Step.{Step}
 use Rattle.tclocks.specs.Clocks.{raised}
-use Rattle.tclocks.specs.Checks.{Check, clock_of, clock_in, accesses_at, steps_of, next_step}
+use Rattle.tclocks.specs.Checks.{Check, clock_of, clock_in, accesses_at, steps_of, HasCounted, next_step}
+use Rattle.tclocks.specs.Modes.{covers}
+use Rattle.tclocks.specs.Own.{NoneKnowFrom, IsOwnYet}
 use Rattle.tclocks.specs.Numbers.{Numbers}
-use Rattle.tclocks.specs.Followed.{EachOf, OneOf, AreAccessed, IsStep, counted, IsWithin, entry_of, IsClosed}
-use Rattle.tclocks.specs.Followed.{IsClockOf, IsClockBy, IsCovered, Follows, IsToldByCover}
+use Rattle.tclocks.specs.Followed.{EachOf, OneOf, AreAccessed, HasCover, IsStep, counted, IsWithin, entry_of}
+use Rattle.tclocks.specs.Followed.{CountsToo, EachClock, IsCovered, AreOrdered, IsClockOf, IsClockBy, Follows}
+use Rattle.tclocks.specs.Followed.{IsToldByCover}
+use Rattle.tclocks.specs.Owning.{HasNoNewSteps}
 use Rattle.tclocks.proofs.Lists.{each-more}
 use Rattle.tclocks.proofs.Joining.{joined_all, with_clock, clock_of-same, clock_of-other, with_all_joined-clock}
 use Rattle.tclocks.proofs.Joining.{joined_all-one, joined_all-grows, joined_all-below, joined_all-long, raised-same}
 use Rattle.tclocks.proofs.Joining.{raised-other}
-use Rattle.tclocks.proofs.Joining.{length-raised, same-or-not, closed-joined_all, closed-raised}
-use Rattle.tclocks.proofs.Accessing.{IsNext, AreTabled, tabled, accessed}
+use Rattle.tclocks.proofs.Joining.{length-raised, raised-grows, same-or-not, counts-joined_all, counts-raised}
+use Rattle.tclocks.proofs.Accessing.{IsNext, AreKept, AreAllOrdered, IsOwned, AreTabled, tabled, owned, accessed}
+use Rattle.tclocks.proofs.ModeLemmas.{covers-self}
+use Rattle.tclocks.proofs.Lists.{below-or-not, past-end}
 
 -- accesses change no clock
-stay : (step : Step) (done : List (PlaceAccess ℕ Mode)) (c d : Check) → AreAccessed step done c d
+pub stay : (step : Step) (done : List (PlaceAccess ℕ Mode)) (c d : Check) → AreAccessed step done c d
     → (d.clocks ≡ c.clocks) × (d.slots ≡ c.slots)
 stay step [] c d is = (ap (λ (e : Check). e.clocks) is, ap (λ (e : Check). e.slots) is)
 stay step (access ∷ rest) c d (between, is, are) =
@@ -36,6 +42,80 @@ each-at : {A : Type 0} (P : A → Type 0) (xs : List A) (x : A) → EachOf P xs 
 each-at P [] x each one = absurd one
 each-at P (y ∷ ys) x each (inl e) = subst P e each.0
 each-at P (y ∷ ys) x each (inr one) = each-at P ys x each.1 one
+
+module _ {State Agent Label Place Kind : Type 0} (m : Agents State Agent Label) (accesses : Accesses Place Kind Label)
+    (numbers : Numbers Agent Place Kind) where
+  -- no clock knows of a step that was not begun
+  pub each-within : (entries : List (Entry Agent Label)) (table : Table m accesses) (writers : ℕ → List Label)
+      (check : Check) → Follows m accesses numbers entries table writers check
+      → (i agent : ℕ) → slice_index (clock_of check i) agent ≤ steps_of check agent
+  each-within entries table writers check seen i agent = elim (below-or-not i (length check.clocks)) as
+      (λ _. slice_index (clock_of check i) agent ≤ steps_of check agent) [
+        | inl there ↦ (seen.clocks i there).within agent
+        | inr away ↦ subst (λ (clock : List ℕ). slice_index clock agent ≤ steps_of check agent)
+            (sym (past-end check.clocks i [] away)) (omega arith)
+      ]
+
+  pub none-new : (entries : List (Entry Agent Label)) (table : Table m accesses) (writers : ℕ → List Label)
+      (check : Check) → Follows m accesses numbers entries table writers check → HasNoNewSteps check
+  none-new entries table writers check seen = record {
+    unknown = λ agent. record {
+      clocks = λ other away. (let few : slice_index (clock_of check other) agent ≤ steps_of check agent =
+          each-within entries table writers check seen other agent in omega (arith, few));
+      slots = λ slot. (let few : slice_index (clock_in check slot) agent ≤ steps_of check agent =
+          (seen.slots slot).within agent in omega (arith, few));
+    };
+    begun = seen.kept;
+  }
+
+  module _ (check : Check) (agent : ℕ) (done : List (PlaceAccess ℕ Mode)) where
+    -- those accesses of a step that are not covered by what is told, by places and modes
+    pub record Owns (made : List (PlaceAccess Place Kind)) : Type 0 where
+      pub list : List (PlaceAccess ℕ Mode)
+      pub each : EachOf (λ access. IsOwnYet check agent access.place access.mode) list
+      pub all : (p : Place) (k : Kind) → HasAccess made p k
+          → HasCover done (numbers.place p) (numbers.mode p k) ⊎ HasCover list (numbers.place p) (numbers.mode p k)
+
+    pub owns : (made : List (PlaceAccess Place Kind))
+        → ((p : Place) (k : Kind) → HasAccess made p k → HasCover done (numbers.place p) (numbers.mode p k)
+        ⊎ IsOwnYet check agent (numbers.place p) (numbers.mode p k))
+        → Owns made
+    owns [] each = record { list = []; each = tt; all = λ p k has. absurd has }
+    owns (x ∷ xs) each =
+        with_first (each x.place x.mode (inl (refl, refl))) (owns xs (λ p k has. each p k (inr has)))
+      where
+        with_first : HasCover done (numbers.place x.place) (numbers.mode x.place x.mode)
+            ⊎ IsOwnYet check agent (numbers.place x.place) (numbers.mode x.place x.mode) → Owns xs → Owns (x ∷ xs)
+        with_first (inl told) rest = record {
+          list = rest.list;
+          each = rest.each;
+          all = λ p k has. elim has as (λ _. HasCover done (numbers.place p) (numbers.mode p k)
+              ⊎ HasCover rest.list (numbers.place p) (numbers.mode p k)) [
+                | inl here ↦ inl (subst (λ (q : Place). HasCover done (numbers.place q) (numbers.mode q k)) here.0
+                    (subst (λ (j : Kind). HasCover done (numbers.place x.place) (numbers.mode x.place j)) here.1 told))
+                | inr later ↦ rest.all p k later
+              ];
+        }
+        with_first (inr is) rest =
+            let first : PlaceAccess ℕ Mode =
+            record { place = numbers.place x.place; mode = numbers.mode x.place x.mode } in record {
+              list = first ∷ rest.list;
+              each = (is, rest.each);
+              all = λ p k has. elim has as (λ _. HasCover done (numbers.place p) (numbers.mode p k)
+                  ⊎ HasCover (first ∷ rest.list) (numbers.place p) (numbers.mode p k)) [
+                    | inl here ↦ inr (inl (
+                      ap (λ (q : Place). numbers.place q) here.0,
+                      subst (λ (q : Place). covers first.mode (numbers.mode q k) ≡ true) here.0
+                          (subst (λ (j : Kind). covers first.mode (numbers.mode x.place j) ≡ true) here.1
+                          (covers-self first.mode)),
+                    ))
+                    | inr later ↦ elim (rest.all p k later) as (λ _. HasCover done (numbers.place p) (numbers.mode p k)
+                        ⊎ HasCover (first ∷ rest.list) (numbers.place p) (numbers.mode p k)) [
+                          | inl told ↦ inl told
+                          | inr one ↦ inr (inr one)
+                        ]
+                  ];
+            }
 
 module _ {State Agent Label Place Kind : Type 0} (m : Agents State Agent Label) (accesses : Accesses Place Kind Label)
     (numbers : Numbers Agent Place Kind) (entries : List (Entry Agent Label)) (table : Table m accesses)
@@ -118,41 +198,130 @@ module _ {State Agent Label Place Kind : Type 0} (m : Agents State Agent Label) 
         omega (arith, most, steps-other i other)
   ]
 
-  new-closed : IsClosed m numbers entries new
-  new-closed =
-      closed-joined_all m numbers entries before.slots slots (raised old agent)
-      (closed-raised m numbers entries old agent own.long
-      (each-more (λ z. z.place ≤ steps_of before (numbers.agent (m.agent_of z.label)))
-      (λ z. numbers.agent (m.agent_of z.label) ≡ agent → z.place ≤ slice_index old agent)
-      (λ z few e. subst (λ (i : ℕ). z.place ≤ steps_of before i) e few) entries seen.places) own.closed)
-      (λ slot. (seen.slots slot).closed)
+  past : (a : Agent) → f.past a ≡ counted numbers new a
+  past a = ap (λ (clock : List ℕ). slice_index clock (numbers.agent a))
+      (ap (λ (i : ℕ). clock_of after i) told.by ∙ clock-same)
 
-  next : IsNext m accesses numbers entries f agent n new (steps_of after)
+  place : f.place ≡ n
+  place = ap (λ (i : ℕ). steps_of after i) told.by ∙ steps-same
+
+  middle-same : clock_of middle agent ≡ new
+  middle-same = clock_of-same agent new before told.added
+
+  -- the clocks as they are behind the joins know no less
+  clocks-grow : (i j : ℕ) → slice_index (clock_of before i) j ≤ slice_index (clock_of middle i) j
+  clocks-grow i j = elim (same-or-not i agent) as
+      (λ _. slice_index (clock_of before i) j ≤ slice_index (clock_of middle i) j) [
+        | inl e ↦ subst (λ (k : ℕ). slice_index (clock_of before k) j ≤ slice_index (clock_of middle k) j) (sym e)
+            (subst (λ (clock : List ℕ). slice_index old j ≤ slice_index clock j) (sym middle-same)
+            (let first : slice_index old j ≤ slice_index (raised old agent) j = raised-grows old agent j own.long in
+            let rest : slice_index (raised old agent) j ≤ slice_index new j =
+            joined_all-grows before.slots slots (raised old agent) j in
+            omega (arith, first, rest)))
+        | inr other ↦
+            let e : slice_index (clock_of middle i) j ≡ slice_index (clock_of before i) j =
+            ap (λ (clock : List ℕ). slice_index clock j) (clock_of-other agent i new before other) in
+            omega (arith, e)
+      ]
+
+  -- and count as many steps of an agent with each step that was begun
+  counts-middle : (step : Step) (a k : ℕ) → step.number ≤ steps_of before step.agent
+      → EachClock (CountsToo step a k) before → EachClock (CountsToo step a k) middle
+  counts-middle step a k few tells = record {
+    agents = λ i. elim (same-or-not i agent) as (λ _. CountsToo step a k (clock_of middle i)) [
+      | inl e ↦ subst (λ (clock : List ℕ). CountsToo step a k clock)
+          (sym (ap (λ (j : ℕ). clock_of middle j) e ∙ middle-same))
+          (counts-joined_all step a k before.slots slots (raised old agent)
+          (counts-raised step a k old agent own.long
+          (λ same. subst (λ (j : ℕ). step.number ≤ steps_of before j) same few)
+          (tells.agents agent)) tells.slots)
+      | inr other ↦ subst (λ (clock : List ℕ). CountsToo step a k clock)
+          (sym (clock_of-other agent i new before other)) (tells.agents i)
+    ];
+    slots = tells.slots;
+  }
+
+  none-before : NoneKnowFrom before agent n
+  none-before = (none-new m accesses numbers entries table writers before seen).unknown agent
+
+  -- nobody else knows of the step
+  alone : NoneKnowFrom middle agent n
+  alone = record {
+    clocks = λ other away. subst (λ (clock : List ℕ). slice_index clock agent < n)
+        (sym (clock_of-other agent other new before away)) (none-before.clocks other away);
+    slots = none-before.slots;
+  }
+
+  next : IsNext m accesses numbers middle agent n new (steps_of after)
   next = record {
-    agent = told.by;
-    place = ap (λ (i : ℕ). steps_of after i) told.by ∙ steps-same;
-    past = λ a. ap (λ (clock : List ℕ). slice_index clock (numbers.agent a))
-        (ap (λ (i : ℕ). clock_of after i) told.by ∙ clock-same);
+    same = middle-same;
     own = new-own;
     begun = steps-same;
-    closed = new-closed;
+    alone = alone;
     collide = seen.numbered.collide;
   }
 
-  all-tabled : AreTabled m accesses numbers entries f agent n new (steps_of after) done after table
-  all-tabled =
-      accessed m accesses numbers entries f agent n new (steps_of after) next done middle after table
-      (clock_of-same agent new before told.added)
-      (λ place access has. (let few : access.step.number ≤ steps_of before access.step.agent =
-      seen.kept place access has in omega (arith, few, steps-grow access.step.agent)))
+  kept-middle : AreKept m accesses numbers middle agent n new (steps_of after) middle
+  kept-middle place access has =
+      let few : access.step.number ≤ steps_of before access.step.agent = seen.kept place access has in
+      omega (arith, few, steps-grow access.step.agent)
+
+  ordered-middle : AreAllOrdered m accesses numbers middle agent n new (steps_of after) middle
+  ordered-middle place x y has had hits = elim (seen.ordered place x y has had hits) as
+      (λ _. HasCounted middle x.step.agent y.step ⊎ HasCounted middle y.step.agent x.step) [
+        | inl h ↦ let more : slice_index (clock_of before x.step.agent) y.step.agent
+            ≤ slice_index (clock_of middle x.step.agent) y.step.agent = clocks-grow x.step.agent y.step.agent in
+            inl (omega (arith, h, more))
+        | inr h ↦ let more : slice_index (clock_of before y.step.agent) x.step.agent
+            ≤ slice_index (clock_of middle y.step.agent) x.step.agent = clocks-grow y.step.agent x.step.agent in
+            inr (omega (arith, h, more))
+      ]
+
+  -- accesses that are covered by others of the agent
+  pub own-all : Owns m accesses numbers before agent done (accesses.of label)
+  own-all = owns m accesses numbers before agent done (accesses.of label) told.all
+
+  first-tabled : AreTabled m accesses numbers middle agent n new (steps_of after) own-all.list middle table
+  first-tabled =
+      owned m accesses numbers middle agent n new (steps_of after) next own-all.list middle table kept-middle
+      ordered-middle
       (λ p k a. elim (seen.covered p k a) as
-      (λ _. IsCovered m numbers (f ∷ entries) (accesses_at middle (numbers.place p)) (numbers.mode p k) a
+      (λ _. IsCovered middle (accesses_at middle (numbers.place p)) (numbers.mode p k) (numbers.agent a)
       (table p k a)) [
         | inl none ↦ inl none
-        | inr (access, has, over, tells) ↦ inr (access, has, over, λ clock closed. tells clock closed.1)
+        | inr (access, has, over, tells) ↦ inr (
+          access,
+          has,
+          over,
+          counts-middle access.step (numbers.agent a) (table p k a) (seen.kept (numbers.place p) access has) tells,
+        )
       ])
       (λ p k a. (let few : table p k a ≤ steps_of before (numbers.agent a) = seen.tables p k a in
-      omega (arith, few, steps-grow (numbers.agent a)))) are
+      omega (arith, few, steps-grow (numbers.agent a))))
+      (each-more (λ access. IsOwnYet before agent access.place access.mode)
+      (λ access. IsOwned m accesses numbers middle agent n new (steps_of after) middle access)
+      (λ access is. (
+        is.access,
+        is.there,
+        is.by,
+        is.over,
+        record {
+          clocks = λ other away. subst (λ (clock : List ℕ). slice_index clock agent < is.access.step.number)
+              (sym (clock_of-other agent other new before away)) (is.unknown.clocks other away);
+          slots = is.unknown.slots;
+        },
+      )) own-all.list own-all.each)
+
+  abbrev between : Table m accesses
+  between = tabled m accesses numbers middle agent n new (steps_of after) own-all.list table
+
+  abbrev last : Table m accesses
+  last = tabled m accesses numbers middle agent n new (steps_of after) done between
+
+  all-tabled : AreTabled m accesses numbers middle agent n new (steps_of after) done after between
+  all-tabled =
+      accessed m accesses numbers middle agent n new (steps_of after) next done middle after between middle-same
+      first-tabled.kept first-tabled.ordered first-tabled.covered first-tabled.begun are
 
   added : numbers.agent (m.agent_of label) < length before.clocks
   added = subst (λ (i : ℕ). i < length before.clocks) (sym told.by) told.added
@@ -164,7 +333,7 @@ module _ {State Agent Label Place Kind : Type 0} (m : Agents State Agent Label) 
   none-knows (z ∷ zs) each = (
     inl (let few : z.past (m.agent_of label) ≤ steps_of before agent =
         subst (λ (i : ℕ). z.past (m.agent_of label) ≤ steps_of before i) told.by (each.0 (m.agent_of label)) in
-        omega (arith, few, next.place)),
+        omega (arith, few, place)),
     none-knows zs each.1,
   )
 
@@ -183,7 +352,7 @@ module _ {State Agent Label Place Kind : Type 0} (m : Agents State Agent Label) 
       → (f.past a ≡ 0) ⊎ OneKnows m entries label a (f.past a)
   from-own a other same =
       let count : f.past a ≡ counted numbers old a =
-      next.past a ∙ same ∙ raised-other old agent (numbers.agent a) other in
+      past a ∙ same ∙ raised-other old agent (numbers.agent a) other in
       elim (own.known a other) as (λ _. (f.past a ≡ 0) ⊎ OneKnows m entries label a (f.past a)) [
         | inl none ↦ inl (count ∙ none)
         | inr one ↦ inr (one-knows a (f.past a)
@@ -199,7 +368,7 @@ module _ {State Agent Label Place Kind : Type 0} (m : Agents State Agent Label) 
       → counted numbers new a ≡ counted numbers (clock_in before slot) a
       → (f.past a ≡ 0) ⊎ OneKnows m entries label a (f.past a)
   from-slot a slot leads same =
-      let count : f.past a ≡ counted numbers (clock_in before slot) a = next.past a ∙ same in
+      let count : f.past a ≡ counted numbers (clock_in before slot) a = past a ∙ same in
       elim ((seen.slots slot).known a) as (λ _. (f.past a ≡ 0) ⊎ OneKnows m entries label a (f.past a)) [
         | inl none ↦ inl (count ∙ none)
         | inr one ↦ inr (one-knows a (f.past a)
@@ -231,33 +400,44 @@ module _ {State Agent Label Place Kind : Type 0} (m : Agents State Agent Label) 
         | inr one ↦ from-slots a slots told.leads one
       ]
 
-  checked : IsChecked m accesses entries table f
-      (tabled m accesses numbers entries f agent n new (steps_of after) done table)
+  checked : IsChecked m accesses entries table f last
   checked = record {
-    counted = omega (arith, next.place);
+    counted = omega (arith, place);
     fresh = none-knows entries seen.pasts;
     knows = knows;
-    permits = λ p k j a has clash. (let few : table p j a ≤ counted numbers new a =
-        all-tabled.permits p j k a (told.all p k has) clash in
-        let e : f.past a ≡ counted numbers new a = next.past a in omega (arith, few, e));
+    permits = λ p k j a has clash. (let few : table p j a ≤ counted numbers new a = permits p k j a has clash in
+        let e : f.past a ≡ counted numbers new a = past a in omega (arith, few, e));
     noted = record {
-      grows = all-tabled.grows;
-      notes = λ p k has. (let top : n ≤ tabled m accesses numbers entries f agent n new (steps_of after) done table p k
-          (m.agent_of label) = all-tabled.notes p k (m.agent_of label) (told.all p k has) told.by in
-          omega (arith, top, next.place));
+      grows = λ p k a. (let one : table p k a ≤ between p k a = first-tabled.grows p k a in
+          let two : between p k a ≤ last p k a = all-tabled.grows p k a in
+          omega (arith, one, two));
+      notes = λ p k has. (let top : n ≤ last p k (m.agent_of label) = notes p k has in
+          omega (arith, top, place));
     };
   }
+    where
+      permits : (p : Place) (k j : Kind) (a : Agent) → HasAccess (accesses.of label) p k
+          → accesses.collide j k ≡ true → table p j a ≤ counted numbers new a
+      permits p k j a has clash = elim (own-all.all p k has) as (λ _. table p j a ≤ counted numbers new a) [
+        | inl one ↦
+            let more : table p j a ≤ between p j a = first-tabled.grows p j a in
+            let few : between p j a ≤ counted numbers new a = all-tabled.permits p j k a one clash in
+            omega (arith, more, few)
+        | inr one ↦ first-tabled.permits p j k a one clash
+      ]
+
+      notes : (p : Place) (k : Kind) → HasAccess (accesses.of label) p k → n ≤ last p k (m.agent_of label)
+      notes p k has = elim (own-all.all p k has) as (λ _. n ≤ last p k (m.agent_of label)) [
+        | inl one ↦ all-tabled.notes p k (m.agent_of label) one told.by
+        | inr one ↦
+            let top : n ≤ between p k (m.agent_of label) = first-tabled.notes p k (m.agent_of label) one told.by in
+            let more : between p k (m.agent_of label) ≤ last p k (m.agent_of label) =
+            all-tabled.grows p k (m.agent_of label) in
+            omega (arith, top, more)
+      ]
 
   length-clocks : length after.clocks ≡ length before.clocks
   length-clocks = ap (λ (clocks : List (List ℕ)). length clocks) clocks_stay ∙ length-set before.clocks agent new
-
-  -- a clock from before knows nothing of the step
-  not-yet : (clock : List ℕ) → IsWithin before clock → f.place ≤ counted numbers clock (m.agent_of f.label) → ⊥
-  not-yet clock within k =
-      let few : counted numbers clock (m.agent_of label) ≤ steps_of before agent =
-      subst (λ (i : ℕ). counted numbers clock (m.agent_of label) ≤ steps_of before i) told.by
-      (within (numbers.agent (m.agent_of label))) in
-      omega (arith, k, few, next.place)
 
   more-within : (clock : List ℕ) → IsWithin before clock → IsWithin after clock
   more-within clock within i = let few : slice_index clock i ≤ steps_of before i = within i in
@@ -271,14 +451,10 @@ module _ {State Agent Label Place Kind : Type 0} (m : Agents State Agent Label) 
               long = (let most : length (raised old agent) ≤ length new =
                   joined_all-long before.slots slots (raised old agent) in
                   omega (arith, own.long, most, length-raised old agent));
-              closed = (
-                λ k a. (let p : f.past a ≡ counted numbers new a = next.past a in omega (arith, p)),
-                new-closed,
-              );
               within = new-within;
               known = λ a other. inr (inl (
                 told.by,
-                let p : f.past a ≡ counted numbers new a = next.past a in omega (arith, p),
+                let p : f.past a ≡ counted numbers new a = past a in omega (arith, p),
               ));
             })
         | inr other ↦
@@ -287,7 +463,6 @@ module _ {State Agent Label Place Kind : Type 0} (m : Agents State Agent Label) 
             subst (λ (clock : List ℕ). IsClockOf m numbers (f ∷ entries) after i clock)
             (sym (clock-other i other)) record {
               long = was.long;
-              closed = (λ k a. absurd (not-yet (clock_of before i) was.within k), was.closed);
               within = more-within (clock_of before i) was.within;
               known = λ a away. elim (was.known a away) as
                   (λ _. (counted numbers (clock_of before i) a ≡ 0)
@@ -304,7 +479,6 @@ module _ {State Agent Label Place Kind : Type 0} (m : Agents State Agent Label) 
       let was : IsClockBy m numbers entries before (writers slot) (clock_in before slot) = seen.slots slot in
       subst (λ (clock : List ℕ). IsClockBy m numbers (f ∷ entries) after (writers slot) clock)
       (sym (slot-same slot)) record {
-        closed = (λ k a. absurd (not-yet (clock_in before slot) was.within k), was.closed);
         within = more-within (clock_in before slot) was.within;
         known = λ a. elim (was.known a) as
             (λ _. (counted numbers (clock_in before slot) a ≡ 0)
@@ -315,8 +489,35 @@ module _ {State Agent Label Place Kind : Type 0} (m : Agents State Agent Label) 
             ];
       }
 
-  pub follows_on : Follows m accesses numbers (f ∷ entries)
-      (tabled m accesses numbers entries f agent n new (steps_of after) done table) writers after
+  -- the clocks are as they were before the accesses
+  same-after : (i : ℕ) → clock_of after i ≡ clock_of middle i
+  same-after i = ap (λ (clocks : List (List ℕ)). slice_index_or clocks i []) clocks_stay
+
+  counts-after : (step : Step) (a k : ℕ) → EachClock (CountsToo step a k) middle → EachClock (CountsToo step a k) after
+  counts-after step a k tells = record {
+    agents = λ i. subst (λ (clock : List ℕ). CountsToo step a k clock) (sym (same-after i)) (tells.agents i);
+    slots = λ slot. subst (λ (clock : List ℕ). CountsToo step a k clock) (sym (slot-same slot)) (tells.slots slot);
+  }
+
+  covered-after : (p : Place) (k : Kind) (a : Agent)
+      → IsCovered after (accesses_at after (numbers.place p)) (numbers.mode p k) (numbers.agent a) (last p k a)
+  covered-after p k a = elim (all-tabled.covered p k a) as
+      (λ _. IsCovered after (accesses_at after (numbers.place p)) (numbers.mode p k) (numbers.agent a) (last p k a)) [
+        | inl none ↦ inl none
+        | inr (access, has, over, tells) ↦
+            inr (access, has, over, counts-after access.step (numbers.agent a) (last p k a) tells)
+      ]
+
+  ordered-after : (place : ℕ) → AreOrdered after (accesses_at after place)
+  ordered-after place x y has had hits = elim (all-tabled.ordered place x y has had hits) as
+      (λ _. HasCounted after x.step.agent y.step ⊎ HasCounted after y.step.agent x.step) [
+        | inl h ↦ inl (subst (λ (clock : List ℕ). y.step.number ≤ slice_index clock y.step.agent)
+            (sym (same-after x.step.agent)) h)
+        | inr h ↦ inr (subst (λ (clock : List ℕ). x.step.number ≤ slice_index clock x.step.agent)
+            (sym (same-after y.step.agent)) h)
+      ]
+
+  pub follows_on : Follows m accesses numbers (f ∷ entries) last writers after
   follows_on = record {
     numbered = record {
       same = seen.numbered.same;
@@ -337,7 +538,7 @@ module _ {State Agent Label Place Kind : Type 0} (m : Agents State Agent Label) 
           (λ z h. omega (arith, h, steps-grow (numbers.agent (m.agent_of z.label)))) entries seen.places,
     );
     pasts = (
-      λ a. (let p : f.past a ≡ counted numbers new a = next.past a in
+      λ a. (let p : f.past a ≡ counted numbers new a = past a in
           let few : slice_index new (numbers.agent a) ≤ steps_of after (numbers.agent a) =
           new-within (numbers.agent a) in
           omega (arith, p, few)),
@@ -350,5 +551,6 @@ module _ {State Agent Label Place Kind : Type 0} (m : Agents State Agent Label) 
     slots = slots-after;
     tables = all-tabled.begun;
     kept = all-tabled.kept;
-    covered = all-tabled.covered;
+    covered = covered-after;
+    ordered = ordered-after;
   }

@@ -12,10 +12,10 @@ use Rattle.tagents.specs.Tables.{Access as PlaceAccess, Accesses, Collides, Clas
 use Rattle.tagents.proofs.Grouped.{grouped_runs_have_no_race, lead, alike, in_turn}
 use Rattle.tclocks.specs.declared.mode.Mode.{Mode}
 use Rattle.tclocks.specs.Modes.{collide}
-use Rattle.tclocks.specs.Checks.{Check, clock_of, clock_in, accesses_at, steps_of, KnowsAll}
+use Rattle.tclocks.specs.Checks.{Check, clock_of, clock_in, steps_of, KnowsAll}
 use Rattle.tclocks.specs.Numbers.{AreNumbers}
-use Rattle.tclocks.specs.Followed.{EachOf, OneOf, counted, IsClosed, IsClockOf, IsClockBy, IsCovered, HavePassed}
-use Rattle.tclocks.specs.Followed.{Follows, IsStep, IsToldByCover}
+use Rattle.tclocks.specs.Followed.{EachOf, OneOf, counted, IsClockOf, IsClockBy, HavePassed, Follows, IsStep}
+use Rattle.tclocks.specs.Followed.{IsToldByCover}
 use Rattle.tclocks.specs.Laws.{HasSeen}
 use Rattle.tclocks.specs.NumberTurns.{numbers_of, HasSeenInTurn, grouped_entry, MayHaveNumbers, IsNumbered}
 use Rattle.tclocks.specs.NumberTurns.{AreNumbered}
@@ -227,24 +227,6 @@ module _ {State Agent Label Place Kind : Type 0} (m : Agents State Agent Label) 
     passed (f ∷ earlier) table added (before, is, have) =
         (before, checked earlier before table f added is, passed earlier before added.1 have)
 
-    closed : (entries : List (Entry ℕ Label)) (clock : List ℕ) → EachOf IsAdded entries
-        → IsClosed (grouped m group) (numbers_of places modes) entries clock
-        → IsClosed (grouped m more) (numbers_of places modes) entries clock
-    closed [] clock added h = tt
-    closed (z ∷ zs) clock added h = (
-      λ k a. h.0 (subst (λ (n : ℕ). z.place ≤ counted (numbers_of places modes) clock n) (kept z added.0) k) a,
-      closed zs clock added.1 h.1,
-    )
-
-    closed_back : (entries : List (Entry ℕ Label)) (clock : List ℕ) → EachOf IsAdded entries
-        → IsClosed (grouped m more) (numbers_of places modes) entries clock
-        → IsClosed (grouped m group) (numbers_of places modes) entries clock
-    closed_back [] clock added h = tt
-    closed_back (z ∷ zs) clock added h = (
-      λ k a. h.0 (subst (λ (n : ℕ). z.place ≤ counted (numbers_of places modes) clock n) (sym (kept z added.0)) k) a,
-      closed_back zs clock added.1 h.1,
-    )
-
     follows : (entries : List (Entry ℕ Label)) (table : Table (grouped m group) accesses) (writers : ℕ → List Label)
         → Follows (grouped m group) accesses (numbers_of places modes) entries table writers check
         → Follows (grouped m more) accesses (numbers_of places modes) entries table writers check
@@ -261,7 +243,6 @@ module _ {State Agent Label Place Kind : Type 0} (m : Agents State Agent Label) 
       clocks = λ i within. (let was : IsClockOf (grouped m group) (numbers_of places modes) entries check i
           (clock_of check i) = seen.clocks i within in record {
             long = was.long;
-            closed = closed entries (clock_of check i) seen.agents was.closed;
             within = was.within;
             known = λ a away. elim (was.known a away) as
                 (λ _. (counted (numbers_of places modes) (clock_of check i) a ≡ 0)
@@ -280,24 +261,13 @@ module _ {State Agent Label Place Kind : Type 0} (m : Agents State Agent Label) 
           });
       slots = λ slot. (let was : IsClockBy (grouped m group) (numbers_of places modes) entries check (writers slot)
           (clock_in check slot) = seen.slots slot in record {
-            closed = closed entries (clock_in check slot) seen.agents was.closed;
             within = was.within;
             known = was.known;
           });
       tables = seen.tables;
       kept = seen.kept;
-      covered = λ p k a. elim (seen.covered p k a) as
-          (λ _. IsCovered (grouped m more) (numbers_of places modes) entries (accesses_at check (places p)) (modes p k)
-          a (table p k a)) [
-            | inl none ↦ inl none
-            | inr (access, has, over, tells) ↦ inr (
-              access,
-              has,
-              over,
-              λ clock is. tells clock
-                  (closed_back entries clock seen.agents is),
-            )
-          ];
+      covered = seen.covered;
+      ordered = seen.ordered;
     }
 
     pub may_have_numbers : (entries : List (Entry ℕ Label)) (writers : ℕ → List Label)

@@ -7,9 +7,10 @@ use Rattle.tagents.specs.Tables.{Access as PlaceAccess, Accesses, HasAccess, Tab
 use Rattle.tclocks.specs.declared.mode.Mode.{Mode}
 use Rattle.tclocks.specs.declared.step.Step.{Step}
 use Rattle.tclocks.specs.declared.step.Access.{Access}
-use Rattle.tclocks.specs.Modes.{covers}
+use Rattle.tclocks.specs.Modes.{collide, covers}
 use Rattle.tclocks.specs.Checks.{Check, clock_of, clock_in, accesses_at, steps_of, next_step, begun, with_joined}
-use Rattle.tclocks.specs.Checks.{IsAccessed}
+use Rattle.tclocks.specs.Checks.{HasCounted, IsAccessed}
+use Rattle.tclocks.specs.Own.{IsOwnYet}
 use Rattle.tclocks.specs.Numbers.{Numbers, AreNumbers}
 
 -- each of a list
@@ -51,6 +52,27 @@ counted numbers clock a = slice_index clock (numbers.agent a)
 abbrev pub IsWithin : Check → List ℕ → Type 0
 IsWithin check clock = (agent : ℕ) → slice_index clock agent ≤ steps_of check agent
 
+-- a clock that has counted the step has counted n steps of the agent too
+abbrev pub CountsToo : Step → ℕ → ℕ → List ℕ → Type 0
+CountsToo step agent n clock = step.number ≤ slice_index clock step.agent → n ≤ slice_index clock agent
+
+-- this holds of the clock of each agent, and of the clock in each slot
+pub record EachClock (P : List ℕ → Type 0) (check : Check) : Type 0 where
+  pub agents : (agent : ℕ) → P (clock_of check agent)
+  pub slots : (slot : ℕ) → P (clock_in check slot)
+
+-- one of the accesses that are kept collides with all that one of this mode collides with, and whoever knows of it
+-- knows that the agent has done n steps
+abbrev pub IsCovered : Check → List Access → Mode → ℕ → ℕ → Type 0
+IsCovered check kept mode agent n = (n ≡ 0)
+    ⊎ ((access : Access) × Contains kept access × (covers access.mode mode ≡ true)
+    × EachClock (CountsToo access.step agent n) check)
+
+-- of two accesses that are kept and collide, the agent of one knows of the other
+abbrev pub AreOrdered : Check → List Access → Type 0
+AreOrdered check kept = (x y : Access) → Contains kept x → Contains kept y → collide x.mode y.mode ≡ true
+    → HasCounted check x.step.agent y.step ⊎ HasCounted check y.step.agent x.step
+
 module _ {State Agent Label Place Kind : Type 0} (m : Agents State Agent Label)
     (numbers : Numbers Agent Place Kind) where
   -- a step with its agent's number and clock, as they are when it ends
@@ -61,16 +83,9 @@ module _ {State Agent Label Place Kind : Type 0} (m : Agents State Agent Label)
     past = counted numbers (clock_of check (numbers.agent (m.agent_of label)));
   }
 
-  -- a clock that has counted one of these knows all that it knew
-  abbrev pub IsClosed : List (Entry Agent Label) → List ℕ → Type 0
-  IsClosed entries clock = EachOf
-      (λ z. z.place ≤ counted numbers clock (m.agent_of z.label) → (a : Agent) → z.past a ≤ counted numbers clock a)
-      entries
-
   -- what the clock of an agent knows of others, a step of its own knew before
   pub record IsClockOf (entries : List (Entry Agent Label)) (check : Check) (agent : ℕ) (clock : List ℕ) : Type 0 where
     pub long : agent < length clock
-    pub closed : IsClosed entries clock
     pub within : IsWithin check clock
     pub known : (a : Agent) → numbers.agent a ≢ agent → (counted numbers clock a ≡ 0)
         ⊎ OneOf (λ z. (numbers.agent (m.agent_of z.label) ≡ agent) × (counted numbers clock a ≤ z.past a)) entries
@@ -78,21 +93,9 @@ module _ {State Agent Label Place Kind : Type 0} (m : Agents State Agent Label)
   -- what the clock in a slot knows, one of the steps that wrote it knew
   pub record IsClockBy (entries : List (Entry Agent Label)) (check : Check) (writers : List Label) (clock : List ℕ)
       : Type 0 where
-    pub closed : IsClosed entries clock
     pub within : IsWithin check clock
     pub known : (a : Agent) → (counted numbers clock a ≡ 0)
         ⊎ OneOf (λ z. OneOf (λ writer. writer ≡ z.label) writers × (counted numbers clock a ≤ z.past a)) entries
-
-  -- whoever knows of the access knows that the agent has done n steps
-  abbrev pub Tells : List (Entry Agent Label) → Access → Agent → ℕ → Type 0
-  Tells entries access a n =
-      (clock : List ℕ) → IsClosed entries clock → access.step.number ≤ slice_index clock access.step.agent
-      → n ≤ counted numbers clock a
-
-  -- one of the accesses that are kept collides with all that one of this mode collides with, and tells of the agent
-  abbrev pub IsCovered : List (Entry Agent Label) → List Access → Mode → Agent → ℕ → Type 0
-  IsCovered entries kept mode a n = (n ≡ 0)
-      ⊎ ((access : Access) × Contains kept access × (covers access.mode mode ≡ true) × Tells entries access a n)
 
 module _ {State Agent Label Place Kind : Type 0} (m : Agents State Agent Label) (accesses : Accesses Place Kind Label)
     (numbers : Numbers Agent Place Kind) where
@@ -117,7 +120,8 @@ module _ {State Agent Label Place Kind : Type 0} (m : Agents State Agent Label) 
     pub kept : (place : ℕ) (access : Access) → Contains (accesses_at check place) access
         → access.step.number ≤ steps_of check access.step.agent
     pub covered : (p : Place) (k : Kind) (a : Agent)
-        → IsCovered m numbers entries (accesses_at check (numbers.place p)) (numbers.mode p k) a (table p k a)
+        → IsCovered check (accesses_at check (numbers.place p)) (numbers.mode p k) (numbers.agent a) (table p k a)
+    pub ordered : (place : ℕ) → AreOrdered check (accesses_at check place)
 
   -- a step of the machine was told to the check: its agent, slots that were written by steps that lead to it, and all
   -- of its accesses
@@ -129,7 +133,8 @@ module _ {State Agent Label Place Kind : Type 0} (m : Agents State Agent Label) 
     pub all : (p : Place) (k : Kind) → HasAccess (accesses.of label) p k
         → HasAccess done (numbers.place p) (numbers.mode p k)
 
-  -- the same, where each of its accesses is covered
+  -- the same, where each of its accesses is covered by one of these, or by an earlier one of its number of which nobody
+  -- else knows
   pub record IsToldByCover (check : Check) (writers : ℕ → List Label) (agent : ℕ) (slots : List ℕ)
       (done : List (PlaceAccess ℕ Mode)) (label : Label) : Type 0 where
     pub by : numbers.agent (m.agent_of label) ≡ agent
@@ -137,3 +142,4 @@ module _ {State Agent Label Place Kind : Type 0} (m : Agents State Agent Label) 
     pub leads : EachOf (λ slot. EachOf (λ z. m.leads z label ≡ true) (writers slot)) slots
     pub all : (p : Place) (k : Kind) → HasAccess (accesses.of label) p k
         → HasCover done (numbers.place p) (numbers.mode p k)
+        ⊎ IsOwnYet check agent (numbers.place p) (numbers.mode p k)

@@ -15,9 +15,13 @@ pub mod Tables
 pub mod Refusals
 -- the numbers of what a machine has
 pub mod Numbers
+-- accesses of which nobody else knows
+pub mod Own
 -- what clocks and places have to do with steps
 pub mod Followed
 -- what is proved of a run
 pub mod Laws
 -- agents that share a number
 pub mod NumberTurns
+-- how long nobody else knows of an access
+pub mod Owning

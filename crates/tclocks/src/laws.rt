@@ -5,6 +5,8 @@ ghost use Rattle.tclocks.specs.Laws.{StepsAreCheckedByCover};
 ghost use Rattle.tclocks.specs.Modes.{AreModes};
 ghost use Rattle.tclocks.specs.Laws.{NumbersMayBeGiven, SeenStepsHaveNoRace, KnownStepsAreChained};
 ghost use Rattle.tclocks.specs.NumberTurns.{GroupsAreNumbered, KnownNumbersAreFree, NumbersMayBeShared};
+ghost use Rattle.tclocks.specs.Owning.{NewStepsAreUnknown, StepsStayUnknown, OwnAccessesStay, ToldAccessesAreOwn};
+ghost use Rattle.tclocks.specs.Owning.{OwnAccessesWereTold};
 ghost use Rattle.tclocks.specs.NumberTurns.{StepsInTurnAreChecked, StepsInTurnHaveNoRace, ClocksTellNumberTurns};
 
 /// To collide goes both ways. A mode covers another one exactly if all that collides with that one collides with it.
@@ -23,10 +25,36 @@ pub fn steps_are_checked<State, Agent, Label, Place, Kind>()
     ensures { StepsAreChecked State Agent Label Place Kind }
 {}
 
-/// The same holds for a step of which fewer accesses were told, if each of its own is covered by one of these: a put
-/// is also a look.
+/// The same holds for a step of which fewer accesses were told, if each of its own is covered by one of these, as a put
+/// is also a look, or by an earlier one of its agent of which nobody else knows yet.
 pub fn steps_are_checked_by_cover<State, Agent, Label, Place, Kind>()
     ensures { StepsAreCheckedByCover State Agent Label Place Kind }
+{}
+
+/// Nobody else knows of steps that were not begun, and no access of one is kept.
+pub fn new_steps_are_unknown<State, Agent, Label, Place, Kind>()
+    ensures { NewStepsAreUnknown State Agent Label Place Kind }
+{}
+
+/// Nobody else comes to know of an agent's steps until its clock is handed on.
+pub fn steps_stay_unknown()
+    ensures { StepsStayUnknown }
+{}
+
+/// So long an access of the agent, or one that replaces it, covers what it has covered.
+pub fn own_accesses_stay()
+    ensures { OwnAccessesStay }
+{}
+
+/// An access that a step was told with is one of which nobody else knows.
+pub fn told_accesses_are_own()
+    ensures { ToldAccessesAreOwn }
+{}
+
+/// What nobody else knows of behind a step was told with it, or nobody else knew of it before. So it may be asked at
+/// any time between the begin of a step and its end.
+pub fn own_accesses_were_told()
+    ensures { OwnAccessesWereTold }
 {}
 
 /// After a step the clock of its agent may be handed on in a slot, or added to the clock there.

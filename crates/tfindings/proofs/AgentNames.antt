@@ -1,6 +1,8 @@
 -- The agents that the program has, by the names of the machine.
-use Rattle.std.proofs.Common.{◌≡◌, ℕ, sym, ap, ◌∙◌, List, [], get_or, subst, Option, Some}
-use Rattle.std.specs.Prelude.{option_map, slice_get, unwrap_or}
+use Rattle.std.proofs.Common.{◌≡◌, ◌<◌, ℕ, refl, sym, ap, ◌∙◌, List, [], get_or, subst, Option, Some}
+use Rattle.std.proofs.Common.{None, true, length}
+use Rattle.std.proofs.Common.{arith, ltb-true}
+use Rattle.std.specs.Prelude.{nat_lt, option_map, slice_get, unwrap_or}
 use Rattle.std.proofs.lemmas.Option.{slice_get-map, get_or_from_slice_get, slice_get-get_or}
 use Rattle.tprocesses.specs.Places.{Name, Image}
 use Rattle.tcertify.specs.declared.channel.Channel.{Channel}
@@ -11,7 +13,7 @@ use Rattle.tcertify.specs.Processes.{name_of}
 use Rattle.tverdict.specs.declared.agent.Agent.{Agent}
 use Rattle.tverdict.specs.declared.agent.Agent.TheVariants as agent
 use Rattle.tverdict.specs.Agents.{HasChannel, HasProcess, IsThere, name_there, address_there}
-use Rattle.tfindings.specs.Agents.{AreNumbered}
+use Rattle.tfindings.specs.Agents.{AreNumbered, count_at, is_there}
 
 abbrev no_name : ℕ → Name
 no_name n = record { node = n; root = Image 0; path = [] }
@@ -59,3 +61,26 @@ as_process nodes a n k e there = subst (IsThere nodes) e there
 pub as_channel : (nodes : List Node) (a : Agent) (n k : ℕ) → a ≡ agent.Channel n k → IsThere nodes a
     → HasChannel nodes n k
 as_channel nodes a n k e there = subst (IsThere nodes) e there
+
+-- a node has more things than this one
+has_at : (count : Node → ℕ) (nodes : List Node) (n k : ℕ) → nat_lt k (count_at count nodes n) ≡ true
+    → (node : Node) × (slice_get nodes n ≡ Some node) × (k < count node)
+has_at count nodes n k e = by (slice_get nodes n) refl
+  where
+    by : (o : Option Node) → slice_get nodes n ≡ o → (node : Node) × (slice_get nodes n ≡ Some node) × (k < count node)
+    by (Some node) at = (
+      node,
+      at,
+      ltb-true k (count node) (sym (ap (λ (o : Option Node). nat_lt k (unwrap_or (option_map count o) 0)) at) ∙ e),
+    )
+    by None at =
+        let low : k < 0 =
+        ltb-true k 0 (sym (ap (λ (o : Option Node). nat_lt k (unwrap_or (option_map count o) 0)) at) ∙ e) in
+        absurd (omega (arith, low))
+
+-- what is tested to be there is
+pub there_is : (nodes : List Node) (a : Agent) → is_there nodes a ≡ true → IsThere nodes a
+there_is nodes (agent.Process n k) e = has_at (λ node. length node.processes.items.items) nodes n k e
+there_is nodes (agent.Channel n k) e = has_at (λ node. length node.channels.items.items) nodes n k e
+there_is nodes (agent.Wire f) e = tt
+there_is nodes (agent.Successor n k) e = has_at (λ node. length node.words.items.items) nodes n k e

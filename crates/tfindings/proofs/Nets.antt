@@ -40,7 +40,7 @@ use Rattle.tfindings.proofs.Runs.{certified_only}
 ends_certified : (plan : Plan) (most : ℕ) (m : Machine) (f : Finding) → HasRun plan most m f → f ≡ finding.Certified
     → EndsCertified plan m
 ends_certified plan most m f run is =
-    subst (IsTold plan most m) (certified_only plan run.verdict f run.found (sym is)) run.true
+    subst (IsTold plan most m) (certified_only plan m run.verdict f run.found (sym is)) run.true
 
 of_fault : (net opened : NetState) (f : Option BuildFault) → unless_fault net f ≡ Ok opened
     → (f ≡ None) × (opened ≡ net)

@@ -2,6 +2,8 @@
 use Rattle.std.proofs.Common.{◌≡◌, ◌≤◌, ℕ, refl, sym, ap, subst, ◌∙◌, Bool, true, false, ◌||◌, List, Option, Some, None}
 use Rattle.std.proofs.Common.{Result, Err, ltb-false, true≢false}
 use Rattle.std.specs.Prelude.{IsOk}
+use Rattle.std.proofs.lemmas.List.Elements.{All-get_or}
+use Rattle.std.proofs.lemmas.Option.{get_or_from_slice_get, slice_get_within}
 use Rattle.tnet.specs.Building.{or_else, when}
 use Rattle.tplan.specs.declared.plan.Plan.{Plan}
 use Rattle.tplan.specs.declared.plan.BuildFault.{BuildFault}
@@ -15,11 +17,13 @@ use Rattle.topening.specs.declared.fault.Fault.{Fault}
 use Rattle.topening.specs.declared.fault.Fault.TheVariants as fault
 use Rattle.topening.specs.Faults.{settled, IsFaultOf}
 use Rattle.topening.specs.Openings.{IsPlanOf, as_opened, opened_of, opened_with}
+use Rattle.tverdict.specs.declared.agent.Agent.{Agent}
 use Rattle.tverdict.specs.declared.machine.Machine.{Machine}
 use Rattle.tverdict.specs.declared.verdict.Race.{Race}
 use Rattle.tverdict.specs.declared.verdict.Refusal.TheVariants as refusal
 use Rattle.tverdict.specs.declared.verdict.Verdict.{Verdict}
 use Rattle.tverdict.specs.declared.verdict.Verdict.TheVariants as verdict
+use Rattle.tverdict.specs.Agents.{IsThere}
 use Rattle.tverdict.specs.Machines.{Follows, IsSound}
 use Rattle.tverdict.specs.Verdicts.{AreTellable, IsTold}
 use Rattle.tfindings.specs.declared.finding.Finding.{Finding}
@@ -31,52 +35,79 @@ use Rattle.tnames.specs.declared.nodes.NodeNames.{NodeNames}
 use Rattle.topening.specs.declared.verdict.Verdict as outcomes
 use Rattle.tfindings.specs.Findings.{HasFound, HasRun, IsFindingLeft, IsFindingOf, IsRaceOf, IsRunOf, is_certified}
 use Rattle.tfindings.specs.Findings.{outcome_of}
-use Rattle.tfindings.specs.Telling.{CanBePrinted, CanBeTold, finding_text}
+use Rattle.tfindings.specs.Steps.{holder}
+use Rattle.tfindings.specs.Telling.{AreThere, CanBePrinted, CanBeTold, finding_text}
 
 -- ---- what a run leaves can be told
 
-told_sound : (plan : Plan) (m : Machine) → Follows plan m → CanBeTold m
-told_sound plan m follows = record {
+tellable_sound : (plan : Plan) (m : Machine) → Follows plan m → AreTellable m
+tellable_sound plan m follows = record {
   there = follows.1.sound.there;
-  numbered = follows.1.sound.nodes.numbers;
+  numbers = follows.1.sound.nodes.numbers;
 }
 
-told_tellable : (m : Machine) → AreTellable m → CanBeTold m
-told_tellable m tellable = record { there = tellable.there; numbered = tellable.numbers }
+tellable : (plan : Plan) (most : ℕ) (m : Machine) (v : Verdict) → IsTold plan most m v
+    → (v ≡ verdict.Certified → Follows plan m) → AreTellable m
+tellable plan most m verdict.Certified told follows = tellable_sound plan m (follows refl)
+tellable plan most m (verdict.Race race) told follows = told.tellable
+tellable plan most m (verdict.Refused (refusal.Stops agent why)) told follows = told.tellable
+tellable plan most m (verdict.Refused (refusal.TooManyProcesses n)) told follows = tellable_sound plan m told.0
+tellable plan most m (verdict.Refused (refusal.FlagsChanged n)) told follows = tellable_sound plan m told.0
+tellable plan most m verdict.Cut told follows = tellable_sound plan m told.0
 
-can_be_told : (plan : Plan) (most : ℕ) (m : Machine) (v : Verdict) → IsTold plan most m v
-    → (v ≡ verdict.Certified → Follows plan m) → CanBeTold m
-can_be_told plan most m verdict.Certified told follows = told_sound plan m (follows refl)
-can_be_told plan most m (verdict.Race race) told follows = told_tellable m told.tellable
-can_be_told plan most m (verdict.Refused (refusal.Stops agent why)) told follows = told_tellable m told.tellable
-can_be_told plan most m (verdict.Refused (refusal.TooManyProcesses n)) told follows = told_sound plan m told.0
-can_be_told plan most m (verdict.Refused (refusal.FlagsChanged n)) told follows = told_sound plan m told.0
-can_be_told plan most m verdict.Cut told follows = told_sound plan m told.0
+-- an agent that has a number is there
+holder_there : (m : Machine) (number : ℕ) (a : Agent) → AreTellable m → holder m number ≡ Some a
+    → IsThere m.nodes.items a
+holder_there m number a told at =
+    let low = slice_get_within m.agents.items number a at in
+    subst (IsThere m.nodes.items) (get_or_from_slice_get m.agents.items number a a at)
+    (All-get_or (IsThere m.nodes.items) m.agents.items number a low told.there)
+
+are_there : (plan : Plan) (m : Machine) (v : Verdict) (f : Finding) → AreTellable m → IsFindingOf plan m v f
+    → AreThere m f
+are_there plan m verdict.Certified f told found = subst (AreThere m) (sym found) tt
+are_there plan m (verdict.Race race) finding.Certified told found = tt
+are_there plan m (verdict.Race race) (finding.Race place earlier last) told found =
+    (found.there, holder_there m race.step.agent last.made.agent told found.agent)
+are_there plan m (verdict.Race race) (finding.Stopped made why) told found = absurd found
+are_there plan m (verdict.Race race) (finding.TooManyProcesses n) told found = tt
+are_there plan m (verdict.Race race) (finding.FlagsChanged n) told found = tt
+are_there plan m (verdict.Race race) finding.Cut told found = tt
+are_there plan m (verdict.Refused (refusal.Stops number why)) f told found =
+    subst (AreThere m) (sym found.is) (holder_there m number found.made.agent told found.agent)
+are_there plan m (verdict.Refused (refusal.TooManyProcesses n)) f told found = subst (AreThere m) (sym found) tt
+are_there plan m (verdict.Refused (refusal.FlagsChanged n)) f told found = subst (AreThere m) (sym found) tt
+are_there plan m verdict.Cut f told found = subst (AreThere m) (sym found) tt
+
+can_be_told : (plan : Plan) (m : Machine) (v : Verdict) (f : Finding) → AreTellable m → IsFindingOf plan m v f
+    → CanBeTold m f
+can_be_told plan m v f told found = record { there = are_there plan m v f told found; numbered = told.numbers }
 
 other : {T : Type 0} → (f : Finding) → is_certified f ≡ false → finding.Certified ≡ f → T
 other f not_so is = absurd (true≢false (ap is_certified is ∙ not_so))
 
 -- no race is told as a certificate
-no_race : {T : Type 0} → (plan : Plan) (race : Race) (f : Finding) → IsRaceOf plan race f → finding.Certified ≡ f → T
-no_race plan race finding.Certified found is = absurd found
-no_race plan race (finding.Race place earlier last) found is = other (finding.Race place earlier last) refl is
-no_race plan race (finding.Stopped made why) found is = absurd found
-no_race plan race (finding.TooManyProcesses n) found is = absurd found
-no_race plan race (finding.FlagsChanged n) found is = absurd found
-no_race plan race finding.Cut found is = absurd found
+no_race : {T : Type 0} → (plan : Plan) (m : Machine) (race : Race) (f : Finding) → IsRaceOf plan m race f
+    → finding.Certified ≡ f → T
+no_race plan m race finding.Certified found is = absurd found
+no_race plan m race (finding.Race place earlier last) found is = other (finding.Race place earlier last) refl is
+no_race plan m race (finding.Stopped made why) found is = absurd found
+no_race plan m race (finding.TooManyProcesses n) found is = absurd found
+no_race plan m race (finding.FlagsChanged n) found is = absurd found
+no_race plan m race finding.Cut found is = absurd found
 
 -- and nothing else but a certificate is
-pub certified_only : (plan : Plan) (v : Verdict) (f : Finding) → IsFindingOf plan v f → finding.Certified ≡ f
-    → v ≡ verdict.Certified
-certified_only plan verdict.Certified f found is = refl
-certified_only plan (verdict.Race race) f found is = no_race plan race f found is
-certified_only plan (verdict.Refused (refusal.Stops agent why)) f found is =
-    other (finding.Stopped found.0 why) refl (is ∙ found.2)
-certified_only plan (verdict.Refused (refusal.TooManyProcesses n)) f found is =
+pub certified_only : (plan : Plan) (m : Machine) (v : Verdict) (f : Finding) → IsFindingOf plan m v f
+    → finding.Certified ≡ f → v ≡ verdict.Certified
+certified_only plan m verdict.Certified f found is = refl
+certified_only plan m (verdict.Race race) f found is = no_race plan m race f found is
+certified_only plan m (verdict.Refused (refusal.Stops agent why)) f found is =
+    other (finding.Stopped found.made why) refl (is ∙ found.is)
+certified_only plan m (verdict.Refused (refusal.TooManyProcesses n)) f found is =
     other (finding.TooManyProcesses n) refl (is ∙ found)
-certified_only plan (verdict.Refused (refusal.FlagsChanged n)) f found is =
+certified_only plan m (verdict.Refused (refusal.FlagsChanged n)) f found is =
     other (finding.FlagsChanged n) refl (is ∙ found)
-certified_only plan verdict.Cut f found is = other finding.Cut refl (is ∙ found)
+certified_only plan m verdict.Cut f found is = other finding.Cut refl (is ∙ found)
 
 can_be_printed : (plan : Plan) (m : Machine) (f : Finding) → (finding.Certified ≡ f → IsSound plan m)
     → CanBePrinted plan m f
@@ -88,13 +119,13 @@ can_be_printed plan m (finding.FlagsChanged n) sound = tt
 can_be_printed plan m finding.Cut sound = tt
 
 pub has_run : (plan : Plan) (most : ℕ) (m : Machine) (v : Verdict) (f : Finding) → IsTold plan most m v
-    → (v ≡ verdict.Certified → Follows plan m) → IsFindingOf plan v f → HasRun plan most m f
+    → (v ≡ verdict.Certified → Follows plan m) → IsFindingOf plan m v f → HasRun plan most m f
 has_run plan most m v f told follows found = record {
   verdict = v;
   true = told;
   found = found;
-  told = can_be_told plan most m v told follows;
-  printed = can_be_printed plan m f (λ is. (follows (certified_only plan v f found is)).1.sound);
+  told = can_be_told plan m v f (tellable plan most m v told follows) found;
+  printed = can_be_printed plan m f (λ is. (follows (certified_only plan m v f found is)).1.sound);
 }
 
 -- ---- the faults of a plan

@@ -1,12 +1,15 @@
 -- Agents of the process machine, as they are printed.
 -- Source: own choice, a format of this program.
-use Rattle.std.specs.Prelude.{ℕ, ◌≡◌, ◌+◌, ◌*◌, List, ◌++◌, flat_map, reverse, codes, decimal, slice_get, Some}
+use Rattle.std.specs.Prelude.{ℕ, ◌≡◌, ◌+◌, ◌*◌, Bool, true, List, ◌++◌, flat_map, reverse, codes, decimal, slice_get}
+use Rattle.std.specs.Prelude.{Some, length, nat_lt, option_map, unwrap_or}
 use Rattle.tword.specs.Words.{most_neg}
 use Rattle.tfiles.specs.Texts.{end_text}
 use Rattle.twhere.specs.Standing.{word_text}
 use Rattle.tprocesses.specs.Places.{Name, Root, Image, After}
 use Rattle.tprocesses.specs.Machine.{Agent, Process, Channel, Wire, Successor}
 use Rattle.tcertify.specs.declared.node.Node.{Node}
+use Rattle.tverdict.specs.declared.agent.Agent as found
+use Rattle.tverdict.specs.declared.agent.Agent.TheVariants as agent
 
 -- where a name begins: at a process of the image, by its number, or at a successor, by its workspace and how many went
 -- on there before
@@ -44,3 +47,14 @@ agent_text (Process x) = at_node x.node (codes "process") (name_text x)
 agent_text (Channel n c) = at_node n (codes "channel") (word_text c)
 agent_text (Wire e) = codes "wire to " ++ end_text e
 agent_text (Successor n k) = at_node n (codes "successor") (word_address k)
+
+-- how many things a node has, if there is the node
+abbrev pub count_at : (Node → ℕ) → List Node → ℕ → ℕ
+count_at count nodes n = unwrap_or (option_map count (slice_get nodes n)) 0
+
+-- what an agent is named by is there
+abbrev pub is_there : List Node → found.Agent → Bool
+is_there nodes (agent.Process n k) = nat_lt k (count_at (λ node. length node.processes.items.items) nodes n)
+is_there nodes (agent.Channel n k) = nat_lt k (count_at (λ node. length node.channels.items.items) nodes n)
+is_there nodes (agent.Wire e) = true
+is_there nodes (agent.Successor n k) = nat_lt k (count_at (λ node. length node.words.items.items) nodes n)

@@ -1,17 +1,11 @@
 -- What is told of a verdict.
 -- Source: own choice.
-use Rattle.std.specs.Prelude.{ℕ, ◌≡◌, Bool, true, false, List, Option, Some, None, IfSome, slice_get, option_and_then}
+use Rattle.std.specs.Prelude.{ℕ, ◌≡◌, Bool, true, false, List, Option, Some, None}
 use Rattle.tplan.specs.declared.plan.Plan.{Plan}
 use Rattle.tclocks.specs.declared.mode.Mode.{Mode}
 use Rattle.tclocks.specs.declared.step.Step.{Step}
-use Rattle.tcertify.specs.declared.node.Node.{Node}
-use Rattle.tcertify.specs.declared.standing.Stand.{Stand}
-use Rattle.tcertify.specs.declared.standing.Stand.TheVariants as stand
-use Rattle.tverdict.specs.declared.agent.Agent.{Agent}
-use Rattle.tverdict.specs.declared.agent.Agent.TheVariants as agent
+use Rattle.tcertify.specs.declared.stop.Stop.{Stop}
 use Rattle.tverdict.specs.declared.machine.Machine.{Machine}
-use Rattle.tverdict.specs.declared.turn.Turn.{Turn}
-use Rattle.tverdict.specs.declared.turn.Turn.TheVariants as turn
 use Rattle.tverdict.specs.declared.verdict.Race.{Race}
 use Rattle.tverdict.specs.declared.verdict.Refusal.TheVariants as refusal
 use Rattle.tverdict.specs.declared.verdict.Verdict.{Verdict}
@@ -25,78 +19,54 @@ use Rattle.topening.specs.declared.fault.Fault.TheVariants as fault
 use Rattle.topening.specs.declared.verdict.Verdict as outcomes
 use Rattle.topening.specs.declared.verdict.Verdict.TheVariants.{Clear, Marked, Cut}
 use Rattle.topening.specs.Openings.{IsPlanOf}
-use Rattle.tverdict.specs.Machines.{Follows}
+use Rattle.tverdict.specs.Agents.{IsThere}
 use Rattle.tverdict.specs.Verdicts.{IsTold}
 use Rattle.tfindings.specs.declared.finding.Finding.{Finding}
 use Rattle.tfindings.specs.declared.finding.Finding.TheVariants as finding
 use Rattle.tfindings.specs.declared.finding.Made.{Made}
 use Rattle.tfindings.specs.declared.finding.Touch.{Touch}
+use Rattle.tfindings.specs.Steps.{IsMadeBy, holder}
 use Rattle.tfindings.specs.Telling.{CanBePrinted, CanBeTold, finding_text}
-
--- the address of the instruction that a process does next, if it runs
-abbrev pub stood_at : Stand → Option ℕ
-stood_at (stand.Runs c) = Some c.iptr
-stood_at _ = None
-
--- the same of a process of a node, if there is the process
-abbrev pub process_at : List Node → (n k : ℕ) → Option ℕ
-process_at nodes n k =
-    option_and_then (λ node. option_and_then (λ p. stood_at p.stand) (slice_get node.processes.items.items k))
-    (slice_get nodes n)
-
--- the address at which an agent stands, if it is a process
-abbrev pub stands_at : List Node → Agent → Option ℕ
-stands_at nodes (agent.Process n k) = process_at nodes n k
-stands_at nodes _ = None
-
-abbrev pub address_of : Machine → (number : ℕ) → Option ℕ
-address_of m number = option_and_then (stands_at m.nodes.items) (slice_get m.agents.items number)
-
--- a run goes on after a turn
-abbrev pub goes_on : Turn → Bool
-goes_on (turn.Made number) = true
-goes_on _ = false
-
--- in a run of the plan's process machine the agent of this number stood at this address
-pub record HasStood (plan : Plan) (number address : ℕ) : Type 0 where
-  pub machine : Machine
-  pub follows : Follows plan machine
-  pub stood : address_of machine number ≡ Some address
-
--- a step of an agent is told, by its number among the steps of the agent where that is known
-pub record IsMadeBy (plan : Plan) (who : ℕ) (which : Option ℕ) (made : Made) : Type 0 where
-  pub agent : made.agent ≡ who
-  pub number : IfSome which (λ n. made.number ≡ n)
-  pub code : IfSome made.code (λ c. HasStood plan who c.address)
 
 -- an access of a step is told
 pub record IsTouchOf (plan : Plan) (how : Mode) (step : Step) (touch : Touch) : Type 0 where
   pub mode : touch.mode ≡ how
   pub made : IsMadeBy plan step.agent (Some step.number) touch.made
 
--- a race is told
-abbrev pub IsRaceOf : Plan → Race → Finding → Type 0
-IsRaceOf plan race (finding.Race place earlier last) =
-    (place ≡ race.place) × IsTouchOf plan race.earlier.mode race.earlier.step earlier
-    × IsTouchOf plan race.mode race.step last
-IsRaceOf plan race _ = ⊥
+-- a race is told, with the machine where it was found. Another agent may have the number of the earlier step there
+pub record TellsRace (plan : Plan) (m : Machine) (race : Race) (place : ℕ) (earlier last : Touch) : Type 0 where
+  pub at : place ≡ race.place
+  pub first : IsTouchOf plan race.earlier.mode race.earlier.step earlier
+  pub there : IsThere m.nodes.items earlier.made.agent
+  pub second : IsTouchOf plan race.mode race.step last
+  pub agent : holder m race.step.agent ≡ Some last.made.agent
 
--- what is told of a verdict
-abbrev pub IsFindingOf : Plan → Verdict → Finding → Type 0
-IsFindingOf plan verdict.Certified f = f ≡ finding.Certified
-IsFindingOf plan (verdict.Race race) f = IsRaceOf plan race f
-IsFindingOf plan (verdict.Refused (refusal.Stops number why)) f =
-    (made : Made) × IsMadeBy plan number None made × (f ≡ finding.Stopped made why)
-IsFindingOf plan (verdict.Refused (refusal.TooManyProcesses n)) f = f ≡ finding.TooManyProcesses n
-IsFindingOf plan (verdict.Refused (refusal.FlagsChanged n)) f = f ≡ finding.FlagsChanged n
-IsFindingOf plan verdict.Cut f = f ≡ finding.Cut
+abbrev pub IsRaceOf : Plan → Machine → Race → Finding → Type 0
+IsRaceOf plan m race (finding.Race place earlier last) = TellsRace plan m race place earlier last
+IsRaceOf plan m race _ = ⊥
+
+-- a step that stops is told, with the machine where it stopped
+pub record TellsStop (plan : Plan) (m : Machine) (number : ℕ) (why : Stop) (f : Finding) : Type 0 where
+  pub made : Made
+  pub is : f ≡ finding.Stopped made why
+  pub step : IsMadeBy plan number None made
+  pub agent : holder m number ≡ Some made.agent
+
+-- what is told of a verdict, with the machine as its run left it
+abbrev pub IsFindingOf : Plan → Machine → Verdict → Finding → Type 0
+IsFindingOf plan m verdict.Certified f = f ≡ finding.Certified
+IsFindingOf plan m (verdict.Race race) f = IsRaceOf plan m race f
+IsFindingOf plan m (verdict.Refused (refusal.Stops number why)) f = TellsStop plan m number why f
+IsFindingOf plan m (verdict.Refused (refusal.TooManyProcesses n)) f = f ≡ finding.TooManyProcesses n
+IsFindingOf plan m (verdict.Refused (refusal.FlagsChanged n)) f = f ≡ finding.FlagsChanged n
+IsFindingOf plan m verdict.Cut f = f ≡ finding.Cut
 
 -- a run of a plan's process machine was made, and what was found is true of it: it can be printed
 pub record HasRun (plan : Plan) (most : ℕ) (m : Machine) (f : Finding) : Type 0 where
   pub verdict : Verdict
   pub true : IsTold plan most m verdict
-  pub found : IsFindingOf plan verdict f
-  pub told : CanBeTold m
+  pub found : IsFindingOf plan m verdict f
+  pub told : CanBeTold m f
   pub printed : CanBePrinted plan m f
 
 -- the plan is certified

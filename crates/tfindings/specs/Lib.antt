@@ -13,5 +13,7 @@ pub mod Refusals
 pub mod Telling
 -- what is told of a verdict
 pub mod Findings
+-- steps that are told, by a run that is made again
+pub mod Steps
 -- what a certified run tells of all runs
 pub mod Nets

@@ -32,7 +32,8 @@ abbrev pub side_text : Side → List ℕ
 side_text Input = codes "input"
 side_text Output = codes "output"
 
--- a place of a node. The channels that a process has enabled are named as where it stands: both have one number
+-- a place of a node. The channels that a process has enabled are named as where it stands: both have one number. That
+-- an output of a link is unfinished is named as the output
 abbrev pub place_text : Place → List ℕ
 place_text (place.WordAt n k) = at_node n (codes "word") (word_address k)
 place_text (place.Sending n k) = at_node n (codes "word") (word_address k)
@@ -40,6 +41,7 @@ place_text (place.Standing x) = at_node x.node (codes "process") (name_text x)
 place_text (place.Ports x) = at_node x.node (codes "process") (name_text x)
 place_text (place.Half n c side) = at_node n (side_text side ++ codes " of channel") (word_text c)
 place_text (place.LinkHalf e side) = at_node e.node (side_text side ++ codes " of link") (decimal e.link)
+place_text (place.Unfinished e) = at_node e.node (codes "output of link") (decimal e.link)
 place_text (place.Error n) = at_node n (codes "flag") (codes "Error")
 place_text (place.HaltOnError n) = at_node n (codes "flag") (codes "HaltOnError")
 place_text (place.Life n w) = at_node n (codes "workspace") (word_text w)
@@ -59,7 +61,8 @@ fixed_at n k =
     else if k == 3 then place.Population n
     else if nat_lt k 6 then place.HasRun n (k - 4)
     else if nat_lt k 10 then place.LinkHalf (end_at n (k - 6)) Input
-    else place.LinkHalf (end_at n (k - 10)) Output
+    else if nat_lt k 14 then place.LinkHalf (end_at n (k - 10)) Output
+    else place.Unfinished (end_at n (k - 14))
 
 -- the place of a part of a node
 abbrev pub place_of : Node → Part → Place
@@ -85,7 +88,7 @@ word_with number n =
 -- the number of the place among those that each node has besides
 abbrev pub fixed_with : ℕ → Node → Option ℕ
 fixed_with number n =
-    if nat_le n.fixed_place number && nat_lt (number - n.fixed_place) 14 then Some (number - n.fixed_place) else None
+    if nat_le n.fixed_place number && nat_lt (number - n.fixed_place) 18 then Some (number - n.fixed_place) else None
 
 -- the count of a workspace whose place has a number
 abbrev pub counted_with : ℕ → List Life → Option Part

@@ -11,7 +11,6 @@ abbrev pub stop_name : Stop → List ℕ
 stop_name (stop.Breaks b) = break_name b
 stop_name stop.Halts = codes "Halts"
 stop_name stop.SawTheScheduler = codes "SawTheScheduler"
-stop_name stop.HasAlternatives = codes "HasAlternatives"
 stop_name stop.SeveralReady = codes "SeveralReady"
 stop_name stop.WordInUse = codes "WordInUse"
 stop_name stop.FullSink = codes "FullSink"

@@ -1,7 +1,7 @@
 -- What is printed of a run of the process machine.
 -- Source: own choice, a format of this program.
-use Rattle.std.specs.Prelude.{ℕ, List, [], ◌++◌, Option, Some, None, Result, Ok, Err, codes, decimal, slice_get, All}
-use Rattle.std.specs.Prelude.{option_and_then, option_map, position, unwrap_or}
+use Rattle.std.specs.Prelude.{ℕ, List, [], ◌++◌, Option, Some, None, Result, Ok, Err, codes, decimal, slice_get}
+use Rattle.std.specs.Prelude.{option_and_then, position}
 use Rattle.tcode.specs.declared.instruction.Instruction.{Instruction}
 use Rattle.tcode.specs.Texts.{instruction_text}
 use Rattle.tplan.specs.declared.plan.Plan.{Plan}
@@ -37,14 +37,10 @@ code_text (Some c) = codes " " ++ (word_text c.address ++ (codes " " ++ fetched_
 code_text None = []
 
 -- a step: its agent, its number among the steps of that agent, and its code if it is that of a process
-abbrev pub step_text : List Node → Option Agent → (number : ℕ) → Option Code → List ℕ
-step_text nodes (Some a) number code =
-    agent_text (agent_of nodes a) ++ (codes " step " ++ (decimal number ++ code_text code))
-step_text nodes None number code = []
-
--- a step of an agent of the machine
 abbrev pub made_text : Machine → Made → List ℕ
-made_text m made = step_text m.nodes.items (slice_get m.agents.items made.agent) made.number made.code
+made_text m made =
+    agent_text (agent_of m.nodes.items made.agent)
+    ++ (codes " step " ++ (decimal made.number ++ code_text made.code))
 
 -- an access, and its step
 abbrev pub touch_text : Machine → (place : ℕ) → Touch → List ℕ
@@ -98,10 +94,6 @@ node_of (agent.Channel n k) = n
 node_of (agent.Wire e) = e.node
 node_of (agent.Successor n k) = n
 
--- the number of the node of the agent that made a step; 0, where there is no such agent
-abbrev pub node_of_step : Machine → Made → ℕ
-node_of_step m made = unwrap_or (option_map node_of (slice_get m.agents.items made.agent)) 0
-
 -- what was found of a plan by a run of its process machine, with the names of addresses
 abbrev pub finding_text : List NodeNames → Plan → Machine → Finding → List ℕ
 finding_text names plan m finding.Certified = certified_text plan m
@@ -110,15 +102,22 @@ finding_text names plan m (finding.Race place earlier last) =
     ++ (text_of_node names (node_of_place m place) (body_text m (finding.Race place earlier last))
     ++ last_text (codes "race") m.done)
 finding_text names plan m (finding.Stopped made why) =
-    text_of_node names (node_of_step m made) (body_text m (finding.Stopped made why))
+    text_of_node names (node_of made.agent) (body_text m (finding.Stopped made why))
     ++ last_text (codes "refused") m.done
 finding_text names plan m (finding.TooManyProcesses n) = refusal_text (codes "TooManyProcesses") (node_text n) m.done
 finding_text names plan m (finding.FlagsChanged n) = refusal_text (codes "FlagsChanged") (node_text n) m.done
 finding_text names plan m finding.Cut = refusal_text (codes "Steps") [] m.done
 
--- each agent of the machine is there, and its nodes have the numbers of their places
-pub record CanBeTold (m : Machine) : Type 0 where
-  pub there : All (IsThere m.nodes.items) m.agents.items
+-- what the agents of the steps that are told are named by is there
+abbrev pub AreThere : Machine → Finding → Type 0
+AreThere m (finding.Race place earlier last) =
+    IsThere m.nodes.items earlier.made.agent × IsThere m.nodes.items last.made.agent
+AreThere m (finding.Stopped made why) = IsThere m.nodes.items made.agent
+AreThere m f = Unit {0}
+
+-- so they are, and the nodes have the numbers of their places
+pub record CanBeTold (m : Machine) (f : Finding) : Type 0 where
+  pub there : AreThere m f
   pub numbered : AreNumbered m.nodes.items
 
 -- at the end of a certified run the machine's parts fit together

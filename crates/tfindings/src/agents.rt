@@ -1,10 +1,11 @@
 //! Agents of the process machine, as they are printed.
 
-ghost use Rattle.std.specs.Prelude.{◌≡◌, flat_map};
+ghost use Rattle.std.specs.Prelude.{◌≡◌, flat_map, length};
 ghost use Rattle.tfiles.specs.Outputs.{Tells};
 ghost use Rattle.tcertify.specs.Processes.{name_of, root_of};
 ghost use Rattle.tverdict.specs.Agents.{IsThere, agent_of};
 ghost use Rattle.tfindings.specs.Agents as spec;
+ghost use Rattle.tfindings.specs.Agents.{count_at};
 
 use tcertify::{Node, Process, Root};
 use tfiles::CountedWrite;
@@ -14,6 +15,48 @@ use tverdict::Agent;
 use twhere::put_word;
 use tword::Word;
 use tword::limits::MOST_NEG;
+
+/// How many processes a node has, if there is the node.
+fn processes_at(nodes: &[Node], node: u32) -> usize
+    ensures { result ≡ count_at (λ at. length at.processes.items.items) nodes.now node }
+{
+    match nodes.get(node as usize) {
+        Some(at) => at.processes.items.len(),
+        None => 0,
+    }
+}
+
+/// How many channels a node has, if there is the node.
+fn channels_at(nodes: &[Node], node: u32) -> usize
+    ensures { result ≡ count_at (λ at. length at.channels.items.items) nodes.now node }
+{
+    match nodes.get(node as usize) {
+        Some(at) => at.channels.items.len(),
+        None => 0,
+    }
+}
+
+/// How many words a node has, if there is the node.
+fn words_at(nodes: &[Node], node: u32) -> usize
+    ensures { result ≡ count_at (λ at. length at.words.items.items) nodes.now node }
+{
+    match nodes.get(node as usize) {
+        Some(at) => at.words.items.len(),
+        None => 0,
+    }
+}
+
+/// Whether what an agent is named by is at these nodes.
+pub(crate) fn is_there(nodes: &[Node], agent: Agent) -> bool
+    ensures { result ≡ spec.is_there nodes.now agent }
+{
+    match agent {
+        Agent::Process { node, process } => (process as usize) < processes_at(nodes, node),
+        Agent::Channel { node, channel } => (channel as usize) < channels_at(nodes, node),
+        Agent::Wire(_) => true,
+        Agent::Successor { node, word } => (word as usize) < words_at(nodes, node),
+    }
+}
 
 /// An agent of these nodes.
 pub(crate) fn put_agent<W: CountedWrite>(out: &mut Output<'_, W>, nodes: &[Node], agent: Agent)

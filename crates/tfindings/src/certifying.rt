@@ -13,13 +13,15 @@ ghost use Rattle.tfindings.specs.Findings.{HasFound, HasRun, IsFindingLeft, IsFi
 ghost use Rattle.tfindings.specs.Nets.{TellsOfAllRuns, WritesOfAllRuns};
 ghost use Rattle.tfindings.specs.Telling.{certified_text};
 
+use crate::agents::is_there;
 use crate::finding::{Finding, Touch};
 use crate::parts::certify_in_parts;
 use crate::progress::RunProgress;
-use crate::steps::made_by;
+use crate::steps::{has_number, made_by};
 use crate::telling::{body_of, write_finding};
 use std::alloc::{AllocError, Global};
 use tbounds::know_plan;
+use tcertify::Stop;
 use tclocks::{Mode, Step};
 use tfiles::CountedWrite;
 use tnames::NodeNames;
@@ -37,8 +39,8 @@ use tword::Items;
 ///
 /// # Errors
 /// The first of these: `Image` for the first file that is no image, `Net` for the lowest fault of the plan, `Output`
-/// where the writer failed. `Memory` where the allocator refused, or a number would not fit. Unless the error is
-/// `Output`, nothing was written.
+/// where the writer failed. `Memory` where the allocator refused, a number would not fit, or the run went another way
+/// when it was made again to tell its steps. Unless the error is `Output`, nothing was written.
 #[tactic(auto, using(crate::proofs::Runs::has_found, crate::proofs::Runs::finding_cut, crate::proofs::Nets::writes))]
 pub fn certify_files<P: RunProgress, W: CountedWrite>(
     alloc: Global,
@@ -183,24 +185,28 @@ fn run<P: RunProgress>(
     let verdict = certify_in_parts(alloc, plan, &mut machine, most_steps, progress);
     progress.end();
     let verdict = verdict?;
-    let finding = finding_of(alloc, plan, &verdict)?;
+    let finding = finding_of(alloc, plan, &machine, &verdict)?;
     Ok(Ran { machine, finding })
 }
 
-/// What is told of a verdict.
+/// What is told of a verdict, with the machine as its run left it.
 ///
 /// # Errors
-/// Where the allocator refuses, or a number would not fit.
-fn finding_of(alloc: Global, plan: &Plan, verdict: &Verdict) -> Result<Finding, AllocError>
-    ensures { IfOk result (IsFindingOf plan.now verdict.now) }
+/// Where the allocator refuses, a number would not fit, or the run goes another way when it is made again.
+fn finding_of(
+    alloc: Global,
+    plan: &Plan,
+    machine: &Machine,
+    verdict: &Verdict,
+) -> Result<Finding, AllocError>
+    ensures { IfOk result (IsFindingOf plan.now machine.now verdict.now) }
 {
     match *verdict {
         Verdict::Certified => Ok(Finding::Certified),
-        Verdict::Race(race) => race_of(alloc, plan, race),
-        Verdict::Refused(Refusal::Stops { agent, why }) => Ok(Finding::Stopped {
-            made: made_by(alloc, plan, agent, None)?,
-            why,
-        }),
+        Verdict::Race(race) => race_of(alloc, plan, machine, race),
+        Verdict::Refused(Refusal::Stops { agent, why }) => {
+            stop_of(alloc, plan, machine, agent, why)
+        }
         Verdict::Refused(Refusal::TooManyProcesses { node }) => {
             Ok(Finding::TooManyProcesses { node })
         }
@@ -209,12 +215,35 @@ fn finding_of(alloc: Global, plan: &Plan, verdict: &Verdict) -> Result<Finding, 
     }
 }
 
+/// What is told of a step that stops, of the agent of this number.
+fn stop_of(
+    alloc: Global,
+    plan: &Plan,
+    machine: &Machine,
+    number: u32,
+    why: Stop,
+) -> Result<Finding, AllocError>
+    ensures { IfOk result (spec.TellsStop plan.now machine.now number why) }
+{
+    let made = made_by(alloc, plan, number, None)?;
+    if !has_number(machine, made.agent, number) {
+        return Err(AllocError);
+    }
+    Ok(Finding::Stopped { made, why })
+}
+
 /// What is told of a race.
-fn race_of(alloc: Global, plan: &Plan, race: Race) -> Result<Finding, AllocError>
-    ensures { IfOk result (spec.IsRaceOf plan.now race) }
+fn race_of(alloc: Global, plan: &Plan, machine: &Machine, race: Race) -> Result<Finding, AllocError>
+    ensures { IfOk result (spec.IsRaceOf plan.now machine.now race) }
 {
     let earlier = touch_of(alloc, plan, race.earlier.mode, race.earlier.step)?;
     let last = touch_of(alloc, plan, race.mode, race.step)?;
+    if !is_there(machine.nodes.as_slice(), earlier.made.agent) {
+        return Err(AllocError);
+    }
+    if !has_number(machine, last.made.agent, race.step.agent) {
+        return Err(AllocError);
+    }
     Ok(Finding::Race {
         place: race.place,
         earlier,

@@ -3,6 +3,7 @@
 use tcertify::Stop;
 use tclocks::Mode;
 use tcode::Instruction;
+use tverdict::Agent;
 use tword::Word;
 
 /// Where a process stands, and what is fetched there: an instruction, or why there is none.
@@ -12,10 +13,10 @@ pub struct Code {
     pub fetched: Result<Instruction, Stop>,
 }
 
-/// A step, by the number of its agent.
+/// A step of an agent.
 #[derive(Clone, Copy)]
 pub struct Made {
-    pub agent: u32,
+    pub agent: Agent,
     /// Its number among the steps of that agent, from 1 on.
     pub number: u32,
     /// The code that it runs, where it is known and the agent is a process.

@@ -130,7 +130,7 @@ fn fixed_with(node: &Node, number: u32) -> Option<u32>
     ensures { result ≡ spec.fixed_with number node.now }
 {
     let fixed = number.checked_sub(node.fixed_place)?;
-    if fixed < 14 { Some(fixed) } else { None }
+    if fixed < 18 { Some(fixed) } else { None }
 }
 
 /// The process, the half of a channel, or the count of a workspace whose place has a number.
@@ -280,7 +280,8 @@ fn put_fixed<W: CountedWrite>(out: &mut Output<'_, W>, node: u32, fixed: u32)
         }
         4..6 => put_counted(out, node, b"priority", fixed - 4),
         6..10 => put_counted(out, node, b"input of link", fixed - 6),
-        _ => put_counted(out, node, b"output of link", fixed.saturating_sub(10)),
+        10..14 => put_counted(out, node, b"output of link", fixed - 10),
+        _ => put_counted(out, node, b"output of link", fixed.saturating_sub(14)),
     }
 }
 

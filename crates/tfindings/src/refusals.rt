@@ -14,7 +14,6 @@ pub(crate) fn stop_name(why: Stop) -> &'static [u8]
         Stop::Breaks(broken) => break_name(broken),
         Stop::Halts => b"Halts",
         Stop::SawTheScheduler => b"SawTheScheduler",
-        Stop::HasAlternatives => b"HasAlternatives",
         Stop::SeveralReady => b"SeveralReady",
         Stop::WordInUse => b"WordInUse",
         Stop::FullSink => b"FullSink",

@@ -1,6 +1,6 @@
 //! What is printed of a run of the process machine.
 
-ghost use Rattle.std.specs.Prelude.{◌≡◌, ◌≤◌, IfErr, IfOk, OnOk, Some};
+ghost use Rattle.std.specs.Prelude.{◌≡◌, ◌≤◌, IfErr, IfOk, OnOk};
 ghost use Rattle.tword.specs.Limits.{most_nodes};
 ghost use Rattle.tnet.specs.Building.{node_count};
 ghost use Rattle.tfiles.specs.Failures.{HasRisen, HasStayed};
@@ -16,7 +16,7 @@ use crate::finding::{Code, Finding, Made, Touch};
 use crate::places::{node_with, put_access};
 use crate::refusals::stop_name;
 use std::alloc::{AllocError, Global};
-use tcertify::{Node, Stop};
+use tcertify::Stop;
 use tcode::Instruction;
 use tfiles::dis::put_instruction;
 use tfiles::writing::output::{Output, WriteFault};
@@ -52,7 +52,7 @@ fn put_finding<W: CountedWrite>(
             put_last(out, b"race", machine.done);
         }
         Finding::Stopped { made, .. } => {
-            put_of_node(out, names, node_of_step(machine, &made), body);
+            put_of_node(out, names, node_of(made.agent), body);
             put_last(out, b"refused", machine.done);
         }
         Finding::TooManyProcesses { node } => {
@@ -89,18 +89,6 @@ fn node_of_place(machine: &Machine, place: u32) -> u32
     }
 }
 
-/// The number of the node of the agent that made a step; 0, where there is no such agent.
-fn node_of_step(machine: &Machine, made: &Made) -> u32
-    ensures { result ≡ spec.node_of_step machine.now made.now }
-{
-    let (number, agents) = (made.agent as usize, machine.agents.as_slice());
-    if number < agents.len() {
-        node_of(agents[number])
-    } else {
-        0
-    }
-}
-
 /// The number of the node of an agent: of a wire that of its end that receives.
 fn node_of(agent: Agent) -> u32
     ensures { result ≡ spec.node_of agent }
@@ -114,7 +102,7 @@ fn node_of(agent: Agent) -> u32
 
 /// The lines of the steps that are told.
 fn put_body<W: CountedWrite>(out: &mut Output<'_, W>, machine: &Machine, finding: &Finding)
-    requires { spec.CanBeTold machine.now }
+    requires { spec.CanBeTold machine.now finding.now }
     ensures { Tells W.contents W.failures out.old out.new (spec.body_text machine.now finding.now) }
 {
     match *finding {
@@ -133,7 +121,8 @@ fn put_body<W: CountedWrite>(out: &mut Output<'_, W>, machine: &Machine, finding
 
 /// An access, and its step.
 fn put_touch<W: CountedWrite>(out: &mut Output<'_, W>, machine: &Machine, place: u32, touch: &Touch)
-    requires { spec.CanBeTold machine.now }
+    requires there { IsThere machine.now.nodes.items touch.now.made.agent }
+    requires numbered { AreNumbered machine.now.nodes.items }
     ensures { Tells W.contents W.failures out.old out.new (spec.touch_text machine.now place touch.now) }
 {
     put_access(
@@ -150,7 +139,8 @@ fn put_touch<W: CountedWrite>(out: &mut Output<'_, W>, machine: &Machine, place:
 
 /// The step of an agent that stops, and why.
 fn put_stopped<W: CountedWrite>(out: &mut Output<'_, W>, machine: &Machine, made: &Made, why: Stop)
-    requires { spec.CanBeTold machine.now }
+    requires there { IsThere machine.now.nodes.items made.now.agent }
+    requires numbered { AreNumbered machine.now.nodes.items }
     ensures { Tells W.contents W.failures out.old out.new (spec.stopped_text machine.now made.now why) }
 {
     out.put(b"refused ");
@@ -173,25 +163,13 @@ fn put_node_refusal<W: CountedWrite>(out: &mut Output<'_, W>, why: &[u8], node: 
     put_last(out, b"refused", steps);
 }
 
-/// A step of an agent of the machine.
+/// A step.
 fn put_made<W: CountedWrite>(out: &mut Output<'_, W>, machine: &Machine, made: &Made)
-    requires { spec.CanBeTold machine.now }
+    requires there { IsThere machine.now.nodes.items made.now.agent }
+    requires numbered { AreNumbered machine.now.nodes.items }
     ensures { Tells W.contents W.failures out.old out.new (spec.made_text machine.now made.now) }
 {
-    let (number, agents) = (made.agent as usize, machine.agents.as_slice());
-    if number < agents.len() {
-        put_step(out, machine.nodes.as_slice(), agents[number], made);
-    }
-}
-
-/// A step of an agent of these nodes.
-fn put_step<W: CountedWrite>(out: &mut Output<'_, W>, nodes: &[Node], agent: Agent, made: &Made)
-    requires there { IsThere nodes.now agent }
-    requires numbered { AreNumbered nodes.now }
-    ensures { Tells W.contents W.failures out.old out.new
-        (spec.step_text nodes.now (Some agent) made.now.number made.now.code) }
-{
-    put_agent(out, nodes, agent);
+    put_agent(out, machine.nodes.as_slice(), made.agent);
     out.put(b" step ");
     put_decimal(out, u64::from(made.number));
     put_code(out, &made.code);
@@ -239,7 +217,7 @@ pub(crate) fn body_of(
     machine: &Machine,
     finding: &Finding,
 ) -> Result<Items<u8>, AllocError>
-    requires { spec.CanBeTold machine.now }
+    requires { spec.CanBeTold machine.now finding.now }
     ensures { IfOk result (λ text. text ≡ spec.body_text machine.now finding.now) }
 {
     let mut text = Uncounted(Vec::new(alloc));
@@ -255,7 +233,7 @@ fn write_body<W: CountedWrite>(
     machine: &Machine,
     finding: &Finding,
 ) -> Result<(), WriteFault>
-    requires { spec.CanBeTold machine.now }
+    requires { spec.CanBeTold machine.now finding.now }
     ensures { IsOut (W.contents out.old) (W.contents out.new) (spec.body_text machine.now finding.now) result }
 {
     let mut output = Output::new(out);

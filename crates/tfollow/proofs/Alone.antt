@@ -26,16 +26,19 @@ use Rattle.tcpu.specs.Operations.{operation_effect, looped, is_positive_word}
 use Rattle.tcpu.specs.Effects.{local_or_left, selected_effect, effect_at, effect}
 use Rattle.tcpu.proofs.Quiet.{IsQuiet}
 use Rattle.tproc.specs.declared.channels.Side.TheVariants.{Input, Output}
+use Rattle.tproc.specs.LinkChannels.{link_of}
 use Rattle.tplan.specs.declared.plan.End.{End}
 use Rattle.tplan.specs.declared.plan.NodePlan.{NodePlan}
 use Rattle.tplan.specs.declared.plan.Plan.{Plan}
+use Rattle.tplan.specs.Wires.{end_at}
 use Rattle.tagents.specs.Tidy.{IsOneOf}
-use Rattle.tprocesses.specs.Places.{Place, Name, WordAt, Standing, Life, Error, HaltOnError, FlagChanged, same_place}
-use Rattle.tprocesses.specs.Values.{Context, Stand, Absent, Rests, Runs, Waits, Chooses, Chosen, Ended, Value}
-use Rattle.tprocesses.specs.Values.{IsStand, IsFlag, stand_in}
+use Rattle.tprocesses.specs.Places.{Place, Name, WordAt, Standing, LinkHalf, Life, Error, HaltOnError, FlagChanged}
+use Rattle.tprocesses.specs.Places.{same_place}
+use Rattle.tprocesses.specs.Values.{Context, Stand, Absent, Rests, Runs, Waits, Chooses, Chosen, Listens, Ended}
+use Rattle.tprocesses.specs.Values.{Value, IsStand, IsFlag, stand_in, link_in}
 use Rattle.tprocesses.specs.Changes.{Change, Put, Engage, Decrement, Add, Raise, are_known}
 use Rattle.tprocesses.specs.Parts.{Part, gives, stopping, seeing, changing, telling, Changed, change, Breaks}
-use Rattle.tprocesses.specs.Parts.{HasNoStep, SawTheScheduler, WordInUse, ◌>>=◌}
+use Rattle.tprocesses.specs.Parts.{HasNoStep, SawTheScheduler, SeveralReady, WordInUse, ◌>>=◌}
 use Rattle.tprocesses.specs.Touching.{Site, word_number, word_place, part_of}
 use Rattle.tprocesses.specs.Performing.{Performed, noted, perform}
 use Rattle.tprocesses.specs.Uses.{Uses, uses_of, has_needed, known_writes}
@@ -45,8 +48,9 @@ use Rattle.tprocesses.specs.Scheduling.{ends_among_others, schedules}
 use Rattle.tprocesses.specs.Instructions.{Flags, has_flags, registers, is_same_flag, sets_flag, flags_after}
 use Rattle.tprocesses.specs.Instructions.{context_after, followed, completed, executed, runs}
 use Rattle.tprocesses.specs.Machine.{Agent, Process, Channel, Wire, Successor, Role, Processor, Source, Sink, Nothing}
-use Rattle.tprocesses.specs.Machine.{role_at, site_of, at_site, sender_to, process_step, sends, receives, passes}
-use Rattle.tprocesses.specs.Machine.{step_of}
+use Rattle.tprocesses.specs.Machine.{role_at, site_of, at_site, sender_to, process_step, sends, receives, asks, offers}
+use Rattle.tprocesses.specs.Machine.{awaiting, crosses, passes, requires_no_sender, listens, stepped, step_of}
+use Rattle.tprocesses.specs.Machine.{is_passable, offer_place}
 use Rattle.tprocesses.specs.ChannelMessages.{channel_step}
 use Rattle.tprocesses.specs.LinkMessages.{node_sends, node_receives}
 use Rattle.tprocesses.specs.Scheduling.{successor_step}
@@ -64,6 +68,7 @@ use Rattle.tfollow.proofs.Even.{runs_child_even, stops_itself_even, stops_by_err
 use Rattle.tfollow.proofs.Even.{sends_from_workspace_even, successor_step_even, jumped_even, sets_error_even}
 use Rattle.tfollow.proofs.Even.{begins_choice_even, enables_channel_even, enables_skip_even, awaits_choice_even}
 use Rattle.tfollow.proofs.Even.{goes_on_chosen_even, disables_channel_even, disables_skip_even, ends_choice_even}
+use Rattle.tfollow.proofs.Even.{fires_even, goes_on_unfired_even}
 
 -- a change counts nothing down
 abbrev CountsNothing : Change → Type 0
@@ -404,6 +409,7 @@ process_step_alone x Absent s = even (stops Even HasNoStep)
 process_step_alone x (Chosen c) s = even (goes_on_chosen_even Even some_put some_engage some_add some_raise s x c)
 process_step_alone x (Waits c) s = even (stops Even HasNoStep)
 process_step_alone x (Chooses c) s = even (stops Even HasNoStep)
+process_step_alone x (Listens channel c) s = even (stops Even HasNoStep)
 process_step_alone x Ended s = even (stops Even HasNoStep)
 
 at_site_alone : {A : Type 0} (plan : Plan) (n : ℕ) (step : Site → Part A)
@@ -439,17 +445,57 @@ receives_even plan Sink e message = sink_receives_even Even some_put some_engage
 receives_even plan Source e message = stops Even HasNoStep
 receives_even plan Nothing e message = stops Even HasNoStep
 
-passes_even : (plan : Plan) (e : End) (t : Option End) → Each Even Any (passes plan t e)
-passes_even plan e (Some f) =
+asks_even : (r : Role) (e : End) → Each Even Any (asks r e)
+asks_even Processor e =
+    andthen Even (sees Even (LinkHalf e Input)) (λ half. nothing Even (awaiting (link_in half)))
+asks_even Source e = nothing Even None
+asks_even Sink e = nothing Even None
+asks_even Nothing e = nothing Even None
+
+offers_even : (plan : Plan) (f : End) → Each Even Any (offers plan f)
+offers_even plan f = let q = offer_place (role_at plan f.node) f in
+    andthen Even (sees Even q) (λ offered. nothing Even (is_passable q offered))
+
+crosses_even : (plan : Plan) (f e : End) (asked : Option Name) → Each Even Any (crosses plan f e asked)
+crosses_even plan f e None =
     andthen Even (sends_even plan (role_at plan f.node) f)
     (λ message. andthen Even (receives_even plan (role_at plan e.node) e message) (λ y. tells Even message))
+crosses_even plan f e (Some x) =
+    andthen Even (offers_even plan f)
+    (λ offered. andthen Even (requires Even offered HasNoStep)
+    (λ y. fires_even Even some_put some_engage some_add some_raise e x))
+
+passes_even : (plan : Plan) (e : End) (t : Option End) → Each Even Any (passes plan t e)
+passes_even plan e (Some f) =
+    andthen Even (asks_even (role_at plan e.node) e) (λ asked. crosses_even plan f e asked)
 passes_even plan e None = stops Even HasNoStep
+
+no_sender_even : (plan : Plan) (t : Option End) → Each Even Any (requires_no_sender plan t)
+no_sender_even plan (Some f) =
+    andthen Even (offers_even plan f) (λ offered. requires Even (not offered) SeveralReady)
+no_sender_even plan None = nothing Even tt
+
+listens_even : (plan : Plan) (x : Name) (channel : ℕ) (c : Context) (s : Site)
+    → Each Even Any (listens plan x channel c s)
+listens_even plan x channel c s =
+    andthen Even (no_sender_even plan (sender_to plan (end_at x.node (link_of Input channel))))
+    (λ y. goes_on_unfired_even Even some_put some_engage some_add some_raise s x channel c)
+
+stepped_alone : (plan : Plan) (x : Name) (stand : Stand) (s : Site) → Alone (stepped plan x stand s)
+stepped_alone plan x (Listens channel c) s = even (listens_even plan x channel c s)
+stepped_alone plan x Absent s = process_step_alone x Absent s
+stepped_alone plan x (Rests c) s = process_step_alone x (Rests c) s
+stepped_alone plan x (Runs c) s = process_step_alone x (Runs c) s
+stepped_alone plan x (Waits c) s = process_step_alone x (Waits c) s
+stepped_alone plan x (Chooses c) s = process_step_alone x (Chooses c) s
+stepped_alone plan x (Chosen c) s = process_step_alone x (Chosen c) s
+stepped_alone plan x Ended s = process_step_alone x Ended s
 
 steps_alone : (plan : Plan) (a : Agent) → Alone (step_of plan a)
 steps_alone plan (Process x) =
     aside (sees Aside (Standing x))
-    (λ stood. at_site_alone plan x.node (process_step x (stand_in stood))
-    (λ node. process_step_alone x (stand_in stood) (site_of x.node node)))
+    (λ stood. at_site_alone plan x.node (stepped plan x (stand_in stood))
+    (λ node. stepped_alone plan x (stand_in stood) (site_of x.node node)))
 steps_alone plan (Channel n c) =
     at_site_alone plan n (channel_step c)
     (λ node. even (channel_step_even Even some_put some_engage some_add some_raise c (site_of n node)))

@@ -1,27 +1,23 @@
--- The check has counted the steps of each agent, and keeps accesses of these alone.
+-- The check has counted the steps with each number, and keeps accesses of these alone.
 use Rattle.std.proofs.Common.{◌≡◌, ◌≢◌, ℕ, suc, zero, ◌+◌, ◌<◌, ◌≤◌, ◌⊎◌, inl, inr, refl, sym, ap, ◌∙◌, subst}
 use Rattle.std.proofs.Common.{arith, max}
-use Rattle.std.proofs.Common.{Bool, false, cond, List, [], ◌∷◌, ◌++◌, length, Some}
+use Rattle.std.proofs.Common.{List, [], ◌∷◌, ◌++◌, length, Some}
 use Rattle.std.proofs.Common.{slice_get, slice_index, slice_index_or, replicate, get_or}
 use Rattle.std.proofs.Common.{Contains}
 use Rattle.std.proofs.lemmas.List.{length-set, get_or-set_other}
-use Rattle.std.proofs.lemmas.Option.{same_Some}
-use Rattle.tplan.specs.declared.plan.Plan.{Plan}
-use Rattle.tagents.specs.Agents.{own}
 use Rattle.tclocks.specs.declared.mode.Mode.{Mode}
 use Rattle.tclocks.specs.declared.step.Step.{Step}
 use Rattle.tclocks.specs.Clocks.{raised, joined}
 use Rattle.tclocks.specs.Checks.{Check, nothing_checked, clock_of, clock_in, accesses_at, steps_of}
 use Rattle.tclocks.specs.Checks.{with_places, next_step, begun, with_joined}
-use Rattle.tclocks.specs.Followed.{EachOf, AreAccessed, IsStep}
-use Rattle.tclocks.proofs.Lists.{test, contains-first, contains-rest}
+use Rattle.tclocks.specs.Followed.{AreAccessed, IsStep}
+use Rattle.tclocks.proofs.Lists.{contains-first, contains-rest}
 use Rattle.tclocks.proofs.ClockLemmas.{slice_index-joined}
 use Rattle.tclocks.proofs.Joining.{clock_of-same, clock_of-other, raised-same, same-or-not}
-use Rattle.tprocesses.specs.Machine.{Agent, same_agent}
-use Rattle.tprocesses.specs.Certified.{ProcessStep, machine_of}
-use Rattle.tfollow.specs.Numbering.{HasNumber, AreApart, number_in}
-use Rattle.tfollow.specs.Following.{KeptAccess, Told, IsDone, AreCounted}
-use Rattle.tfollow.proofs.Numbered.{agent-same, told as told-agents}
+use Rattle.tprocesses.specs.Certified.{ProcessStep}
+use Rattle.tfollow.specs.Numbering.{AgentNumbers}
+use Rattle.tfollow.specs.Following.{KeptAccess, Told, IsDone, AreCounted, count_with}
+use Rattle.tfollow.proofs.Agreeing.{count-same, count-other}
 
 -- a list with defaults behind its end
 pub defaults-behind : {A : Type 0} (xs ys : List A) (i : ℕ) (d : A) → ((k : ℕ) → get_or ys k d ≡ d)
@@ -49,15 +45,16 @@ number-before [] ys i x h = absurd cc
 number-before (y ∷ zs) ys zero x h = h
 number-before (y ∷ zs) ys (suc i) x h = number-before zs ys i x h
 
-module _ (plan : Plan) (agents : List Agent) where
-  pub none-counted : AreCounted plan agents [] nothing_checked
+module _ (group : AgentNumbers) where
+  -- before the first step nothing was counted
+  pub none-counted : AreCounted group [] nothing_checked
   none-counted = record {
-    counts = λ number a h. refl;
+    counts = λ number h. refl;
     kept = λ place access has. absurd (omega (arith, has.1));
   }
 
-  pub counted-places : (steps : List ProcessStep) (check : Check) (count : ℕ) → AreCounted plan agents steps check
-      → AreCounted plan agents steps (with_places count check)
+  pub counted-places : (steps : List ProcessStep) (check : Check) (count : ℕ) → AreCounted group steps check
+      → AreCounted group steps (with_places count check)
   counted-places steps check count h = record {
     counts = h.counts;
     kept = λ place access has. h.kept place access
@@ -66,8 +63,8 @@ module _ (plan : Plan) (agents : List Agent) where
   }
 
   -- a step that is done is done still
-  abbrev pub done-still : (steps : List ProcessStep) (e : ProcessStep) (step : Step) → IsDone plan agents steps step
-      → IsDone plan agents (e ∷ steps) step
+  abbrev pub done-still : (steps : List ProcessStep) (e : ProcessStep) (step : Step) → IsDone group steps step
+      → IsDone group (e ∷ steps) step
   done-still steps e step h = record {
     later = e ∷ h.later;
     label = h.label;
@@ -76,24 +73,6 @@ module _ (plan : Plan) (agents : List Agent) where
     agent = h.agent;
     number = h.number;
   }
-
-  -- the steps of an agent, with one of its own more, or of another
-  pub own-more : (e : ProcessStep) (steps : List ProcessStep)
-      → own (machine_of plan) e.agent (e ∷ steps) ≡ e ∷ own (machine_of plan) e.agent steps
-  own-more e steps =
-      ap (λ (t : Bool). cond t (e ∷ own (machine_of plan) e.agent steps) (own (machine_of plan) e.agent steps))
-      (agent-same plan e.agent)
-
-  own-other : (e : ProcessStep) (steps : List ProcessStep) (a : Agent) → same_agent e.agent a ≡ false
-      → own (machine_of plan) a (e ∷ steps) ≡ own (machine_of plan) a steps
-  own-other e steps a h =
-      ap (λ (t : Bool). cond t (e ∷ own (machine_of plan) a steps) (own (machine_of plan) a steps)) h
-
-  -- where a new agent comes
-  pub own-none : (steps : List ProcessStep) (a : Agent) → EachOf (λ e. same_agent e.agent a ≡ false) steps
-      → own (machine_of plan) a steps ≡ []
-  own-none [] a h = refl
-  own-none (e ∷ steps) a h = own-other e steps a h.0 ∙ own-none steps a h.1
 
 -- the agent of a step that begins, joins its slot and makes accesses
 module _ (number : ℕ) (before : Check) (long : number < length before.clocks)
@@ -174,65 +153,59 @@ kept-since step (told ∷ rest) c d (between, is, are) place access has =
           ∙ get_or-set_other c.places told.place place (accesses_at between told.place) [] other) has)
     ]
 
--- the next step of an agent, when it is done
-abbrev pub done-now : (plan : Plan) (agents : List Agent) (steps : List ProcessStep) (e : ProcessStep) (number : ℕ)
-    (before : Check) → HasNumber agents e.agent number → AreCounted plan agents steps before
-    → IsDone plan agents (e ∷ steps) (next_step before number)
-done-now plan agents steps e number before listed h = record {
+-- the next step with a number, when it is done
+abbrev pub done-now : (group : AgentNumbers) (steps : List ProcessStep) (e : ProcessStep) (number : ℕ) (before : Check)
+    → group e.agent ≡ number → number < length before.clocks → AreCounted group steps before
+    → IsDone group (e ∷ steps) (next_step before number)
+done-now group steps e number before by long h = record {
   later = [];
   label = e;
   before = steps;
   within = refl;
-  agent = listed;
-  number = omega (
-    arith,
-    h.counts number e.agent listed,
-    ap (λ (list : List ProcessStep). length list) (own-more plan agents e steps),
-  );
+  agent = by;
+  number = omega (arith, h.counts number long, count-same group number e steps by);
 }
 
-module _ (plan : Plan) (agents : List Agent) (apart : AreApart agents) (steps : List ProcessStep) (e : ProcessStep)
-    (number : ℕ) (told : List Told) (before after : Check) (listed : HasNumber agents e.agent number)
-    (long : number < length before.clocks) (own-long : number < length (clock_of before number))
+module _ (group : AgentNumbers) (steps : List ProcessStep) (e : ProcessStep) (number : ℕ) (told : List Told)
+    (before after : Check) (by : group e.agent ≡ number) (long : number < length before.clocks)
+    (own-long : number < length (clock_of before number))
     (within : slice_index (clock_in before number) number ≤ steps_of before number)
-    (checked : IsStep number (number ∷ []) told before after) (h : AreCounted plan agents steps before) where
+    (checked : IsStep number (number ∷ []) told before after) (h : AreCounted group steps before) where
   after-steps : (i : ℕ) → steps_of after i ≡ steps_of (middle number before long own-long within) i
   after-steps i =
       ap (λ (clocks : List (List ℕ)). slice_index (slice_index_or clocks i []) i)
       (clocks-stay (next_step before number) told (middle number before long own-long within) after checked)
 
-  new-counts : (i : ℕ) (a : Agent) → HasNumber agents a i
-      → steps_of after i ≡ length (own (machine_of plan) a (e ∷ steps))
-  new-counts i a has = elim (same-or-not i number) as
-      (λ _. steps_of after i ≡ length (own (machine_of plan) a (e ∷ steps))) [
-        | inl same ↦
-            let one : e.agent ≡ a = same_Some e.agent a
-            (sym listed ∙ ap (λ (k : ℕ). slice_get agents k) (sym same) ∙ has) in
-            after-steps i ∙ ap (λ (k : ℕ). steps_of (middle number before long own-long within) k) same
-            ∙ middle-own number before long own-long within
-            ∙ (done-now plan agents steps e number before listed h).number
-            ∙ ap (λ (b : Agent). length (own (machine_of plan) b (e ∷ steps))) one
-        | inr other ↦
-            after-steps i ∙ middle-other number before long own-long within i other ∙ h.counts i a has
-            ∙ sym (ap (λ (list : List ProcessStep). length list) (own-other plan agents e steps a (two other)))
-      ]
-    where
-      two : i ≢ number → same_agent e.agent a ≡ false
-      two other = elim (test (same_agent e.agent a)) as (λ _. same_agent e.agent a ≡ false) [
-        | inl same ↦ absurd (other (sym (apart i a has)
-            ∙ ap (number_in agents) (sym ((told-agents plan).is_same e.agent a same)) ∙ apart number e.agent listed))
-        | inr differ ↦ differ
-      ]
+  -- the step adds no clock
+  pub clocks-long : length after.clocks ≡ length before.clocks
+  clocks-long =
+      ap (λ (clocks : List (List ℕ)). length clocks)
+      (clocks-stay (next_step before number) told (middle number before long own-long within) after checked)
+      ∙ length-set (begun number before).clocks number _ ∙ length-set before.clocks number _
+
+  new-counts : (i : ℕ) → i < length after.clocks → steps_of after i ≡ count_with group i (e ∷ steps)
+  new-counts i there = elim (same-or-not i number) as (λ _. steps_of after i ≡ count_with group i (e ∷ steps)) [
+    | inl same ↦
+        after-steps i ∙ ap (λ (k : ℕ). steps_of (middle number before long own-long within) k) same
+        ∙ middle-own number before long own-long within
+        ∙ (done-now group steps e number before by long h).number
+        ∙ ap (λ (k : ℕ). count_with group k (e ∷ steps)) (sym same)
+    | inr other ↦
+        after-steps i ∙ middle-other number before long own-long within i other
+        ∙ h.counts i (omega (arith, there, clocks-long))
+        ∙ sym (count-other group i e steps (λ at. other (sym at ∙ by)))
+  ]
 
   new-kept : (place : ℕ) (access : KeptAccess) → Contains (accesses_at after place) access
-      → IsDone plan agents (e ∷ steps) access.step
+      → IsDone group (e ∷ steps) access.step
   new-kept place access has =
       elim (kept-since (next_step before number) told (middle number before long own-long within) after checked place
-      access has) as (λ _. IsDone plan agents (e ∷ steps) access.step) [
-        | inl old ↦ done-still plan agents steps e access.step (h.kept place access old)
-        | inr new ↦ subst (λ (step : Step). IsDone plan agents (e ∷ steps) step) (sym new.0)
-            (done-now plan agents steps e number before listed h)
+      access has) as (λ _. IsDone group (e ∷ steps) access.step) [
+        | inl old ↦ done-still group steps e access.step (h.kept place access old)
+        | inr new ↦ subst (λ (step : Step). IsDone group (e ∷ steps) step) (sym new.0)
+            (done-now group steps e number before by long h)
       ]
 
-  pub counted-step : AreCounted plan agents (e ∷ steps) after
+  -- the check has counted the step, too
+  pub counted-step : AreCounted group (e ∷ steps) after
   counted-step = record { counts = new-counts; kept = new-kept }

@@ -1,12 +1,13 @@
 -- What holds of each change of a part, whatever the part sees; and parts that only look.
 use Rattle.std.proofs.Common.{ℕ, zero, suc, Bool, true, false, List, [], ◌∷◌, ◌++◌, Option, Some, None}
-use Rattle.std.specs.Prelude.{◌==◌, not, if◌then◌else◌}
+use Rattle.std.specs.Prelude.{◌==◌, ◌||◌, not, if◌then◌else◌}
 use Rattle.tword.specs.declared.breaks.Break.{Break}
 use Rattle.tword.specs.declared.span.Span.{Span}
 use Rattle.tword.specs.Stores.{Store}
 use Rattle.tword.specs.Touches.{Mode, Reads, Writes, place_break, word_place_break}
 use Rattle.tproc.specs.declared.channels.Side.TheVariants.{Output}
 use Rattle.tproc.specs.Alternatives.{none_selected}
+use Rattle.tproc.specs.LinkChannels.{is_link}
 use Rattle.tprocesses.specs.Places.{Place, Name, WordAt, Sending, Half, Error, HaltOnError, same_name}
 use Rattle.tprocesses.specs.Values.{Value, Use, Free, Saved, Receiving, Engaged, Choosing, Awaiting, Last, Spoilt}
 use Rattle.tprocesses.specs.Values.{Choice, Context, Stand, Chooses, Holder, Nobody, TakenBy, EnabledBy, AwaitedBy}
@@ -177,5 +178,5 @@ module _ (P : Changed → Type 0) where
       → Each Any (requires_no_other s channel ports)
   requires_no_other_each s channel [] = nothing tt
   requires_no_other_each s channel (d ∷ rest) =
-      andthen (chooses (d == channel) (nothing tt) (requires_silence_each s d))
+      andthen (chooses ((d == channel) || is_link d) (nothing tt) (requires_silence_each s d))
       (λ x. requires_no_other_each s channel rest)

@@ -6,7 +6,7 @@ use Rattle.tagents.specs.Races.{IsRaceFree}
 use Rattle.tagents.specs.Walks.{are_open}
 use Rattle.tagents.proofs.Walking.{over_where_shut}
 use Rattle.tclocks.specs.Checks.{Check}
-use Rattle.tclocks.proofs.Passing.{are_passed}
+use Rattle.tclocks.proofs.Turning.{have_no_race}
 use Rattle.tprocesses.specs.Machine.{Agent, process_machine}
 use Rattle.tprocesses.specs.Certified.{ProcessStep, machine_of, IsCertificate}
 use Rattle.tagents.specs.Certificates.{IsCertified}
@@ -19,9 +19,9 @@ use Rattle.tprocesses.specs.Places.{Place}
 use Rattle.tprocesses.specs.Values.{Value}
 use Rattle.tprocesses.specs.Changes.{Change, ChangeKind}
 use Rattle.tprocesses.specs.Parts.{Deed}
-use Rattle.tfollow.specs.Modes.{accesses_in}
-use Rattle.tfollow.specs.Numbering.{Places, number_in, numbers_by}
-use Rattle.tfollow.specs.Following.{IsFollowed}
+use Rattle.tfollow.specs.Modes.{accesses_in, mode_at}
+use Rattle.tfollow.specs.Numbering.{Places, AgentNumbers, number_in}
+use Rattle.tfollow.specs.Following.{IsFollowed, number_by}
 use Rattle.tfollow.specs.Laws.{AreShut, FollowedRunsAreCertificates}
 use Rattle.tfollow.proofs.Numbered.{number-there, there-or-not}
 use Rattle.tfollow.proofs.Running.{labels-turned}
@@ -36,14 +36,15 @@ module _ (plan : Plan) where
       ]
 
 -- where no agent has a step, the run tells of all runs, however many processes live
-module _ (plan : Plan) (places : Places) (agents : List Agent) (steps : List ProcessStep) (check : Check)
-    (state : State) (f : IsFollowed plan places agents steps check state) (shut : AreShut plan agents state) where
+module _ (plan : Plan) (places : Places) (group : AgentNumbers) (agents : List Agent) (steps : List ProcessStep)
+    (check : Check) (state : State) (f : IsFollowed plan places group agents steps check state)
+    (shut : AreShut plan agents state) where
   race_free : IsRaceFree (machine_of plan) (reverse steps)
   race_free =
       subst (λ (list : List ProcessStep). IsRaceFree (machine_of plan) list)
       (labels-turned f.entries ∙ ap reverse f.labels)
-      ((are_passed (machine_of plan) (accesses_in plan) (numbers_by places agents) f.entries f.seen.table
-      f.seen.follows.passed).race_free
+      (have_no_race (machine_of plan) (number_by group) (accesses_in plan) places mode_at f.entries f.writers check
+      f.seen
       (walkers_clash_by_accesses Agent Place Value Change ChangeKind Deed (process_machine plan)
       (process_machine_is_tidy plan).told))
 
@@ -58,11 +59,11 @@ module _ (plan : Plan) (places : Places) (agents : List Agent) (steps : List Pro
       }
 
 pub followed_runs_are_certificates : FollowedRunsAreCertificates
-followed_runs_are_certificates plan places agents steps check state f shut few flags =
+followed_runs_are_certificates plan places group agents steps check state f shut few flags =
     record { certificate = certificate; only = certificates_tell_of_all_runs plan (reverse steps) state certificate }
   where
     whole : IsCertified (machine_of plan) (opening_state plan) (reverse steps) state
-    whole = certified plan places agents steps check state f shut
+    whole = certified plan places group agents steps check state f shut
 
     certificate : IsCertificate plan (reverse steps) state
     certificate =

@@ -21,31 +21,34 @@ use Rattle.tproc.specs.Queues.{not_process}
 use Rattle.tproc.specs.LinkChannels.{link_of, is_right_end, is_link}
 use Rattle.tplan.specs.declared.plan.End.{End}
 use Rattle.tplan.specs.Wires.{end_at}
-use Rattle.tprocesses.specs.Places.{Place, Name, WordAt, Sending, Standing, Ports, Half, LinkHalf, Messages, Kept}
-use Rattle.tprocesses.specs.Places.{Life, Population, HasRun, Error, HaltOnError, FlagChanged, Successions, After}
+use Rattle.tprocesses.specs.Places.{Place, Name, WordAt, Sending, Standing, Ports, Half, LinkHalf, Unfinished, Messages}
+use Rattle.tprocesses.specs.Places.{Kept, Life, Population, HasRun, Error, HaltOnError, FlagChanged, Successions, After}
 use Rattle.tprocesses.specs.Places.{child_of, same_name}
 use Rattle.tprocesses.specs.Values.{Use, Free, Saved, Receiving, Engaged, Choosing, Awaiting, Last, Spoilt, Choice}
-use Rattle.tprocesses.specs.Values.{Context, Lent, Stand, Absent, Rests, Runs, Waits, Chooses, Chosen, Ended, Request}
-use Rattle.tprocesses.specs.Values.{Holder, Nobody, TakenBy, EnabledBy, AwaitedBy, Link, Empty, Offered, Copied, Value}
+use Rattle.tprocesses.specs.Values.{Context, Lent, Stand, Absent, Rests, Runs, Waits, Chooses, Chosen, Listens, Ended}
+use Rattle.tprocesses.specs.Values.{Request, Holder, Nobody, TakenBy, EnabledBy, AwaitedBy, Link, Empty, Offered}
+use Rattle.tprocesses.specs.Values.{Enabled, Awaited, Fired, Value}
 use Rattle.tprocesses.specs.Values.{IsWord, IsStand, IsHalf, IsLink, IsFlag, IsCount, ArePorts, AreMessages, AreKept}
 use Rattle.tprocesses.specs.Values.{stand_in, half_in, link_in, flag_in, amount_in, word_in, count_in, ports_in}
 use Rattle.tprocesses.specs.Changes.{Put, Engage, Add, Raise, are_known, free_word, used_word, known_word}
-use Rattle.tprocesses.specs.Parts.{Part, Changed, change, Breaks, FullSink, Halts, HasAlternatives, HasNoStep}
+use Rattle.tprocesses.specs.Parts.{Part, Changed, change, Breaks, FullSink, Halts, HasNoStep}
 use Rattle.tprocesses.specs.Parts.{WordInUse}
 use Rattle.tprocesses.specs.Touching.{Site, word_number, word_count, word_place, is_zero, part_of, replaced, kept}
 use Rattle.tprocesses.specs.Touching.{forgotten, put_words, put, write, count_words, count_outputs, write_word_at}
 use Rattle.tprocesses.specs.Touching.{save_word, save_upper, save}
 use Rattle.tprocesses.specs.Performing.{Performed, noted, copied, perform, is_next_known, after_next, bytes_if}
 use Rattle.tprocesses.specs.Standing.{stands, goes_on, is_absent, comes, starts, ends, moves, ready, wakes, unsave_word}
-use Rattle.tprocesses.specs.Standing.{unsave_upper, unsave, is_copied, takes_back, resumes, forget, fresh, pop}
+use Rattle.tprocesses.specs.Standing.{unsave_upper, unsave, takes_back, resumes, forget, fresh, pop}
 use Rattle.tprocesses.specs.Choosing.{state_address, with_choice, with_port, without_port, has_none, changes_ports}
 use Rattle.tprocesses.specs.Choosing.{begins_choice, enables_held, enables, drop_channel, enables_port, enables_channel}
 use Rattle.tprocesses.specs.Choosing.{enables_skip, is_enabled_by, awaits_ports, changes_use, waits_for_ports}
-use Rattle.tprocesses.specs.Choosing.{awaits_choice}
+use Rattle.tprocesses.specs.Choosing.{input_of, is_input, enables_pending, enables_link, is_enabled_on}
+use Rattle.tprocesses.specs.Choosing.{awaits_channel, awaits_link, awaits_choice, gives_up_link, begins_to_listen}
+use Rattle.tprocesses.specs.Choosing.{disables_pending, disables_link, is_unfired_by, goes_on_unfired, fires}
 use Rattle.tprocesses.specs.Choosing.{goes_on_chosen, is_taken, frees_word, disables, sets_offset, answers, selects}
 use Rattle.tprocesses.specs.Choosing.{disables_port, disables_channel, disables_skip, ends_choice, lets_go_on}
 use Rattle.tprocesses.specs.ChannelMessages.{is_nobody, takes_half, meet, meet_if, channel_step}
-use Rattle.tprocesses.specs.LinkMessages.{is_empty, lends, takes_link, sent_by, node_sends, first_message}
+use Rattle.tprocesses.specs.LinkMessages.{is_empty, finished, lends, takes_link, sent_by, node_sends, first_message}
 use Rattle.tprocesses.specs.LinkMessages.{source_sends, received_by, node_receives, keeps, sink_receives}
 use Rattle.tprocesses.specs.Scheduling.{starts_child, runs_child, stops_itself, stops_by_error, with_child}
 use Rattle.tprocesses.specs.Scheduling.{communicates, sends_or_receives, sends_from_workspace, goes_on_after, laid_down}
@@ -194,6 +197,7 @@ module _ (P : Changed → Type 0) (some_put : (q : Place) (v : Value) → P (rec
   ready_even (Runs c) x lent = stops P _
   ready_even (Chooses c) x lent = stops P _
   ready_even (Chosen c) x lent = stops P _
+  ready_even (Listens channel c) x lent = stops P _
   ready_even Ended x lent = stops P _
 
   wakes_even : (x : Name) (lent : Option Lent) → Each P Any (wakes x lent)
@@ -215,9 +219,9 @@ module _ (P : Changed → Type 0) (some_put : (q : Place) (v : Value) → P (rec
   takes_back_even s None = nothing P tt
   takes_back_even s (Some l) =
       andthen P (count_outputs_even s (negsuc 0) l.buffer)
-      (λ x. andthen P (sees P (LinkHalf (end_at s.number l.link) Output))
-      (λ half. andthen P (requires P (is_copied (link_in half)) HasNoStep)
-      (λ y. puts (LinkHalf (end_at s.number l.link) Output) (IsLink Empty))))
+      (λ x. andthen P (sees P (Unfinished (end_at s.number l.link)))
+      (λ unfinished. andthen P (requires P (flag_in unfinished) HasNoStep)
+      (λ y. puts (Unfinished (end_at s.number l.link)) (IsFlag false))))
 
   pub resumes_even : (s : Site) (x : Name) (c : Context) → Each P Any (resumes s x c)
   resumes_even s x c =
@@ -251,11 +255,32 @@ module _ (P : Changed → Type 0) (some_put : (q : Place) (v : Value) → P (rec
       (λ half. andthen P (enables_held_even s x channel (half_in half))
       (λ z. changes_ports_even x (with_port channel))))
 
+  is_input_even : (channel : ℕ) → Each P Any (is_input channel)
+  is_input_even channel =
+      andthen P (requires P (is_aligned channel) (Breaks Unaligned))
+      (λ y. requires P (is_right_end Input channel) (Breaks WrongEnd))
+
+  enables_pending_even : (s : Site) (x : Name) (channel : ℕ) (l : Link)
+      → Each P Any (enables_pending s x channel l)
+  enables_pending_even s x channel Empty = puts (input_of s channel) (IsLink (Enabled x))
+  enables_pending_even s x channel (Enabled y) = requires P (same_name y x) (Breaks LinkBusy)
+  enables_pending_even s x channel (Offered request) = stops P _
+  enables_pending_even s x channel (Awaited y) = stops P _
+  enables_pending_even s x channel (Fired y) = stops P _
+
+  enables_link_even : (s : Site) (x : Name) (channel : ℕ) → Each P Any (enables_link s x channel)
+  enables_link_even s x channel =
+      andthen P (is_input_even channel)
+      (λ y. andthen P (sees P (input_of s channel))
+      (λ pending. andthen P (enables_pending_even s x channel (link_in pending))
+      (λ z. changes_ports_even x (with_port channel))))
+
   enables_port_even : (s : Site) (x : Name) (c : Context) → Each P Any (enables_port s x c)
   enables_port_even s x c =
       andthen P (known_each P c.b)
-      (λ channel. andthen P (requires P (not (is_link channel)) HasAlternatives)
-      (λ y. andthen P (enables_even s x channel) (λ z. goes_on_even x (drop_channel c))))
+      (λ channel. andthen P
+      (chooses P (is_link channel) (enables_link_even s x channel) (enables_even s x channel))
+      (λ z. goes_on_even x (drop_channel c)))
 
   pub enables_channel_even : (s : Site) (x : Name) (c : Context) → Each P Any (enables_channel s x c)
   enables_channel_even s x c =
@@ -269,13 +294,23 @@ module _ (P : Changed → Type 0) (some_put : (q : Place) (v : Value) → P (rec
       (λ choice. andthen P (known_each P c.a)
       (λ guard. goes_on_even x (with_choice (choice.skips || not (guard == 0)) c)))
 
+  awaits_channel_even : (s : Site) (x : Name) (channel : ℕ) → Each P Any (awaits_channel s x channel)
+  awaits_channel_even s x channel =
+      andthen P (sees P (Half s.number channel Input))
+      (λ half. andthen P (requires P (is_enabled_by x (half_in half)) (Breaks ChannelMisuse))
+      (λ y. puts (Half s.number channel Input) (IsHalf (AwaitedBy x))))
+
+  awaits_link_even : (s : Site) (x : Name) (channel : ℕ) → Each P Any (awaits_link s x channel)
+  awaits_link_even s x channel =
+      andthen P (sees P (input_of s channel))
+      (λ pending. andthen P (requires P (is_enabled_on x (link_in pending)) (Breaks LinkBusy))
+      (λ y. puts (input_of s channel) (IsLink (Awaited x))))
+
   awaits_ports_even : (s : Site) (x : Name) (ports : List ℕ) → Each P Any (awaits_ports s x ports)
   awaits_ports_even s x [] = nothing P tt
   awaits_ports_even s x (channel ∷ rest) =
-      andthen P (sees P (Half s.number channel Input))
-      (λ half. andthen P (requires P (is_enabled_by x (half_in half)) (Breaks ChannelMisuse))
-      (λ y. andthen P (puts (Half s.number channel Input) (IsHalf (AwaitedBy x)))
-      (λ z. awaits_ports_even s x rest)))
+      andthen P (chooses P (is_link channel) (awaits_link_even s x channel) (awaits_channel_even s x channel))
+      (λ y. awaits_ports_even s x rest)
 
   changes_use_even : (s : Site) (c : Context) (old new : Use) → Each P Any (changes_use s c old new)
   changes_use_even s c old new =
@@ -327,12 +362,47 @@ module _ (P : Changed → Type 0) (some_put : (q : Place) (v : Value) → P (rec
       (λ cells. andthen P (is_first_each P ready (known_word cells))
       (λ chosen. andthen P (sets_offset_even s c chosen) (λ y. goes_on_even x (answers chosen c))))
 
+  gives_up_link_even : (s : Site) (x : Name) (channel : ℕ) → Each P Any (gives_up_link s x channel)
+  gives_up_link_even s x channel =
+      andthen P (puts (input_of s channel) (IsLink Empty)) (λ y. changes_ports_even x (without_port channel))
+
+  begins_to_listen_even : (s : Site) (x : Name) (c : Context) (channel : ℕ)
+      → Each P Any (begins_to_listen s x c channel)
+  begins_to_listen_even s x c channel =
+      andthen P (touch_word_at_each P s Writes c.wptr) (λ cells. stands_even x (Listens channel (answers false c)))
+
+  disables_pending_even : (s : Site) (x : Name) (c : Context) (channel : ℕ) (l : Link)
+      → Each P Any (disables_pending s x c channel l)
+  disables_pending_even s x c channel (Fired y) =
+      andthen P (requires P (same_name y x) (Breaks LinkBusy))
+      (λ z. andthen P (gives_up_link_even s x channel) (λ u. selects_even s x c true))
+  disables_pending_even s x c channel (Enabled y) =
+      andthen P (requires P (same_name y x) (Breaks LinkBusy)) (λ z. begins_to_listen_even s x c channel)
+  disables_pending_even s x c channel (Awaited y) =
+      andthen P (requires P (same_name y x) (Breaks LinkBusy)) (λ z. begins_to_listen_even s x c channel)
+  disables_pending_even s x c channel Empty = stops P _
+  disables_pending_even s x c channel (Offered request) = stops P _
+
+  disables_link_even : (s : Site) (x : Name) (c : Context) (channel : ℕ)
+      → Each P Any (disables_link s x c channel)
+  disables_link_even s x c channel =
+      andthen P (is_input_even channel)
+      (λ y. andthen P (sees P (input_of s channel))
+      (λ pending. disables_pending_even s x c channel (link_in pending)))
+
+  pub goes_on_unfired_even : (s : Site) (x : Name) (channel : ℕ) (c : Context)
+      → Each P Any (goes_on_unfired s x channel c)
+  goes_on_unfired_even s x channel c =
+      andthen P (sees P (input_of s channel))
+      (λ pending. andthen P (requires P (is_unfired_by x (link_in pending)) HasNoStep)
+      (λ y. andthen P (gives_up_link_even s x channel) (λ z. goes_on_even x c)))
+
   disables_port_even : (s : Site) (x : Name) (c : Context) (choice : Choice) → Each P Any (disables_port s x c choice)
   disables_port_even s x c choice =
       andthen P (requires P choice.skips WordInUse)
       (λ y. andthen P (known_each P c.c)
-      (λ channel. andthen P (requires P (not (is_link channel)) HasAlternatives)
-      (λ z. andthen P (disables_even s x channel) (λ ready. selects_even s x c ready))))
+      (λ channel. chooses P (is_link channel) (disables_link_even s x c channel)
+      (andthen P (disables_even s x channel) (λ ready. selects_even s x c ready))))
 
   pub disables_channel_even : (s : Site) (x : Name) (c : Context) → Each P Any (disables_channel s x c)
   disables_channel_even s x c =
@@ -363,6 +433,13 @@ module _ (P : Changed → Type 0) (some_put : (q : Place) (v : Value) → P (rec
       (λ ports. andthen P (requires_no_other_each P s channel (ports_in ports))
       (λ y. andthen P (puts (Half s.number channel Input) (IsHalf (EnabledBy x)))
       (λ z. stands_even x (Chosen (with_choice true c)))))))
+
+  pub fires_even : (e : End) (x : Name) → Each P Any (fires e x)
+  fires_even e x =
+      andthen P (sees P (Standing x))
+      (λ stood. andthen P (waiting_each P (stand_in stood))
+      (λ c. andthen P (puts (LinkHalf e Input) (IsLink (Fired x)))
+      (λ y. stands_even x (Chosen (with_choice true c)))))
 
   -- messages
   takes_half_even : (s : Site) (x : Name) (c : Context) (side : Side) (channel : ℕ) (buffer : Span)
@@ -407,6 +484,11 @@ module _ (P : Changed → Type 0) (some_put : (q : Place) (v : Value) → P (rec
       andthen P (touch_each P s Writes buffer)
       (λ words. put_even s Receiving buffer (replaced buffer words (replicate buffer.size None)))
 
+  finished_even : (side : Side) (e : End) → Each P Any (finished side e)
+  finished_even Output e =
+      andthen P (sees P (Unfinished e)) (λ unfinished. requires P (not (flag_in unfinished)) (Breaks LinkBusy))
+  finished_even Input e = nothing P tt
+
   takes_link_even : (s : Site) (x : Name) (c : Context) (side : Side) (channel : ℕ) (buffer : Span)
       → Each P Any (takes_link s x c side channel buffer)
   takes_link_even s x c side channel buffer = let half = LinkHalf (end_at s.number (link_of side channel)) side in
@@ -415,18 +497,19 @@ module _ (P : Changed → Type 0) (some_put : (q : Place) (v : Value) → P (rec
       (λ z. andthen P (requires P (not (buffer.size == 0)) (Breaks ZeroLength))
       (λ u. andthen P (sees P half)
       (λ pending. andthen P (requires P (is_empty (link_in pending)) (Breaks LinkBusy))
-      (λ v. andthen P (puts half (IsLink (Offered (record { process = x; buffer = buffer }))))
+      (λ v. andthen P (finished_even side (end_at s.number (link_of side channel)))
+      (λ i. andthen P (puts half (IsLink (Offered (record { process = x; buffer = buffer }))))
       (λ w. andthen P (save_even s c.wptr kept)
-      (λ r. andthen P (lends_even side s buffer) (λ k. stands_even x (Waits (forget c))))))))))
+      (λ r. andthen P (lends_even side s buffer) (λ k. stands_even x (Waits (forget c)))))))))))
 
   sent_by_even : (s : Site) (f : End) (l : Link) → Each P Any (sent_by s f l)
   sent_by_even s f (Offered output) =
       andthen P (touch_each P s Reads output.buffer)
-      (λ words. andthen P (puts (LinkHalf f Output) (IsLink Copied))
-      (λ y. andthen P (wakes_even output.process (Some (record { link = f.link; buffer = output.buffer })))
-      (λ z. nothing P (part_of output.buffer words))))
-  sent_by_even s f Empty = stops P HasNoStep
-  sent_by_even s f Copied = stops P HasNoStep
+      (λ words. andthen P (puts (LinkHalf f Output) (IsLink Empty))
+      (λ y. andthen P (puts (Unfinished f) (IsFlag true))
+      (λ z. andthen P (wakes_even output.process (Some (record { link = f.link; buffer = output.buffer })))
+      (λ u. nothing P (part_of output.buffer words)))))
+  sent_by_even s f _ = stops P HasNoStep
 
   pub node_sends_even : (f : End) (s : Site) → Each P Any (node_sends f s)
   node_sends_even f s = andthen P (sees P (LinkHalf f Output)) (λ half. sent_by_even s f (link_in half))
@@ -446,8 +529,7 @@ module _ (P : Changed → Type 0) (some_put : (q : Place) (v : Value) → P (rec
       (λ y. andthen P (words_for_each P s Receiving (word_number input.buffer.start) (word_count input.buffer))
       (λ words. andthen P (put_even s Free input.buffer (replaced input.buffer words message))
       (λ z. andthen P (puts (LinkHalf e Input) (IsLink Empty)) (λ u. wakes_even input.process None))))
-  received_by_even s e message Empty = stops P HasNoStep
-  received_by_even s e message Copied = stops P HasNoStep
+  received_by_even s e message _ = stops P HasNoStep
 
   pub node_receives_even : (message : Store) (e : End) (s : Site) → Each P Any (node_receives message e s)
   node_receives_even message e s =

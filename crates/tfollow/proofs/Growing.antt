@@ -1,33 +1,37 @@
 -- A run is still followed where agents and places come.
-use Rattle.std.proofs.Common.{◌≡◌, ℕ, ◌+◌, ◌<◌, ◌≤◌, inl, inr, refl, sym, ap, ◌∙◌, subst, arith, true, List}
-use Rattle.std.proofs.Common.{[], ◌∷◌, ◌++◌, length, slice_index, slice_set, suc, zero, replicate, get_or, Bool}
-use Rattle.std.proofs.Common.{false, cond, ◌==◌, true≢false}
+use Rattle.std.proofs.Common.{◌≡◌, ℕ, ◌+◌, ◌<◌, ◌≤◌, ◌⊎◌, inl, inr, refl, sym, ap, ◌∙◌, subst, arith, true, false, List}
+use Rattle.std.proofs.Common.{[], ◌∷◌, ◌++◌, length, slice_index, slice_get, slice_set, suc, zero, replicate, get_or}
+use Rattle.std.proofs.Common.{Bool, Some, cond, ◌==◌, true≢false}
 use Rattle.std.proofs.lemmas.Bool.{eq-eqb}
 use Rattle.std.proofs.lemmas.List.{length-append}
 use Rattle.std.proofs.lemmas.Option.{slice_get_within}
 use Rattle.tplan.specs.declared.plan.Plan.{Plan}
-use Rattle.tagents.specs.Agents.{own}
-use Rattle.tagents.specs.Clocks.{Entry, labels}
+use Rattle.tagents.specs.Clocks.{Entry}
 use Rattle.tclocks.specs.Checks.{Check, clock_of, steps_of, with_agent, with_slot, with_places}
 use Rattle.tclocks.specs.Numbers.{Extends}
-use Rattle.tclocks.specs.Followed.{EachOf, Follows, entry_of}
-use Rattle.tclocks.specs.Laws.{HasSeen, with_writers}
+use Rattle.tclocks.specs.Followed.{EachOf, Follows}
+use Rattle.tclocks.specs.Laws.{with_writers}
 use Rattle.tclocks.proofs.Lists.{test}
 use Rattle.tclocks.proofs.Standing.{agent_added, slot_added, places_added, cleared}
 use Rattle.tclocks.proofs.Renumbering.{renumbered}
 use Rattle.tprocesses.specs.Machine.{Agent, same_agent}
-use Rattle.tprocesses.specs.Certified.{ProcessStep, machine_of}
+use Rattle.tprocesses.specs.Certified.{ProcessStep}
 use Rattle.tcertify.specs.Running.{State}
 use Rattle.tfollow.specs.Modes.{accesses_in}
-use Rattle.tfollow.specs.Numbering.{Places, HasNumber, number_in, numbers_by}
+use Rattle.tfollow.specs.Numbering.{Places, AgentNumbers, HasNumber, IsNew, number_in}
 use Rattle.tfollow.specs.Leading.{leads_on}
-use Rattle.tfollow.specs.Following.{IsDone, AreCounted, IsLast, IsFollowed}
-use Rattle.tfollow.specs.Laws.{AgentsMayCome, PlacesMayCome}
-use Rattle.tfollow.proofs.Counting.{counted-places, own-none, number-before, past-end, copies, below-or-not}
-use Rattle.tfollow.proofs.Numbered.{numbered, told, number-kept, number-new, apart-more, get-last}
+use Rattle.tfollow.specs.Following.{AreCounted, HasSeen, HasEnded, HasTurn, IsLast, IsFollowed, count_with}
+use Rattle.tfollow.specs.Following.HasTurn.{First}
+use Rattle.tfollow.specs.Laws.{HasCome, AgentsMayCome, PlacesMayCome}
+use Rattle.tfollow.proofs.Agreeing.{AreAgreed, count-none, placed-agree}
+use Rattle.tfollow.proofs.Counting.{counted-places, number-before, copies, below-or-not}
+use Rattle.tfollow.proofs.Handing.{by_numbers, numbers_at}
+use Rattle.tfollow.proofs.Numbered.{numbered, told, number-there, there-or-not, new-nowhere, get-last}
+use Rattle.tfollow.proofs.Renumbered.{with_number, number-kept, number-given, number-other, may, agreed, counted-more}
+use Rattle.tfollow.proofs.Renumbered.{turn-more, none-has, last-more}
 
 pub places_may_come : PlacesMayCome
-places_may_come plan places more agents steps check state count f same =
+places_may_come plan places more group agents steps check state count f same =
     record {
       run = f.run;
       takes_nothing = f.takes_nothing;
@@ -35,23 +39,28 @@ places_may_come plan places more agents steps check state count f same =
       labels = f.labels;
       writers = f.writers;
       seen = record {
-        table = f.seen.table;
-        follows = places_added (machine_of plan) (accesses_in plan) (numbers_by more agents) f.entries f.seen.table
-            f.writers check
-            (renumbered (machine_of plan) (accesses_in plan) (numbers_by places agents) (numbers_by more agents)
-            f.entries f.seen.table f.writers check extends f.seen.follows)
-            count;
+        seen = record {
+          table = f.seen.seen.table;
+          follows = places_added (by_numbers plan group) (accesses_in plan) (numbers_at more) f.entries
+              f.seen.seen.table f.writers check
+              (renumbered (by_numbers plan group) (accesses_in plan) (numbers_at places) (numbers_at more)
+              f.entries f.seen.seen.table f.writers check extends f.seen.seen.follows)
+              count;
+        };
+        turns = f.seen.turns;
       };
       placed = f.placed;
       last = last f.entries f.last;
       clocks = f.clocks;
       slots = f.slots;
-      apart = f.apart;
-      counted = counted-places plan agents steps check count f.counted;
+      numbered = f.numbered;
+      counted = counted-places group steps check count f.counted;
       lead = f.lead;
+      turns = f.turns;
+      others = f.others;
     }
   where
-    extends : Extends check (numbers_by places agents) (numbers_by more agents)
+    extends : Extends check (numbers_at places) (numbers_at more)
     extends = record {
       agents = λ a h. refl;
       new_agents = λ a h. h;
@@ -59,8 +68,8 @@ places_may_come plan places more agents steps check state count f same =
       modes = λ p k. refl;
     }
 
-    last : (entries : List (Entry Agent ProcessStep)) → IsLast plan places agents entries check
-        → IsLast plan more agents entries (with_places count check)
+    last : (entries : List (Entry ℕ ProcessStep)) → IsLast plan places group agents entries check
+        → IsLast plan more group agents entries (with_places count check)
     last [] h = tt
     last (z ∷ zs) h = h
 
@@ -79,103 +88,94 @@ before-end [] x d i h = absurd (omega (arith, h))
 before-end (y ∷ ys) x d zero h = refl
 before-end (y ∷ ys) x d (suc i) h = before-end ys x d i (omega (arith, h))
 
-module _ (plan : Plan) (places : Places) (agents : List Agent) (steps : List ProcessStep) (check : Check)
-    (state : State) (b : Agent) (f : IsFollowed plan places agents steps check state)
-    (new : number_in agents b ≡ length agents) where
-  abbrev more : List Agent
-  more = agents ++ b ∷ []
+get-end : {A : Type 0} (xs : List A) (x : A) → slice_get (xs ++ x ∷ []) (length xs) ≡ Some x
+get-end [] x = refl
+get-end (y ∷ ys) x = get-end ys x
+
+module _ (plan : Plan) (places : Places) (group : AgentNumbers) (agents : List Agent) (steps : List ProcessStep)
+    (check : Check) (state : State) (b : Agent) (f : IsFollowed plan places group agents steps check state)
+    (new : IsNew agents b) (lives : HasEnded b state → ⊥) where
+  abbrev grown_agents : List Agent
+  grown_agents = agents ++ b ∷ []
 
   abbrev grown : Check
   grown = with_slot (with_agent check)
 
-  extends : Extends check (numbers_by places agents) (numbers_by places more)
-  extends = record {
-    agents = λ a h. number-kept agents b a (omega (arith, h, f.clocks));
-    new_agents = λ a h. (let k : length agents ≤ number_in more a =
-        number-new agents b a (omega (arith, h, f.clocks)) in
-        omega (arith, k, f.clocks));
-    places = λ p h. refl;
-    modes = λ p k. refl;
-  }
+  long : length grown_agents ≡ length agents + 1
+  long = length-append agents (b ∷ [])
+
+  -- the new agent gets the number behind all others, and who has not come has greater ones
+  abbrev more : AgentNumbers
+  more = with_number group (length agents) b (length agents) (λ a. length agents + 1)
+
+  same : (a : Agent) → group a < length agents → more a ≡ group a
+  same a h = number-kept group (length agents) b (length agents) (λ a. length agents + 1) a h
+
+  given : more b ≡ length agents
+  given = elim (f.others b new) as (λ _. more b ≡ length agents) [
+    | inl far ↦ number-given group (length agents) b (length agents) (λ a. length agents + 1) far
+    | inr ended ↦ absurd (lives ended)
+  ]
+
+  agree : AreAgreed group more steps
+  agree = agreed plan places group agents steps check state f more same
 
   -- nobody wrote into the slot of the new agent
   abbrev writers : ℕ → List ProcessStep
   writers = with_writers (length agents) [] f.writers
 
-  seen : HasSeen (machine_of plan) (accesses_in plan) (numbers_by places more) f.entries writers grown
+  seen : HasSeen plan places more grown_agents f.entries writers grown
   seen = record {
-    table = f.seen.table;
-    follows = slot_added (machine_of plan) (accesses_in plan) (numbers_by places more) f.entries f.seen.table
-        writers (with_agent check)
-        (agent_added (machine_of plan) (accesses_in plan) (numbers_by places more) f.entries f.seen.table writers
-        check
-        (renumbered (machine_of plan) (accesses_in plan) (numbers_by places agents) (numbers_by places more)
-        f.entries f.seen.table writers check extends none)
-        (numbered plan places more (with_agent check) (length-append check.clocks _ ∙ long)));
+    seen = record {
+      table = _;
+      follows = slot_added (by_numbers plan more) (accesses_in plan) (numbers_at places) f.entries _
+          writers (with_agent check)
+          (agent_added (by_numbers plan more) (accesses_in plan) (numbers_at places) f.entries _ writers check none
+          (numbered plan more places (with_agent check)));
+    };
+    turns = (may plan places group agents steps check state f more same).seen.turns;
   }
     where
-      long : length check.clocks + 1 ≡ length more
-      long = omega (arith, f.clocks, length-append agents (b ∷ []))
-
-      none : Follows (machine_of plan) (accesses_in plan) (numbers_by places agents) f.entries f.seen.table writers
-          check
+      none : Follows (by_numbers plan more) (accesses_in plan) (numbers_at places) f.entries
+          (may plan places group agents steps check state f more same).seen.seen.table writers check
       none = subst
-          (λ (slots : List (List ℕ)). Follows (machine_of plan) (accesses_in plan) (numbers_by places agents)
-          f.entries f.seen.table writers (record check { slots = slots }))
+          (λ (slots : List (List ℕ)). Follows (by_numbers plan more) (accesses_in plan) (numbers_at places)
+          f.entries (may plan places group agents steps check state f more same).seen.seen.table writers
+          (record check { slots = slots }))
           (set-past check.slots (length agents) [] (omega (arith, f.slots)))
-          (cleared (machine_of plan) (accesses_in plan) (numbers_by places agents) f.entries f.seen.table f.writers
-          check f.seen.follows (length agents))
-
-  -- a clock has counted no step of who was not there
-  not-counted : (i j : ℕ) → i < length check.clocks → length check.clocks ≤ j → slice_index (clock_of check i) j ≡ 0
-  not-counted i j h far =
-      let few : slice_index (clock_of check i) j ≤ steps_of check j = (f.seen.follows.clocks i h).within j in
-      let none : steps_of check j ≡ 0 = ap (λ (clock : List ℕ). slice_index clock j) (past-end check.clocks j [] far) in
-      omega (arith, few, none)
-
-  -- a clock says the same of each agent by either numbers
-  counts-same : (i : ℕ) → i < length check.clocks → (a : Agent)
-      → slice_index (clock_of check i) (number_in agents a) ≡ slice_index (clock_of check i) (number_in more a)
-  counts-same i h a =
-      elim (below-or-not (number_in agents a) (length check.clocks)) as
-      (λ _. slice_index (clock_of check i) (number_in agents a) ≡ slice_index (clock_of check i) (number_in more a)) [
-        | inl there ↦ ap (λ (j : ℕ). slice_index (clock_of check i) j) (sym (extends.agents a there))
-        | inr far ↦
-            not-counted i (number_in agents a) h far
-            ∙ sym (not-counted i (number_in more a) h (extends.new_agents a far))
-      ]
+          (cleared (by_numbers plan more) (accesses_in plan) (numbers_at places) f.entries
+          (may plan places group agents steps check state f more same).seen.seen.table f.writers check
+          (may plan places group agents steps check state f more same).seen.seen.follows (length agents))
 
   clock-same : (i : ℕ) → i < length check.clocks → clock_of grown i ≡ clock_of check i
   clock-same i h = before-end check.clocks _ [] i h
 
-  entry-same : (label : ProcessStep) → number_in agents label.agent < length check.clocks
-      → entry_of (machine_of plan) (numbers_by places agents) label check
-      ≡ entry_of (machine_of plan) (numbers_by places more) label grown
-  entry-same label h =
-      let i : ℕ = number_in agents label.agent in
-      let number : number_in more label.agent ≡ i = extends.agents label.agent h in
-      let clock : clock_of check i ≡ clock_of grown (number_in more label.agent) =
-      sym (clock-same i h) ∙ ap (λ (j : ℕ). clock_of grown j) (sym number) in
-      let place : slice_index (clock_of check i) i
-      ≡ slice_index (clock_of grown (number_in more label.agent)) (number_in more label.agent) =
-      (λ k. slice_index (clock k) (sym number k)) in
-      let past : (a : Agent) → slice_index (clock_of check i) (number_in agents a)
-      ≡ slice_index (clock_of grown (number_in more label.agent)) (number_in more a) =
-      (λ a. counts-same i h a ∙ ap (λ (c : List ℕ). slice_index c (number_in more a)) clock) in
-      λ k. record { label = label; place = place k; past = λ a. past a k }
+  -- the entry of a step with this clock
+  abbrev entry_by : ProcessStep → List ℕ → Entry ℕ ProcessStep
+  entry_by label clock = record {
+    label = label;
+    place = slice_index clock (more label.agent);
+    past = λ n. slice_index clock n;
+  }
 
-  last : (entries : List (Entry Agent ProcessStep))
-      → EachOf (λ z. number_in agents z.label.agent < length check.clocks) entries
-      → IsLast plan places agents entries check → IsLast plan places more entries grown
+  -- the clock of the last step is where it was
+  last : (entries : List (Entry ℕ ProcessStep)) → EachOf (λ z. group z.label.agent < length check.clocks) entries
+      → IsLast plan places group agents entries check → IsLast plan places more grown_agents entries grown
   last [] there h = tt
-  last (z ∷ zs) there h = h ∙ entry-same z.label there.0
+  last (z ∷ zs) there h =
+      last-more plan places group agents steps check state f more same grown_agents (z ∷ zs) there h
+      ∙ ap (entry_by z.label)
+      (sym (clock-same (more z.label.agent) (omega (arith, there.0, same z.label.agent within))))
+    where
+      within : group z.label.agent < length agents
+      within = omega (arith, there.0, f.clocks)
 
-  lead : (number : ℕ) (a : Agent) → HasNumber more a number → EachOf (λ step. leads_on plan step a ≡ true)
+  lead : (number : ℕ) (a : Agent) → HasNumber grown_agents a number → EachOf (λ step. leads_on plan step a ≡ true)
       (writers number)
   lead number a h = elim (test (number == length agents)) as
       (λ _. EachOf (λ step. leads_on plan step a ≡ true) (cond (number == length agents) [] (f.writers number))) [
-        | inl new ↦
-            subst (λ (t : Bool). EachOf (λ step. leads_on plan step a ≡ true) (cond t [] (f.writers number))) (sym new)
+        | inl at ↦
+            subst (λ (t : Bool). EachOf (λ step. leads_on plan step a ≡ true) (cond t [] (f.writers number))) (sym at)
             tt
         | inr old ↦
             subst (λ (t : Bool). EachOf (λ step. leads_on plan step a ≡ true) (cond t [] (f.writers number))) (sym old)
@@ -188,78 +188,98 @@ module _ (plan : Plan) (places : Places) (agents : List Agent) (steps : List Pro
         | inr (at, same) ↦ absurd (true≢false (sym (eq-eqb number (length agents) at) ∙ old))
       ]
 
-  -- nobody has done a step of the new agent
-  others : (entries : List (Entry Agent ProcessStep))
-      → EachOf (λ z. number_in agents z.label.agent < length check.clocks) entries
-      → EachOf (λ e. same_agent e.agent b ≡ false) (labels entries)
-  others [] h = tt
-  others (z ∷ zs) h = (
-    elim (test (same_agent z.label.agent b)) as (λ _. same_agent z.label.agent b ≡ false) [
-      | inl same ↦
-          let one : z.label.agent ≡ b = (told plan).is_same z.label.agent b same in
-          absurd (omega (arith, h.0, ap (number_in agents) one, new, f.clocks))
-      | inr differ ↦ differ
-    ],
-    others zs h.1,
-  )
-
-  none-yet : own (machine_of plan) b steps ≡ []
-  none-yet = own-none plan agents steps b
-      (subst (λ (list : List ProcessStep). EachOf (λ e. same_agent e.agent b ≡ false) list) f.labels
-      (others f.entries f.seen.follows.agents))
-
   new-steps : steps_of grown (length agents) ≡ 0
   new-steps =
       ap (λ (k : ℕ). steps_of grown k) (sym f.clocks)
       ∙ ap (λ (clock : List ℕ). slice_index clock (length check.clocks)) (at-end check.clocks _ [])
       ∙ copies (length check.clocks + 1) (length check.clocks) 0
 
-  counted : AreCounted plan more steps grown
+  -- the steps with each number are counted
+  counted : AreCounted more steps grown
   counted = record {
-    counts = λ i a h. elim (get-last agents b a i h) as
-        (λ _. steps_of grown i ≡ length (own (machine_of plan) a steps)) [
-          | inl before ↦
-              let within : i < length agents = slice_get_within agents i a before in
-              ap (λ (clock : List ℕ). slice_index clock i) (clock-same i (omega (arith, within, f.clocks)))
-              ∙ f.counted.counts i a before
-          | inr (at, same) ↦
-              ap (λ (k : ℕ). steps_of grown k) at ∙ new-steps
-              ∙ sym (ap (λ (list : List ProcessStep). length list)
-              (ap (λ (c : Agent). own (machine_of plan) c steps) (sym same) ∙ none-yet))
-        ];
-    kept = λ place access has.
-        (let done : IsDone plan agents steps access.step = f.counted.kept place access has in record {
-          later = done.later;
-          label = done.label;
-          before = done.before;
-          within = done.within;
-          agent = number-before agents (b ∷ []) access.step.agent done.label.agent done.agent;
-          number = done.number;
-        });
+    counts = λ i h. elim (below-or-not i (length check.clocks)) as (λ _. steps_of grown i ≡ count_with more i steps) [
+      | inl old ↦
+          ap (λ (clock : List ℕ). slice_index clock i) (clock-same i old) ∙ was.counts i old
+      | inr far ↦ let at : i ≡ length agents =
+          omega (arith, h, far, f.clocks, length-append check.clocks (replicate (length check.clocks + 1) 0 ∷ [])) in
+          ap (λ (k : ℕ). steps_of grown k) at ∙ new-steps
+          ∙ sym (count-none more (length agents) steps
+          (none-has plan places group agents steps check state f more same (length agents) (omega arith)))
+          ∙ ap (λ (k : ℕ). count_with more k steps) (sym at)
+    ];
+    kept = was.kept;
   }
+    where
+      was : AreCounted more steps check
+      was = counted-more plan places group agents steps check state f more same
 
-  has_come : IsFollowed plan places more steps grown state
+  by-number : (number : ℕ) (a : Agent) → HasNumber grown_agents a number → more a ≡ number
+  by-number number a h = elim (get-last agents b a number h) as (λ _. more a ≡ number) [
+    | inl before ↦
+        let at : group a ≡ number = f.numbered number a before in
+        same a (omega (arith, at, slice_get_within agents number a before)) ∙ at
+    | inr (at, is) ↦ ap more (sym is) ∙ given ∙ sym at
+  ]
+
+  turns : (number : ℕ) (a : Agent) → HasNumber grown_agents a number → HasTurn plan more steps number a
+  turns number a h = elim (get-last agents b a number h) as (λ _. HasTurn plan more steps number a) [
+    | inl before ↦ turn-more plan places group agents steps check state f more same number a (f.turns number a before)
+    | inr (at, is) ↦
+        First (none-has plan places group agents steps check state f more same number (omega (arith, at)))
+  ]
+
+  -- whoever is new still has had no number, or has ended
+  others : (a : Agent) → IsNew grown_agents a → (length grown_agents ≤ more a) ⊎ HasEnded a state
+  others a away = elim (f.others a (was (there-or-not plan agents a))) as
+      (λ _. (length grown_agents ≤ more a) ⊎ HasEnded a state) [
+        | inl far ↦ let is : more a ≡ length agents + 1 =
+            number-other group (length agents) b (length agents) (λ a. length agents + 1) a far
+            (other (test (same_agent a b))) in
+            inl (omega (arith, is, long))
+        | inr ended ↦ inr ended
+      ]
+    where
+      was : (number_in agents a < length agents) ⊎ IsNew agents a → IsNew agents a
+      was (inl there) = absurd (new-nowhere plan grown_agents a (number_in agents a) away
+          (number-before agents (b ∷ []) (number_in agents a) a (number-there plan agents a there)))
+      was (inr far) = far
+
+      other : (same_agent a b ≡ true) ⊎ (same_agent a b ≡ false) → same_agent a b ≡ false
+      other (inl is) = absurd (new-nowhere plan grown_agents a (length agents) away
+          (subst (λ (c : Agent). HasNumber grown_agents c (length agents)) (sym ((told plan).is_same a b is))
+          (get-end agents b)))
+      other (inr differ) = differ
+
+  has_come : HasCome plan places group grown_agents steps grown state
   has_come =
       record {
-        run = f.run;
-        takes_nothing = f.takes_nothing;
-        entries = f.entries;
-        labels = f.labels;
-        writers = writers;
-        seen = seen;
-        placed = f.placed;
-        last = last f.entries f.seen.follows.agents f.last;
-        clocks = omega (
-          arith,
-          f.clocks,
-          length-append check.clocks (replicate (length check.clocks + 1) 0 ∷ []),
-          length-append agents (b ∷ []),
-        );
-        slots = omega (arith, f.slots, length-append check.slots ([] ∷ []), length-append agents (b ∷ []));
-        apart = apart-more plan agents b f.apart new;
-        counted = counted;
-        lead = lead;
+        group = more;
+        kept = agree;
+        followed = record {
+          run = f.run;
+          takes_nothing = f.takes_nothing;
+          entries = f.entries;
+          labels = f.labels;
+          writers = writers;
+          seen = seen;
+          placed = placed-agree group more f.entries
+              (may plan places group agents steps check state f more same).agree f.placed;
+          last = last f.entries f.seen.seen.follows.agents f.last;
+          clocks = omega (
+            arith,
+            f.clocks,
+            length-append check.clocks (replicate (length check.clocks + 1) 0 ∷ []),
+            long,
+          );
+          slots = omega (arith, f.slots, length-append check.slots ([] ∷ []), long);
+          numbered = by-number;
+          counted = counted;
+          lead = lead;
+          turns = turns;
+          others = others;
+        };
       }
 
 pub agents_may_come : AgentsMayCome
-agents_may_come plan places agents steps check state b f new = has_come plan places agents steps check state b f new
+agents_may_come plan places group agents steps check state b f new lives =
+    has_come plan places group agents steps check state b f new lives

@@ -6,14 +6,20 @@ pub mod Moded
 pub mod Numbered
 -- Steps that lead to others.
 pub mod Led
+-- Numbers that agree on steps.
+pub mod Agreeing
 -- Steps that are counted.
 pub mod Counting
 -- Runs that go on.
 pub mod Running
 -- Slots that are written.
 pub mod Handing
+-- Numbers that are given.
+pub mod Renumbered
 -- Agents and places that come.
 pub mod Growing
+-- Numbers that are taken.
+pub mod Taking
 -- The end of a run.
 pub mod Ending
 -- Gates that a step looks at.

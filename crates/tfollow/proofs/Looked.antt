@@ -6,7 +6,7 @@ use Rattle.tplan.specs.declared.plan.End.{End}
 use Rattle.tplan.specs.declared.plan.NodePlan.{NodePlan}
 use Rattle.tplan.specs.declared.plan.Plan.{Plan}
 use Rattle.tagents.specs.Tidy.{IsOneOf}
-use Rattle.tprocesses.specs.Places.{Place}
+use Rattle.tprocesses.specs.Places.{Place, Name}
 use Rattle.tprocesses.specs.Parts.{Reason, Part, gives, stopping, seeing, changing, telling, Doing, done, HasNoStep}
 use Rattle.tprocesses.specs.Parts.{◌>>=◌}
 use Rattle.tprocesses.specs.ChannelMessages.{channel_step}
@@ -14,7 +14,7 @@ use Rattle.tprocesses.specs.LinkMessages.{node_sends, node_receives}
 use Rattle.tprocesses.specs.Scheduling.{successor_step}
 use Rattle.tprocesses.specs.Machine.{Agent, Process, Channel, Wire, Successor, Role, Processor, Source, Sink, Nothing}
 use Rattle.tprocesses.specs.Machine.{role_at, site_of, sender_to, offer_place, take_place, gates_between, gates, sends}
-use Rattle.tprocesses.specs.Machine.{receives, passes, step_of}
+use Rattle.tprocesses.specs.Machine.{receives, asks, crosses, passes, step_of}
 use Rattle.tcertify.specs.Running.{State, changed, run_part}
 use Rattle.tcertify.specs.Walked.{looks}
 use Rattle.tcertify.proofs.Running.{run_bind, run_on, run_next}
@@ -110,11 +110,11 @@ module _ (plan : Plan) where
   receiver-looked Source e message s u h = absurd (none-answers HasNoStep s u tt h)
   receiver-looked Nothing e message s u h = absurd (none-answers HasNoStep s u tt h)
 
-  -- a wire: what follows the look at the sender
+  -- a message goes over: what follows the look at the sender
   abbrev rest : End → Store → Doing
   rest e message = receives plan (role_at plan e.node) e message >>= (λ x. telling message done)
 
-  module _ (e f : End) (s u : State) (h : run_part (passes plan (Some f) e) s ≡ (Ok tt, u)) where
+  module _ (e f : End) (s u : State) (h : run_part (crosses plan f e None) s ≡ (Ok tt, u)) where
     sent : Answers (sends plan (role_at plan f.node) f) s
     sent = first-answers (sends plan (role_at plan f.node) f) (rest e) s u tt h
 
@@ -126,17 +126,49 @@ module _ (plan : Plan) where
         first-answers (receives plan (role_at plan e.node) e sent.value) (λ x. telling sent.value done) sent.after u tt
         received
 
+    sender-passed : IsOneOf (offer_place (role_at plan f.node) f) (looks (crosses plan f e None) s)
+    sender-passed =
+        by-first s u (offer_place (role_at plan f.node) f) (sends plan (role_at plan f.node) f) (rest e)
+        (sender-looked (role_at plan f.node) f s sent.after sent.value sent.run)
+
+    receiver-passed : IsOneOf (take_place (role_at plan e.node) e) (looks (crosses plan f e None) s)
+    receiver-passed = let q = take_place (role_at plan e.node) e in
+        by-second s u q (sends plan (role_at plan f.node) f) (rest e) sent
+        (by-first sent.after u q (receives plan (role_at plan e.node) e sent.value) (λ x. telling sent.value done)
+        (receiver-looked (role_at plan e.node) e sent.value sent.after taken.after taken.run))
+
+  -- a wire looks at the end that sends, whether a message goes over or makes a process go on
+  sender-crossed : (e f : End) (asked : Option Name) (s u : State) → run_part (crosses plan f e asked) s ≡ (Ok tt, u)
+      → IsOneOf (offer_place (role_at plan f.node) f) (looks (crosses plan f e asked) s)
+  sender-crossed e f None s u h = sender-passed e f s u h
+  sender-crossed e f (Some x) s u h = inl refl
+
+  -- and at the end that receives
+  receiver-crossed : (e f : End) (r : Role) (s u : State) → role_at plan e.node ≡ r
+      → run_part (asks r e >>= crosses plan f e) s ≡ (Ok tt, u)
+      → IsOneOf (take_place (role_at plan e.node) e) (looks (asks r e >>= crosses plan f e) s)
+  receiver-crossed e f Processor s u is h = inl (sym (ap (λ (r : Role). take_place r e) is))
+  receiver-crossed e f Source s u is h = receiver-passed e f s u h
+  receiver-crossed e f Sink s u is h = receiver-passed e f s u h
+  receiver-crossed e f Nothing s u is h = receiver-passed e f s u h
+
+  module _ (e f : End) (s u : State) (h : run_part (passes plan (Some f) e) s ≡ (Ok tt, u)) where
+    asked : Answers (asks (role_at plan e.node) e) s
+    asked = first-answers (asks (role_at plan e.node) e) (crosses plan f e) s u tt h
+
+    crossed : run_part (crosses plan f e asked.value) asked.after ≡ (Ok tt, u)
+    crossed =
+        sym (run_on (asks (role_at plan e.node) e) (crosses plan f e) s asked.after asked.value asked.run) ∙ h
+
     joined-looked : (q : Place) → IsOneOf q (gates_between plan e (Some f))
         → IsOneOf q (looks (passes plan (Some f) e) s)
     joined-looked q (inl here) =
-        by-first s u q (sends plan (role_at plan f.node) f) (rest e)
-        (subst (λ (p : Place). IsOneOf p (looks (sends plan (role_at plan f.node) f) s)) here
-        (sender-looked (role_at plan f.node) f s sent.after sent.value sent.run))
+        by-second s u q (asks (role_at plan e.node) e) (crosses plan f e) asked
+        (subst (λ (p : Place). IsOneOf p (looks (crosses plan f e asked.value) asked.after)) here
+        (sender-crossed e f asked.value asked.after u crossed))
     joined-looked q (inr (inl here)) =
-        by-second s u q (sends plan (role_at plan f.node) f) (rest e) sent
-        (by-first sent.after u q (receives plan (role_at plan e.node) e sent.value) (λ x. telling sent.value done)
-        (subst (λ (p : Place). IsOneOf p (looks (receives plan (role_at plan e.node) e sent.value) sent.after)) here
-        (receiver-looked (role_at plan e.node) e sent.value sent.after taken.after taken.run)))
+        subst (λ (p : Place). IsOneOf p (looks (passes plan (Some f) e) s)) here
+        (receiver-crossed e f (role_at plan e.node) s u refl h)
     joined-looked q (inr (inr far)) = absurd far
 
   wire-looked : (e : End) (t : Option End) (s u : State) → run_part (passes plan t e) s ≡ (Ok tt, u) → (q : Place)

@@ -1,18 +1,22 @@
--- Agents have numbers of their own, and keep them where others come.
-use Rattle.std.proofs.Common.{◌≡◌, ℕ, suc, zero, ◌<◌, ◌≤◌, ◌⊎◌, inl, inr, refl, sym, ap, ◌∙◌, subst, arith, Bool, true}
+-- Agents have numbers in a list.
+use Rattle.std.proofs.Common.{◌≡◌, ℕ, suc, zero, ◌<◌, ◌≤◌, ◌⊎◌, inl, inr, refl, sym, ap, ◌∙◌, arith, Bool, true}
 use Rattle.std.proofs.Common.{false, List, [], ◌∷◌, ◌++◌, length, Some, slice_get}
 use Rattle.std.specs.Prelude.{if◌then◌else◌}
 use Rattle.std.proofs.lemmas.Option.{same_Some, slice_get_within}
 use Rattle.tplan.specs.declared.plan.Plan.{Plan}
+use Rattle.tagents.specs.Groups.{grouped}
 use Rattle.tagents.specs.Tidy.{AreTold}
 use Rattle.tprocesses.specs.Machine.{Agent, same_agent, process_machine}
 use Rattle.tprocesses.proofs.Tidy.{process_machine_is_tidy}
 use Rattle.tclocks.proofs.Lists.{test}
 use Rattle.tclocks.specs.Checks.{Check}
 use Rattle.tclocks.specs.Numbers.{AreNumbers}
+use Rattle.tclocks.specs.NumberTurns.{numbers_of}
+use Rattle.tclocks.proofs.Turning.{are_numbers}
 use Rattle.tprocesses.specs.Certified.{machine_of}
-use Rattle.tfollow.specs.Modes.{accesses_in}
-use Rattle.tfollow.specs.Numbering.{Places, HasNumber, AreApart, IsNew, NewAgentsAreOthers, number_in, numbers_by}
+use Rattle.tfollow.specs.Modes.{accesses_in, mode_at}
+use Rattle.tfollow.specs.Numbering.{Places, AgentNumbers, HasNumber, AreApart, IsNew, NewAgentsAreOthers, number_in}
+use Rattle.tfollow.specs.Following.{number_by}
 use Rattle.tfollow.proofs.Moded.{modes_tell_collisions}
 
 pub number-most : (agents : List Agent) (a : Agent) → number_in agents a ≤ length agents
@@ -22,32 +26,6 @@ number-most (b ∷ bs) a = by (same_agent b a) (number-most bs a)
     by : (t : Bool) → number_in bs a ≤ length bs → (if t then 0 else suc (number_in bs a)) ≤ length (b ∷ bs)
     by true rest = omega arith
     by false rest = omega (arith, rest)
-
--- who has a number keeps it where another one comes
-pub number-kept : (agents : List Agent) (b a : Agent) → number_in agents a < length agents
-    → number_in (agents ++ b ∷ []) a ≡ number_in agents a
-number-kept [] b a h = absurd (omega (arith, h))
-number-kept (c ∷ cs) b a h = by (same_agent c a) (number-kept cs b a) h
-  where
-    by : (t : Bool)
-        → (number_in cs a < length cs → number_in (cs ++ b ∷ []) a ≡ number_in cs a)
-        → (if t then 0 else suc (number_in cs a)) < length (c ∷ cs)
-        → (if t then 0 else suc (number_in (cs ++ b ∷ []) a)) ≡ (if t then 0 else suc (number_in cs a))
-    by true rest h = refl
-    by false rest h = ap suc (rest (omega (arith, h)))
-
--- who has none gets none of the old ones
-pub number-new : (agents : List Agent) (b a : Agent) → length agents ≤ number_in agents a
-    → length agents ≤ number_in (agents ++ b ∷ []) a
-number-new [] b a h = omega arith
-number-new (c ∷ cs) b a h = by (same_agent c a) (number-new cs b a) h
-  where
-    by : (t : Bool) → (length cs ≤ number_in cs a → length cs ≤ number_in (cs ++ b ∷ []) a)
-        → length (c ∷ cs) ≤ (if t then 0 else suc (number_in cs a))
-        → length (c ∷ cs) ≤ (if t then 0 else suc (number_in (cs ++ b ∷ []) a))
-    by true rest h = absurd (omega (arith, h))
-    by false rest h = let more : length cs ≤ number_in (cs ++ b ∷ []) a = rest (omega (arith, h)) in
-        omega (arith, more)
 
 -- an element of a list and one behind it
 pub get-last : {A : Type 0} (xs : List A) (y x : A) (i : ℕ) → slice_get (xs ++ y ∷ []) i ≡ Some x
@@ -72,56 +50,12 @@ module _ (plan : Plan) where
     | inr differ ↦ absurd (told.not_same a a differ refl)
   ]
 
-  -- agents of one number are the same
-  pub number-apart : (agents : List Agent) (a b : Agent) → number_in agents a < length agents
-      → number_in agents a ≡ number_in agents b → a ≡ b
-  number-apart [] a b h e = absurd (omega (arith, h))
-  number-apart (c ∷ cs) a b h e = by (same_agent c a) (same_agent c b) (number-apart cs a b) refl refl h e
-    where
-      by : (t u : Bool) → (number_in cs a < length cs → number_in cs a ≡ number_in cs b → a ≡ b)
-          → same_agent c a ≡ t → same_agent c b ≡ u
-          → (if t then 0 else suc (number_in cs a)) < length (c ∷ cs)
-          → (if t then 0 else suc (number_in cs a)) ≡ (if u then 0 else suc (number_in cs b)) → a ≡ b
-      by true true rest k l h e = sym (told.is_same c a k) ∙ told.is_same c b l
-      by true false rest k l h e = absurd (omega (arith, e))
-      by false true rest k l h e = absurd (omega (arith, e))
-      by false false rest k l h e = rest (omega (arith, h)) (omega (arith, e))
-
-  -- an agent that comes has the number behind all others
-  number-last : (agents : List Agent) (b : Agent) → number_in agents b ≡ length agents
-      → number_in (agents ++ b ∷ []) b ≡ length agents
-  number-last [] b e = ap (λ (t : Bool). if t then 0 else suc 0) (agent-same b)
-  number-last (c ∷ cs) b e = by (same_agent c b) (number-last cs b) e
-    where
-      by : (t : Bool) → (number_in cs b ≡ length cs → number_in (cs ++ b ∷ []) b ≡ length cs)
-          → (if t then 0 else suc (number_in cs b)) ≡ length (c ∷ cs)
-          → (if t then 0 else suc (number_in (cs ++ b ∷ []) b)) ≡ length (c ∷ cs)
-      by true rest e = absurd (omega (arith, e))
-      by false rest e = let last : number_in (cs ++ b ∷ []) b ≡ length cs = rest (omega (arith, e)) in
-          omega (arith, last)
-
-  pub apart-more : (agents : List Agent) (b : Agent) → AreApart agents → number_in agents b ≡ length agents
-      → AreApart (agents ++ b ∷ [])
-  apart-more agents b apart new number a h =
-      elim (get-last agents b a number h) as (λ _. number_in (agents ++ b ∷ []) a ≡ number) [
-        | inl before ↦
-            let e : number_in agents a ≡ number = apart number a before in
-            let within : number < length agents = slice_get_within agents number a before in
-            number-kept agents b a (omega (arith, e, within)) ∙ e
-        | inr (at, same) ↦
-            subst (λ (x : Agent). number_in (agents ++ b ∷ []) x ≡ number) same
-            (number-last agents b new ∙ sym at)
-      ]
-
   -- the numbers that a check knows agents by
-  pub numbered : (places : Places) (agents : List Agent) (check : Check) → length check.clocks ≡ length agents
-      → AreNumbers (machine_of plan) (accesses_in plan) (numbers_by places agents) check
-  numbered places agents check long =
-      record {
-        same = agent-same;
-        collide = modes_tell_collisions plan;
-        apart = λ a b h e. number-apart agents a b (omega (arith, h, long)) e;
-      }
+  pub numbered : (group : AgentNumbers) (places : Places) (check : Check)
+      → AreNumbers (grouped (machine_of plan) (number_by group)) (accesses_in plan) (numbers_of places mode_at) check
+  numbered group places check =
+      are_numbers (machine_of plan) (number_by group) (accesses_in plan) places mode_at check
+      (modes_tell_collisions plan)
 
   -- who has a number in the list stands there
   pub number-there : (agents : List Agent) (a : Agent) → number_in agents a < length agents
@@ -136,12 +70,38 @@ module _ (plan : Plan) where
       by true same rest h = ap Some (told.is_same b a same)
       by false other rest h = rest (omega (arith, h))
 
+  -- who stands in the list has a number there
+  pub number-within : (agents : List Agent) (a : Agent) (number : ℕ) → HasNumber agents a number
+      → number_in agents a < length agents
+  number-within [] a number h = absurd cc
+  number-within (b ∷ bs) a zero h = by (same_agent b a) refl
+    where
+      by : (t : Bool) → same_agent b a ≡ t → (if t then 0 else suc (number_in bs a)) < length (b ∷ bs)
+      by true same = omega arith
+      by false other = absurd (told.not_same b a other (same_Some b a h))
+  number-within (b ∷ bs) a (suc i) h = by (same_agent b a) (number-within bs a i h)
+    where
+      by : (t : Bool) → number_in bs a < length bs → (if t then 0 else suc (number_in bs a)) < length (b ∷ bs)
+      by true rest = omega arith
+      by false rest = omega (arith, rest)
+
+  -- who is new stands nowhere
+  pub new-nowhere : (agents : List Agent) (a : Agent) (number : ℕ) → IsNew agents a → HasNumber agents a number → ⊥
+  new-nowhere agents a number new h =
+      let within : number_in agents a < length agents = number-within agents a number h in omega (arith, within, new)
+
   pub there-or-not : (agents : List Agent) (a : Agent)
       → (number_in agents a < length agents) ⊎ (number_in agents a ≡ length agents)
   there-or-not agents a = cases (number_in agents a) (length agents) (number-most agents a)
     where
       cases : (i n : ℕ) → i ≤ n → (i < n) ⊎ (i ≡ n)
       cases i n h = grind arith
+
+  -- where agents have their numbers, none stands in the list twice
+  pub apart-by : (group : AgentNumbers) (agents : List Agent)
+      → ((number : ℕ) (a : Agent) → HasNumber agents a number → group a ≡ number) → AreApart agents
+  apart-by group agents by number a h =
+      sym (by (number_in agents a) a (number-there agents a (number-within agents a number h))) ∙ by number a h
 
 -- a plan, for what holds of all
 pub some_plan : Plan

@@ -10,10 +10,10 @@ use Rattle.tplan.specs.declared.plan.Plan.{Plan}
 use Rattle.tagents.specs.Walks.{are_open}
 use Rattle.tagents.specs.Tidy.{IsOneOf, IsGate}
 use Rattle.tprocesses.specs.Places.{Place, Name, WordAt, Standing, Half, LinkHalf}
-use Rattle.tprocesses.specs.Values.{Value, Nobody, IsStand, IsHalf, IsLink}
+use Rattle.tprocesses.specs.Values.{Value, Nobody, Empty, IsStand, IsHalf, IsLink}
 use Rattle.tprocesses.specs.Values.{stand_in, half_in, link_in}
 use Rattle.tprocesses.specs.Machine.{Process, Channel, Wire, Successor, Role, Processor, role_at, offer_place}
-use Rattle.tprocesses.specs.Machine.{take_place, sender_to, gates_between, is_ready, is_offered, is_passable, is_open}
+use Rattle.tprocesses.specs.Machine.{take_place, sender_to, gates_between, is_ready, is_due_at, is_passable, is_open}
 use Rattle.tprocesses.specs.Machine.{is_met_at, process_machine}
 use Rattle.tcertify.specs.Running.{State}
 use Rattle.tfollow.specs.Opening.{AgentsAreOpenBy, StepsLeadBy}
@@ -32,9 +32,14 @@ channel-open : (plan : Plan) (n c : ℕ) (q : Place) (v : Value)
 channel-open plan n c q (IsHalf h) = refl
 channel-open plan n c q _ = sym (not-met q)
 
-link-passable : (e : End) (side : Side) (v : Value) → is_passable (LinkHalf e side) v ≡ is_offered (link_in v)
+-- no wire may go on where nothing is pending
+not-due : (side : Side) → is_due_at side Empty ≡ false
+not-due Input = refl
+not-due Output = refl
+
+link-passable : (e : End) (side : Side) (v : Value) → is_passable (LinkHalf e side) v ≡ is_due_at side (link_in v)
 link-passable e side (IsLink l) = refl
-link-passable e side _ = refl
+link-passable e side _ = sym (not-due side)
 
 and-false : (b : Bool) → (b && false) ≡ false
 and-false true = refl
@@ -87,7 +92,7 @@ module _ (plan : Plan) where
       subst (λ (t : Option End). IsOneOf (LinkHalf f Output) (gates_between plan e t)) (sym from)
       (inl (ap (λ (r : Role). offer_place r f) role))
 
-  wire-shut : (e end : End) (side : Side) (v : Value) → is_offered (link_in v) ≡ false
+  wire-shut : (e end : End) (side : Side) (v : Value) → is_due_at side (link_in v) ≡ false
       → is_open plan (Wire e) (LinkHalf end side) v ≡ false
   wire-shut e end side v h =
       ap (λ (t : Bool). is_some (sender_to plan e) && t) (link-passable end side v ∙ h)

@@ -13,7 +13,7 @@ use Rattle.tprocesses.specs.Machine.{Agent, process_machine}
 use Rattle.tprocesses.specs.Certified.{ProcessStep, machine_of}
 use Rattle.tprocesses.specs.Opening.{opening_state}
 use Rattle.tcertify.specs.Running.{State}
-use Rattle.tfollow.specs.Numbering.{Places}
+use Rattle.tfollow.specs.Numbering.{Places, AgentNumbers}
 use Rattle.tfollow.specs.Following.{Told, KeptAccess, IsFollowed, IsRefusedStep}
 use Rattle.tfollow.specs.Laws.{HasRace, RefusalsTellRaces}
 use Rattle.tfollow.proofs.Counting.{kept-since}
@@ -40,10 +40,10 @@ not-true false h = refl
 above : (i j : ℕ) → nat_le i j ≡ false → j < i
 above i j h = grind arith
 
-module _ (plan : Plan) (places : Places) (agents : List Agent) (steps : List ProcessStep) (number : ℕ) (a : Agent)
-    (told : List Told) (access : Told) (kept : KeptAccess) (before after : Check) (s u : State)
-    (f : IsFollowed plan places agents steps before s)
-    (d : IsRefusedStep plan places agents number a told access kept before after s u) where
+module _ (plan : Plan) (places : Places) (group : AgentNumbers) (agents : List Agent) (steps : List ProcessStep)
+    (number : ℕ) (a : Agent) (told : List Told) (access : Told) (kept : KeptAccess) (before after : Check)
+    (s u : State) (f : IsFollowed plan places group agents steps before s)
+    (d : IsRefusedStep plan places group agents number a told access kept before after s u) where
   abbrev step : ProcessStep
   step = label_of (process_machine plan) a s
 
@@ -70,7 +70,7 @@ module _ (plan : Plan) (places : Places) (agents : List Agent) (steps : List Pro
         | inr new ↦ absurd (other (ap (λ e. e.agent) new.0))
       ]
 
-  pub has_race : HasRace plan agents steps number a access kept after s u
+  pub has_race : HasRace plan group steps number a access kept after s u
   has_race =
       record {
         run = runs-on (machine_of plan) steps step (opening_state plan) s u f.run (does plan a s u d.runs d.opened);
@@ -82,5 +82,5 @@ module _ (plan : Plan) (places : Places) (agents : List Agent) (steps : List Pro
       }
 
 pub refusals_tell_races : RefusalsTellRaces
-refusals_tell_races plan places agents steps number a told access kept before after s u f d =
-    has_race plan places agents steps number a told access kept before after s u f d
+refusals_tell_races plan places group agents steps number a told access kept before after s u f d =
+    has_race plan places group agents steps number a told access kept before after s u f d

@@ -1,43 +1,53 @@
 -- A step that was done and told is one more.
-use Rattle.std.proofs.Common.{◌≡◌, ℕ, ◌<◌, ◌⊎◌, inl, inr, refl, sym, ap, ◌∙◌, subst, arith, true, false}
-use Rattle.std.proofs.Common.{List, [], ◌∷◌, ◌++◌, map, suc, length, Ok, Err, Result}
+use Rattle.std.proofs.Common.{◌≡◌, ◌≢◌, ℕ, ◌<◌, ◌≤◌, ◌⊎◌, inl, inr, refl, sym, ap, ◌∙◌, subst, arith, true, false}
+use Rattle.std.proofs.Common.{List, [], ◌∷◌, ◌++◌, map, suc, length, slice_get, slice_index, Ok, Err, Result}
 use Rattle.std.specs.Prelude.{All, is_some}
-use Rattle.std.proofs.lemmas.List.{length-set}
-use Rattle.std.proofs.lemmas.Option.{slice_get_within}
+use Rattle.std.proofs.lemmas.Option.{same_Some, slice_get_within}
 use Rattle.tplan.specs.declared.plan.Plan.{Plan}
-use Rattle.tagents.specs.Agents.{Does, own}
+use Rattle.tagents.specs.Agents.{Does}
 use Rattle.tagents.specs.Clocks.{labels}
+use Rattle.tagents.specs.Groups.{AreInTurn, NoneHas, IsHeld, IsFree, HasNumberTurn, GoOnInTurn}
+use Rattle.tagents.specs.Groups.HasNumberTurn.{First as Fresh, Own as Held, Next as After}
 use Rattle.tagents.specs.Tables.{Access, HasAccess}
 use Rattle.tagents.specs.Walks.{Sight, sight, sights_of, label_of, are_open}
 use Rattle.tagents.specs.WalkAccesses.{Looks, Changes, accesses_of_step}
 use Rattle.tagents.specs.Tidy.{IsOneOf}
+use Rattle.tagents.proofs.Grouped.{runs_go_on_in_turn}
 use Rattle.tagents.proofs.Walking.{has_step}
 use Rattle.tclocks.specs.declared.mode.Mode.{Mode}
 use Rattle.tclocks.specs.declared.step.Step.{Step}
 use Rattle.tclocks.specs.Modes.{covers}
-use Rattle.tclocks.specs.Checks.{Check, clock_of, steps_of, next_step, begun, with_joined}
-use Rattle.tclocks.specs.Followed.{AreAccessed, IsClockOf, entry_of, HasCover, IsToldByCover}
+use Rattle.tclocks.specs.Checks.{Check, clock_of, clock_in, steps_of, next_step, begun, with_joined}
+use Rattle.tclocks.specs.Own.{IsOwnYet}
+use Rattle.tclocks.specs.Followed.{AreAccessed, IsClockOf, HasCover, IsToldByCover}
+use Rattle.tclocks.specs.NumberTurns.{HasSeenInTurn, grouped_entry}
+use Rattle.tclocks.proofs.Joining.{same-or-not}
 use Rattle.tclocks.proofs.Lists.{each-more}
-use Rattle.tclocks.proofs.Stepping.{follows_on}
+use Rattle.tclocks.proofs.Turning.{checked_in_turn}
 use Rattle.tprocesses.specs.Places.{Place}
 use Rattle.tprocesses.specs.Values.{Value}
 use Rattle.tprocesses.specs.Changes.{kind_of}
 use Rattle.tprocesses.specs.Parts.{Reason, Part, gives, stopping, seeing, changing, telling, Changed, walk_of}
-use Rattle.tprocesses.specs.Machine.{Agent, gates, step_of, process_machine}
+use Rattle.tprocesses.specs.Machine.{Agent, Process, Channel, Wire, Successor, gates, step_of, process_machine}
 use Rattle.tprocesses.specs.Certified.{ProcessStep, machine_of}
 use Rattle.tprocesses.specs.Opening.{opening_state}
+use Rattle.tprocesses.proofs.EndedStay.{ended_stay_ended}
 use Rattle.tcertify.specs.Running.{State, changed, run_part}
 use Rattle.tcertify.specs.Walked.{stop_of, looks, changes, Accessed, accesses, IsWalkedAsRun}
 use Rattle.tcertify.proofs.Walking.{walked}
 use Rattle.tfollow.specs.Modes.{accesses_in, Manner, mode_at}
-use Rattle.tfollow.specs.Numbering.{Places, number_in, numbers_by}
+use Rattle.tfollow.specs.Numbering.{Places, AgentNumbers, HasNumber, IsNew}
 use Rattle.tfollow.specs.Leading.{leads_on}
-use Rattle.tfollow.specs.Following.{Told, IsTold, AreCounted, IsFollowed, IsFollowedStep}
+use Rattle.tfollow.specs.Following.{Told, IsToldOrOwn, AreCounted, HasEnded, HasTurn, IsFollowed, IsFollowedStep}
+use Rattle.tfollow.specs.Following.{number_by, count_with}
+use Rattle.tfollow.specs.Following.HasTurn.{First, Own, Next}
 use Rattle.tfollow.specs.Laws.{StepsAreFollowed, StopsAreTold}
-use Rattle.tfollow.proofs.Counting.{counted-step}
+use Rattle.tfollow.proofs.Counting.{counted-step, clocks-long}
+use Rattle.tfollow.proofs.Handing.{by_numbers, numbers_at}
 use Rattle.tfollow.proofs.Listed.{one-of}
 use Rattle.tfollow.proofs.Led.{leads_are_leads}
 use Rattle.tfollow.proofs.Looked.{gates-looked}
+use Rattle.tfollow.proofs.Numbered.{agent-same}
 use Rattle.tfollow.proofs.Running.{runs-on, takes-on}
 
 -- each look of a part is an access, and each change
@@ -170,27 +180,35 @@ covered-by (x ∷ xs) by place mode (inl here) e h =
     inl (ap (λ (y : Told). y.place) here ∙ e, ap (λ (y : Told). covers y.mode mode) here ∙ h)
 covered-by (x ∷ xs) by place mode (inr there) e h = inr (covered-by xs by place mode there e h)
 
--- accesses and joins add no clock and no slot
-lengths-accessed : (step : Step) (told : List Told) (c d : Check) → AreAccessed step told c d
-    → (length d.clocks ≡ length c.clocks) × (length d.slots ≡ length c.slots)
-lengths-accessed step [] c d same = (ap (λ (e : Check). length e.clocks) same, ap (λ (e : Check). length e.slots) same)
-lengths-accessed step (access ∷ rest) c d (between, is, are) =
-    let later : (length d.clocks ≡ length between.clocks) × (length d.slots ≡ length between.slots) =
-    lengths-accessed step rest between d are in (
-      later.0 ∙ ap (λ (e : Check). length e.clocks) is.only,
-      later.1 ∙ ap (λ (e : Check). length e.slots) is.only,
-    )
+-- accesses add no slot
+slots-accessed : (step : Step) (told : List Told) (c d : Check) → AreAccessed step told c d
+    → length d.slots ≡ length c.slots
+slots-accessed step [] c d same = ap (λ (e : Check). length e.slots) same
+slots-accessed step (access ∷ rest) c d (between, is, are) =
+    slots-accessed step rest between d are ∙ ap (λ (e : Check). length e.slots) is.only
 
-module _ (plan : Plan) (places : Places) (agents : List Agent) (steps : List ProcessStep) (number : ℕ) (a : Agent)
-    (told : List Told) (before after : Check) (s u : State) (f : IsFollowed plan places agents steps before s)
-    (d : IsFollowedStep plan places agents number a told before after s u) where
+-- a process that has ended has ended after each step that does not stop
+ended-still : (plan : Plan) (b : Agent) (s u : State) (e : ProcessStep) → Does (machine_of plan) s e u
+    → (machine_of plan).stops e ≡ false → HasEnded b s → HasEnded b u
+ended-still plan (Process x) s u e does on over = ended_stay_ended plan s u e x does on over
+ended-still plan (Channel n c) s u e does on over = over
+ended-still plan (Wire end) s u e does on over = over
+ended-still plan (Successor n k) s u e does on over = over
+
+module _ (plan : Plan) (places : Places) (group : AgentNumbers) (agents : List Agent) (steps : List ProcessStep)
+    (number : ℕ) (a : Agent) (told : List Told) (before after : Check) (s u : State)
+    (f : IsFollowed plan places group agents steps before s)
+    (d : IsFollowedStep plan places group agents number a told before after s u) where
   abbrev step : ProcessStep
   step = label_of (process_machine plan) a s
 
-  is-told : IsToldByCover (machine_of plan) (accesses_in plan) (numbers_by places agents) before f.writers number
+  by : group a ≡ number
+  by = f.numbered number a d.listed
+
+  is-told : IsToldByCover (by_numbers plan group) (accesses_in plan) (numbers_at places) before f.writers number
       (number ∷ []) told step
   is-told = record {
-    by = f.apart number a d.listed;
+    by = by;
     added = (let within : number < length agents = slice_get_within agents number a d.listed in
         omega (arith, within, f.clocks));
     leads = (
@@ -199,61 +217,111 @@ module _ (plan : Plan) (places : Places) (agents : List Agent) (steps : List Pro
           (f.lead number a d.listed),
       tt,
     );
-    all = λ p k h. (let t : IsTold places told (record { place = p; mode = k }) =
-        at-access (IsTold places told) (accesses (step_of plan a) s) d.covered p k (accessed plan a s u d.runs p k h) in
-        covered-by told t.by (places p) (mode_at p k) (one-of t.by told t.there) t.place t.covers);
+    all = λ p k h. known p k (at-access (IsToldOrOwn places before number told) (accesses (step_of plan a) s) d.covered
+        p k (accessed plan a s u d.runs p k h));
   }
+    where
+      known : (p : Place) (k : Manner) → IsToldOrOwn places before number told (record { place = p; mode = k })
+          → HasCover told (places p) (mode_at p k) ⊎ IsOwnYet before number (places p) (mode_at p k)
+      known p k (inl t) =
+          inl (covered-by told t.by (places p) (mode_at p k) (one-of t.by told t.there) t.place t.covers)
+      known p k (inr own) = inr own
+
+  -- the step may have its agent's number
+  turn : HasTurn plan group steps number a → HasNumberTurn (machine_of plan) (number_by group) steps step
+  turn (First none) = Fresh (subst (λ (n : ℕ). NoneHas (number_by group) n steps) (sym by) none)
+  turn (Own is) = Held (subst (λ (n : ℕ). IsHeld (machine_of plan) (number_by group) n a steps) (sym by) is)
+  turn (Next last leads is) =
+      After last (inr (leads_are_leads plan last a s d.opened (goes plan a s u d.runs) leads))
+      (subst (λ (n : ℕ). IsFree (machine_of plan) (number_by group) n last steps) (sym by) is)
+
+  seen : HasSeenInTurn (machine_of plan) (number_by group) (accesses_in plan) places mode_at
+      (grouped_entry (machine_of plan) (number_by group) (accesses_in plan) places mode_at step after ∷ f.entries)
+      f.writers after
+  seen = checked_in_turn (machine_of plan) (number_by group) (accesses_in plan) places mode_at f.entries f.writers
+      before after number (number ∷ []) told step f.seen is-told d.checked (agent-same plan a)
+      (subst (λ (list : List ProcessStep). HasNumberTurn (machine_of plan) (number_by group) list step)
+      (sym f.labels) (turn (f.turns number a d.listed)))
+
+  -- what holds of numbers and steps goes on
+  goes-on : GoOnInTurn (machine_of plan) (number_by group) steps step
+  goes-on = runs_go_on_in_turn State Agent ProcessStep (machine_of plan) (number_by group) steps step
+      (subst (AreInTurn (machine_of plan) (number_by group)) f.labels f.seen.turns)
+
+  -- other agents may have their numbers still
+  turn-still : (n : ℕ) (b : Agent) → group a ≢ n → HasTurn plan group steps n b
+      → HasTurn plan group (step ∷ steps) n b
+  turn-still n b other (First none) = First (other, none)
+  turn-still n b other (Own is) = Own (goes-on.others_held n b other is)
+  turn-still n b other (Next last leads is) = Next last leads (goes-on.others_free n last other is)
+
+  turns : (n : ℕ) (b : Agent) → HasNumber agents b n → HasTurn plan group (step ∷ steps) n b
+  turns n b h = elim (same-or-not n number) as (λ _. HasTurn plan group (step ∷ steps) n b) [
+    | inl same ↦
+        let one : a ≡ b = same_Some a b (sym d.listed ∙ ap (λ (k : ℕ). slice_get agents k) (sym same) ∙ h) in
+        Own (subst (λ (c : Agent). IsHeld (machine_of plan) (number_by group) n c (step ∷ steps)) one
+        (subst (λ (k : ℕ). IsHeld (machine_of plan) (number_by group) k a (step ∷ steps)) (by ∙ sym same)
+        goes-on.held))
+    | inr other ↦ turn-still n b (λ e. other (sym e ∙ by)) (f.turns n b h)
+  ]
+
+  -- whoever has ended has ended still
+  others : (b : Agent) → IsNew agents b → (length agents ≤ group b) ⊎ HasEnded b u
+  others b new = elim (f.others b new) as (λ _. (length agents ≤ group b) ⊎ HasEnded b u) [
+    | inl far ↦ inl far
+    | inr over ↦ inr (ended-still plan b s u step (does plan a s u d.runs d.opened) (goes plan a s u d.runs) over)
+  ]
+
+  clock : IsClockOf (by_numbers plan group) (numbers_at places) f.entries before number (clock_of before number)
+  clock = f.seen.seen.follows.clocks number is-told.added
+
+  own-within : slice_index (clock_in before number) number ≤ steps_of before number
+  own-within = (f.seen.seen.follows.slots number).within number
 
   -- the check as it is before the accesses
   abbrev joined_up : Check
   joined_up = with_joined number number (begun number before)
 
-  clocks-long : length joined_up.clocks ≡ length before.clocks
-  clocks-long = length-set (begun number before).clocks number _ ∙ length-set before.clocks number _
-
-  pub followed : IsFollowed plan places agents (step ∷ steps) after u
+  pub followed : IsFollowed plan places group agents (step ∷ steps) after u
   followed =
       record {
         run = runs-on (machine_of plan) steps step (opening_state plan) s u f.run (does plan a s u d.runs d.opened);
         takes_nothing = takes-on (machine_of plan) steps step f.takes_nothing (goes plan a s u d.runs);
-        entries = entry_of (machine_of plan) (numbers_by places agents) step after ∷ f.entries;
+        entries = grouped_entry (machine_of plan) (number_by group) (accesses_in plan) places mode_at step after
+            ∷ f.entries;
         labels = ap (λ (list : List ProcessStep). step ∷ list) f.labels;
         writers = f.writers;
-        seen = record {
-          table = _;
-          follows = follows_on (machine_of plan) (accesses_in plan) (numbers_by places agents) f.entries
-              f.seen.table f.writers before after number (number ∷ []) told step f.seen.follows is-told d.checked;
-        };
+        seen = seen;
         placed = (placed, f.placed);
         last = refl;
-        clocks = long.0 ∙ clocks-long ∙ f.clocks;
-        slots = long.1 ∙ f.slots;
-        apart = f.apart;
+        clocks = clocks-same ∙ f.clocks;
+        slots = slots-accessed (next_step before number) told joined_up after d.checked ∙ f.slots;
+        numbered = f.numbered;
         counted = counts;
         lead = f.lead;
+        turns = turns;
+        others = others;
       }
     where
-      clock : IsClockOf (machine_of plan) (numbers_by places agents) f.entries before number (clock_of before number)
-      clock = f.seen.follows.clocks number is-told.added
+      counts : AreCounted group (step ∷ steps) after
+      counts = counted-step group steps step number told before after by is-told.added clock.long own-within d.checked
+          f.counted
 
-      counts : AreCounted plan agents (step ∷ steps) after
-      counts = counted-step plan agents f.apart steps step number told before after d.listed is-told.added
-          clock.long ((f.seen.follows.slots number).within number) d.checked f.counted
+      clocks-same : length after.clocks ≡ length before.clocks
+      clocks-same = clocks-long group steps step number told before after by is-told.added clock.long own-within
+          d.checked f.counted
 
-      placed : steps_of after (number_in agents a) ≡ length (own (machine_of plan) a (step ∷ labels f.entries))
+      placed : steps_of after (group a) ≡ count_with group (group a) (step ∷ labels f.entries)
       placed =
-          ap (steps_of after) (f.apart number a d.listed) ∙ counts.counts number a d.listed
-          ∙ ap (λ (list : List ProcessStep). length (own (machine_of plan) a (step ∷ list))) (sym f.labels)
-
-      long : (length after.clocks ≡ length joined_up.clocks) × (length after.slots ≡ length joined_up.slots)
-      long = lengths-accessed (next_step before number) told joined_up after d.checked
+          counts.counts (group a) (omega (arith, by, is-told.added, clocks-same))
+          ∙ ap (λ (list : List ProcessStep). count_with group (group a) (step ∷ list)) (sym f.labels)
 
 pub steps_are_followed : StepsAreFollowed
-steps_are_followed plan places agents steps number a told before after s u f d =
-    followed plan places agents steps number a told before after s u f d
+steps_are_followed plan places group agents steps number a told before after s u f d =
+    followed plan places group agents steps number a told before after s u f d
 
 pub stops_are_told : StopsAreTold
-stops_are_told plan places agents steps a check why s u f opened run =
+stops_are_told plan places group agents steps a check why s u f opened run =
     record {
       run = runs-on (machine_of plan) steps (label_of (process_machine plan) a s) (opening_state plan) s u f.run
           (runs-so plan a s u (Err why) run opened);

@@ -1,7 +1,13 @@
 -- What notes tell of is told with them.
-use Rattle.std.proofs.Common.{◌≡◌, sym, ap, true, List, [], ◌∷◌, map, Contains, inl, inr, arith}
+use Rattle.std.proofs.Common.{◌≡◌, ◌⊎◌, ℕ, sym, ap, ◌∙◌, subst, true, List, [], ◌∷◌, map, Contains, inl, inr, arith}
+use Rattle.std.proofs.lemmas.List.Elements.{All-contains}
+use Rattle.tclocks.specs.declared.mode.Mode as clocks
 use Rattle.tclocks.specs.Modes.{covers}
-use Rattle.tclocks.proofs.Lists.{contains-cons, contains-rest}
+use Rattle.tclocks.specs.Checks.{accesses_at}
+use Rattle.tclocks.specs.Own.{IsOwnYet}
+use Rattle.tclocks.specs.Followed.{HasCover}
+use Rattle.tclocks.proofs.Lists.{contains-cons, contains-first, contains-rest}
+use Rattle.tclocks.proofs.ModeLemmas.{covers-trans}
 use Rattle.tprocesses.specs.Places.{Place, Sending}
 use Rattle.tcertify.specs.declared.notes.Mode.{Mode}
 use Rattle.tcertify.specs.declared.notes.Note.{Note}
@@ -9,8 +15,8 @@ use Rattle.tcertify.specs.Notes.{tells_of_value, tells_of_outputs, tells_of, IsN
 use Rattle.tcertify.specs.Walked.{Accessed}
 use Rattle.tfollow.specs.Modes.{Manner, outputs_mode, value_mode, mode_at}
 use Rattle.tfollow.specs.Numbering.{Places}
-use Rattle.tfollow.specs.Following.{IsTold}
-use Rattle.tfollow.specs.Telling.{told_mode, told_of, NotesAreTold}
+use Rattle.tfollow.specs.Following.{Told, IsTold, IsToldOrOwn}
+use Rattle.tfollow.specs.Telling.{told_mode, told_of, NotesAreTold, NotesAreToldOrOwn}
 
 value-covered : (m : Mode) (k : Manner) → tells_of_value m k ≡ true → covers (told_mode m) (value_mode k) ≡ true
 value-covered m k h = grind arith
@@ -42,3 +48,43 @@ is-told places notes access noted =
 
 pub notes_are_told : NotesAreTold
 notes_are_told places notes accesses all k d h = is-told places notes _ (all k d h)
+
+-- a cover is one of what is told
+cover-there : (places : Places) (told : List Told) (access : Accessed) (place : ℕ) (mode : clocks.Mode)
+    → place ≡ places access.place → covers mode (mode_at access.place access.mode) ≡ true → HasCover told place mode
+    → IsTold places told access
+cover-there places [] access place mode e over has = absurd has
+cover-there places (x ∷ xs) access place mode e over (inl here) = record {
+  by = x;
+  there = contains-first x xs;
+  place = here.0 ∙ e;
+  covers = covers-trans x.mode mode (mode_at access.place access.mode) here.1 over;
+}
+cover-there places (x ∷ xs) access place mode e over (inr later) =
+    let rest : IsTold places xs access = cover-there places xs access place mode e over later in record {
+      by = rest.by;
+      there = contains-rest x xs rest.by rest.there;
+      place = rest.place;
+      covers = rest.covers;
+    }
+
+pub notes_are_told_or_own : NotesAreToldOrOwn
+notes_are_told_or_own places check number notes told accesses all each k d h =
+    from_note _ (all k d h)
+  where
+    from_note : (access : Accessed) → IsNoted places notes access → IsToldOrOwn places check number told access
+    from_note access noted =
+        elim (All-contains (λ note. HasCover told note.place (told_mode note.mode)
+        ⊎ IsOwnYet check number note.place (told_mode note.mode)) notes noted.note each noted.there) as
+        (λ _. IsToldOrOwn places check number told access) [
+          | inl has ↦ inl (cover-there places told access noted.note.place (told_mode noted.note.mode) (sym noted.place)
+              (place-covered noted.note.mode access.place access.mode noted.tells) has)
+          | inr own ↦ inr record {
+            access = own.access;
+            there = subst (λ (q : ℕ). Contains (accesses_at check q) own.access) (sym noted.place) own.there;
+            by = own.by;
+            over = covers-trans own.access.mode (told_mode noted.note.mode) (mode_at access.place access.mode) own.over
+                (place-covered noted.note.mode access.place access.mode noted.tells);
+            unknown = own.unknown;
+          }
+        ]

@@ -1,10 +1,13 @@
 -- What a program knows that runs the process machine of a plan and tells each step to the check of races.
 -- Source: own choice.
-use Rattle.std.specs.Prelude.{ℕ, ◌≡◌, true, List, [], ◌∷◌, ◌++◌, All, Contains, Ok, Some, length, reverse}
+use Rattle.std.specs.Prelude.{ℕ, ◌≡◌, ◌<◌, ◌≤◌, ◌⊎◌, ◌==◌, true, List, [], ◌∷◌, ◌++◌, All, Contains, Ok, Some, length}
+use Rattle.std.specs.Prelude.{reverse}
+use Rattle.std.specs.List.{count_by}
 use Rattle.tplan.specs.declared.plan.Plan.{Plan}
-use Rattle.tagents.specs.Agents.{IsRun, own}
+use Rattle.tagents.specs.Agents.{IsRun}
 use Rattle.tagents.specs.Races.{TakesNothing}
 use Rattle.tagents.specs.Clocks.{Entry, labels}
+use Rattle.tagents.specs.Groups.{NoneHas, IsHeld, IsFree}
 use Rattle.tagents.specs.Tables.{Access}
 use Rattle.tagents.specs.Walks.{are_open}
 use Rattle.tclocks.specs.declared.mode.Mode.{Mode}
@@ -13,15 +16,18 @@ use Rattle.tclocks.specs.declared.step.Step.{Step}
 use Rattle.tclocks.specs.declared.step.Access as kept
 use Rattle.tclocks.specs.Checks.{Check, clock_of, accesses_at, steps_of}
 use Rattle.tclocks.specs.Places.{first_race}
-use Rattle.tclocks.specs.Followed.{EachOf, IsStep, entry_of}
-use Rattle.tclocks.specs.Laws.{HasSeen}
-use Rattle.tprocesses.specs.Machine.{Agent, step_of, process_machine}
+use Rattle.tclocks.specs.Own.{IsOwnYet}
+use Rattle.tclocks.specs.Followed.{EachOf, IsStep}
+use Rattle.tclocks.specs.NumberTurns.{HasSeenInTurn, grouped_entry}
+use Rattle.tprocesses.specs.Places.{Standing}
+use Rattle.tprocesses.specs.Values.{Ended, stand_in}
+use Rattle.tprocesses.specs.Machine.{Agent, Process, step_of, process_machine}
 use Rattle.tprocesses.specs.Certified.{ProcessStep, machine_of}
 use Rattle.tprocesses.specs.Opening.{opening_state}
 use Rattle.tcertify.specs.Running.{State, run_part}
 use Rattle.tcertify.specs.Walked.{Accessed, accesses}
 use Rattle.tfollow.specs.Modes.{accesses_in, mode_at}
-use Rattle.tfollow.specs.Numbering.{Places, HasNumber, AreApart, numbers_by}
+use Rattle.tfollow.specs.Numbering.{Places, AgentNumbers, HasNumber, IsNew}
 use Rattle.tfollow.specs.Leading.{leads_on}
 
 -- an access that was told to the check
@@ -39,64 +45,103 @@ pub record IsTold (places : Places) (told : List Told) (access : Accessed) : Typ
   pub place : by.place ≡ places access.place
   pub covers : covers by.mode (mode_at access.place access.mode) ≡ true
 
--- among steps, the last one first, the step of this number of the agent of this number
-pub record IsDone (plan : Plan) (agents : List Agent) (steps : List ProcessStep) (step : Step) : Type 0 where
+-- an access is told, or covered by an earlier one with this number of which nobody else knows
+abbrev pub IsToldOrOwn : Places → Check → ℕ → List Told → Accessed → Type 0
+IsToldOrOwn places check number told access =
+    IsTold places told access ⊎ IsOwnYet check number (places access.place) (mode_at access.place access.mode)
+
+-- the number of the agent of a step
+abbrev pub number_by : AgentNumbers → ProcessStep → ℕ
+number_by group e = group e.agent
+
+-- how many of these steps were done with a number
+abbrev pub count_with : AgentNumbers → ℕ → List ProcessStep → ℕ
+count_with group n steps = count_by (λ e. group e.agent == n) steps
+
+-- among steps, the last one first, the one that is counted so among those with its agent's number
+pub record IsDone (group : AgentNumbers) (steps : List ProcessStep) (step : Step) : Type 0 where
   pub later : List ProcessStep
   pub label : ProcessStep
   pub before : List ProcessStep
   pub within : steps ≡ later ++ label ∷ before
-  pub agent : HasNumber agents label.agent step.agent
-  pub number : step.number ≡ length (own (machine_of plan) label.agent (label ∷ before))
+  pub agent : group label.agent ≡ step.agent
+  pub number : step.number ≡ count_with group step.agent (label ∷ before)
 
--- the check has counted the steps of each agent, and each access that it keeps is of one of these
-pub record AreCounted (plan : Plan) (agents : List Agent) (steps : List ProcessStep) (check : Check) : Type 0 where
-  pub counts : (number : ℕ) (a : Agent) → HasNumber agents a number
-      → steps_of check number ≡ length (own (machine_of plan) a steps)
+-- the check has counted the steps with each number, and each access that it keeps is of one of these
+pub record AreCounted (group : AgentNumbers) (steps : List ProcessStep) (check : Check) : Type 0 where
+  pub counts : (number : ℕ) → number < length check.clocks
+      → steps_of check number ≡ count_with group number steps
   pub kept : (place : ℕ) (access : KeptAccess) → Contains (accesses_at check place) access
-      → IsDone plan agents steps access.step
+      → IsDone group steps access.step
 
--- the place of each of these entries, the last one first, is the number of steps of its agent so far
-abbrev pub ArePlaced : Plan → List (Entry Agent ProcessStep) → Type 0
-ArePlaced plan [] = Unit {0}
-ArePlaced plan (z ∷ earlier) =
-    (z.place ≡ length (own (machine_of plan) z.label.agent (labels (z ∷ earlier)))) × ArePlaced plan earlier
+-- the place of each of these entries, the last one first, is the number of steps with its number so far
+abbrev pub ArePlaced : AgentNumbers → List (Entry ℕ ProcessStep) → Type 0
+ArePlaced group [] = Unit {0}
+ArePlaced group (z ∷ earlier) =
+    (z.place ≡ count_with group (group z.label.agent) (labels (z ∷ earlier))) × ArePlaced group earlier
 
-module _ (plan : Plan) (places : Places) (agents : List Agent) where
-  -- the clock of the last step is still that of its agent
-  abbrev pub IsLast : List (Entry Agent ProcessStep) → Check → Type 0
+-- a process has ended
+abbrev pub HasEnded : Agent → State → Type 0
+HasEnded (Process x) s = stand_in (s (Standing x)) ≡ Ended
+HasEnded _ s = ⊥
+
+-- after these steps, the last one first, an agent may do the next one with a number
+pub data HasTurn (plan : Plan) (group : AgentNumbers) (steps : List ProcessStep) (number : ℕ) (a : Agent) : Type 0 where
+  -- no step has it
+  First : NoneHas (number_by group) number steps → HasTurn plan group steps number a
+  -- it did the last step with it
+  Own : IsHeld (machine_of plan) (number_by group) number a steps → HasTurn plan group steps number a
+  -- a step since which the number is free leads to it
+  Next : (last : ProcessStep) → leads_on plan last a ≡ true
+      → IsFree (machine_of plan) (number_by group) number last steps → HasTurn plan group steps number a
+
+module _ (plan : Plan) (places : Places) (group : AgentNumbers) (agents : List Agent) where
+  -- the check has seen these steps, the last one first, by numbers that their agents had in turn
+  abbrev pub HasSeen : List (Entry ℕ ProcessStep) → (ℕ → List ProcessStep) → Check → Type 0
+  HasSeen entries writers check =
+      HasSeenInTurn (machine_of plan) (number_by group) (accesses_in plan) places mode_at entries writers check
+
+  -- the clock of the last step is still that of its number
+  abbrev pub IsLast : List (Entry ℕ ProcessStep) → Check → Type 0
   IsLast [] check = Unit {0}
-  IsLast (z ∷ earlier) check = z ≡ entry_of (machine_of plan) (numbers_by places agents) z.label check
+  IsLast (z ∷ earlier) check =
+      z ≡ grouped_entry (machine_of plan) (number_by group) (accesses_in plan) places mode_at z.label check
 
-  -- the machine has done these steps, the last one first, and is in this state; the check was told of them
+  -- the machine has done these steps, the last one first, and is in this state; the check was told of them. These
+  -- agents have numbers now
   pub record IsFollowed (steps : List ProcessStep) (check : Check) (state : State) : Type 0 where
     -- the steps are a run of the machine, and none of them stops
     pub run : IsRun (machine_of plan) (opening_state plan) (reverse steps) state
     pub takes_nothing : TakesNothing (machine_of plan) (reverse steps)
     -- the check has seen them, and which of them wrote the clock in each slot
-    pub entries : List (Entry Agent ProcessStep)
+    pub entries : List (Entry ℕ ProcessStep)
     pub labels : labels entries ≡ steps
     pub writers : ℕ → List ProcessStep
-    pub seen : HasSeen (machine_of plan) (accesses_in plan) (numbers_by places agents) entries writers check
-    pub placed : ArePlaced plan entries
+    pub seen : HasSeen entries writers check
+    pub placed : ArePlaced group entries
     pub last : IsLast entries check
-    -- each agent has its clock, and the slot of its number
+    -- each number has its clock and its slot
     pub clocks : length check.clocks ≡ length agents
     pub slots : length check.slots ≡ length agents
-    pub apart : AreApart agents
-    pub counted : AreCounted plan agents steps check
+    pub numbered : (number : ℕ) (a : Agent) → HasNumber agents a number → group a ≡ number
+    pub counted : AreCounted group steps check
     -- the clock in the slot of an agent was written by steps that lead to its next one
     pub lead : (number : ℕ) (a : Agent) → HasNumber agents a number
         → EachOf (λ step. leads_on plan step a ≡ true) (writers number)
+    -- and it may do that with its number
+    pub turns : (number : ℕ) (a : Agent) → HasNumber agents a number → HasTurn plan group steps number a
+    -- whoever has no number has had none, or has ended
+    pub others : (a : Agent) → IsNew agents a → (length agents ≤ group a) ⊎ HasEnded a state
 
   -- an agent that has a step does it, and it does not stop. The check is told: the step begins, joins the clock in the
-  -- agent's slot, and makes accesses that cover all of its own
+  -- agent's slot, and makes accesses that cover all of its own, but for those that it need not tell again
   pub record IsFollowedStep (number : ℕ) (a : Agent) (told : List Told) (before after : Check) (state state' : State)
       : Type 0 where
     pub listed : HasNumber agents a number
     pub opened : are_open (process_machine plan) a state ≡ true
     pub runs : run_part (step_of plan a) state ≡ (Ok tt, state')
     pub checked : IsStep number (number ∷ []) told before after
-    pub covered : All (IsTold places told) (accesses (step_of plan a) state)
+    pub covered : All (IsToldOrOwn places before number told) (accesses (step_of plan a) state)
 
   -- an agent that has a step does it, and it does not stop. The check begins it and is told some of its accesses, and
   -- refuses the next one, which races with a kept one

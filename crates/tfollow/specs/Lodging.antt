@@ -8,6 +8,7 @@ use Rattle.tword.specs.Limits.{most_processes}
 use Rattle.tplan.specs.declared.plan.Plan.{Plan}
 use Rattle.tagents.specs.Chains.{IsChained}
 use Rattle.tagents.specs.Crowds.{in_part}
+use Rattle.tagents.specs.Groups.{AgreeOn}
 use Rattle.tagents.specs.PlaceTurns.{is_free, HavePlaces}
 use Rattle.tclocks.specs.declared.step.Step.{Step}
 use Rattle.tclocks.specs.Checks.{Check, HasCounted, last_step}
@@ -17,17 +18,17 @@ use Rattle.tprocesses.specs.Certified.{ProcessStep, machine_of, begins, ends, op
 use Rattle.tprocesses.specs.Lives.{lodger}
 use Rattle.tcertify.specs.Running.{State}
 use Rattle.tfollow.specs.declared.berth.Berth.{Berth}
-use Rattle.tfollow.specs.Numbering.{Places, number_in}
-use Rattle.tfollow.specs.Following.{IsDone, IsFollowed}
+use Rattle.tfollow.specs.Numbering.{Places, AgentNumbers}
+use Rattle.tfollow.specs.Following.{IsDone, IsFollowed, number_by}
 use Rattle.tfollow.specs.Laws.{AreShut}
 
 -- a step that the clock of the last step has counted is chained to it
 abbrev pub CountedStepsAreChained : Type 0
 CountedStepsAreChained =
-    (plan : Plan) (places : Places) (agents : List Agent) (step : ProcessStep) (earlier : List ProcessStep)
-    (check : Check) (state : State) (counted : Step)
-    → IsFollowed plan places agents (step ∷ earlier) check state → (d : IsDone plan agents earlier counted)
-    → HasCounted check (number_in agents step.agent) counted
+    (plan : Plan) (places : Places) (group : AgentNumbers) (agents : List Agent) (step : ProcessStep)
+    (earlier : List ProcessStep) (check : Check) (state : State) (counted : Step)
+    → IsFollowed plan places group agents (step ∷ earlier) check state → (d : IsDone group earlier counted)
+    → HasCounted check (group step.agent) counted
     → IsChained (machine_of plan) d.label (reverse d.later) step
 
 -- the number of a name: how many stand before it
@@ -49,7 +50,7 @@ abbrev pub berth_among : List Name → (homes : List ℕ) → Option Name → �
 berth_among names homes None = 0
 berth_among names homes (Some x) = slice_index homes (number_of_name names x)
 
-module _ (plan : Plan) (n : ℕ) (agents : List Agent) (names : List Name) (homes : List ℕ) where
+module _ (plan : Plan) (n : ℕ) (group : AgentNumbers) (names : List Name) (homes : List ℕ) where
   -- the berth that a step takes or leaves
   abbrev pub berth_of : ProcessStep → ℕ
   berth_of e = berth_among names homes (lodger e)
@@ -70,7 +71,7 @@ module _ (plan : Plan) (n : ℕ) (agents : List Agent) (names : List Name) (home
 
   -- this was the last of these steps, the last one first, that took or left the berth
   pub record IsLastMove (k : ℕ) (steps : List ProcessStep) (step : Step) : Type 0 where
-    pub done : IsDone plan agents steps step
+    pub done : IsDone group steps step
     pub moved : moves k done.label ≡ true
     pub none : NoneMoves k done.later
 
@@ -103,55 +104,55 @@ HasCountedIfAny check agent (Some step) = HasCounted check agent step
 -- before the first step each process of the image has a berth, and the others are free
 abbrev pub LodgingBegins : Type 0
 LodgingBegins =
-    (plan : Plan) (n : ℕ) (agents : List Agent) (names : List Name) (homes : List ℕ) (berths : List Berth)
+    (plan : Plan) (n : ℕ) (group : AgentNumbers) (names : List Name) (homes : List ℕ) (berths : List Berth)
     → opened_processes plan n + count_by (λ b. b.is_free) berths ≤ most_processes → length homes ≡ length names
-    → All (λ b. b.last ≡ None) berths → AreLodged plan n agents names homes [] berths
+    → All (λ b. b.last ≡ None) berths → AreLodged plan n group names homes [] berths
 
--- agents may come
+-- agents that have done no step may have other numbers
 abbrev pub LodgedAgentsMayCome : Type 0
 LodgedAgentsMayCome =
-    (plan : Plan) (n : ℕ) (agents more : List Agent) (names : List Name) (homes : List ℕ) (steps : List ProcessStep)
-    (berths : List Berth) → AreLodged plan n agents names homes steps berths
-    → AreLodged plan n (agents ++ more) names homes steps berths
+    (plan : Plan) (n : ℕ) (group more : AgentNumbers) (names : List Name) (homes : List ℕ) (steps : List ProcessStep)
+    (berths : List Berth) → AreLodged plan n group names homes steps berths
+    → AgreeOn (number_by group) (number_by more) steps → AreLodged plan n more names homes steps berths
 
 -- a step that begins and ends nothing at the node
 abbrev pub OthersKeepBerths : Type 0
 OthersKeepBerths =
-    (plan : Plan) (n : ℕ) (agents : List Agent) (names : List Name) (homes : List ℕ) (step : ProcessStep)
-    (steps : List ProcessStep) (berths : List Berth) → AreLodged plan n agents names homes steps berths
-    → begins n step ≡ false → ends n step ≡ false → AreLodged plan n agents names homes (step ∷ steps) berths
+    (plan : Plan) (n : ℕ) (group : AgentNumbers) (names : List Name) (homes : List ℕ) (step : ProcessStep)
+    (steps : List ProcessStep) (berths : List Berth) → AreLodged plan n group names homes steps berths
+    → begins n step ≡ false → ends n step ≡ false → AreLodged plan n group names homes (step ∷ steps) berths
 
 -- a step that begins a process takes a berth for it that is free, if its clock has counted the last step that left it
 abbrev pub BeginningsTakeBerths : Type 0
 BeginningsTakeBerths =
-    (plan : Plan) (n : ℕ) (places : Places) (agents : List Agent) (names : List Name) (homes : List ℕ)
-    (step : ProcessStep) (steps : List ProcessStep) (check : Check) (state : State) (berths : List Berth) (x : Name)
-    (k : ℕ) (berth : Berth)
-    → AreLodged plan n agents names homes steps berths → IsFollowed plan places agents (step ∷ steps) check state
+    (plan : Plan) (n : ℕ) (places : Places) (group : AgentNumbers) (agents : List Agent) (names : List Name)
+    (homes : List ℕ) (step : ProcessStep) (steps : List ProcessStep) (check : Check) (state : State)
+    (berths : List Berth) (x : Name) (k : ℕ) (berth : Berth)
+    → AreLodged plan n group names homes steps berths → IsFollowed plan places group agents (step ∷ steps) check state
     → begins n step ≡ true → ends n step ≡ false → lodger step ≡ Some x → IsNewName names x
     → slice_get berths k ≡ Some berth → berth.is_free ≡ true
-    → HasCountedIfAny check (number_in agents step.agent) berth.last
-    → AreLodged plan n agents (names ++ x ∷ []) (homes ++ k ∷ []) (step ∷ steps)
-    (slice_set berths k (record { is_free = false; last = Some (last_step check (number_in agents step.agent)) }))
+    → HasCountedIfAny check (group step.agent) berth.last
+    → AreLodged plan n group (names ++ x ∷ []) (homes ++ k ∷ []) (step ∷ steps)
+    (slice_set berths k (record { is_free = false; last = Some (last_step check (group step.agent)) }))
 
 -- a step that ends a process leaves its berth, if its clock has counted the last step that took it
 abbrev pub EndsLeaveBerths : Type 0
 EndsLeaveBerths =
-    (plan : Plan) (n : ℕ) (places : Places) (agents : List Agent) (names : List Name) (homes : List ℕ)
-    (step : ProcessStep) (steps : List ProcessStep) (check : Check) (state : State) (berths : List Berth) (x : Name)
-    (k : ℕ) (berth : Berth)
-    → AreLodged plan n agents names homes steps berths → IsFollowed plan places agents (step ∷ steps) check state
+    (plan : Plan) (n : ℕ) (places : Places) (group : AgentNumbers) (agents : List Agent) (names : List Name)
+    (homes : List ℕ) (step : ProcessStep) (steps : List ProcessStep) (check : Check) (state : State)
+    (berths : List Berth) (x : Name) (k : ℕ) (berth : Berth)
+    → AreLodged plan n group names homes steps berths → IsFollowed plan places group agents (step ∷ steps) check state
     → begins n step ≡ false → ends n step ≡ true → lodger step ≡ Some x
     → number_of_name names x < length names → slice_index homes (number_of_name names x) ≡ k
     → slice_get berths k ≡ Some berth → berth.is_free ≡ false
-    → HasCountedIfAny check (number_in agents step.agent) berth.last
-    → AreLodged plan n agents names homes (step ∷ steps)
-    (slice_set berths k (record { is_free = true; last = Some (last_step check (number_in agents step.agent)) }))
+    → HasCountedIfAny check (group step.agent) berth.last
+    → AreLodged plan n group names homes (step ∷ steps)
+    (slice_set berths k (record { is_free = true; last = Some (last_step check (group step.agent)) }))
 
 -- so few live at the node in all runs
 abbrev pub BerthsLetFewLive : Type 0
 BerthsLetFewLive =
-    (plan : Plan) (n : ℕ) (places : Places) (agents : List Agent) (names : List Name) (homes : List ℕ)
-    (steps : List ProcessStep) (check : Check) (state : State) (berths : List Berth)
-    → IsFollowed plan places agents steps check state → AreShut plan agents state
-    → AreLodged plan n agents names homes steps berths → LiveFewAt plan n
+    (plan : Plan) (n : ℕ) (places : Places) (group : AgentNumbers) (agents : List Agent) (names : List Name)
+    (homes : List ℕ) (steps : List ProcessStep) (check : Check) (state : State) (berths : List Berth)
+    → IsFollowed plan places group agents steps check state → AreShut plan agents state
+    → AreLodged plan n group names homes steps berths → LiveFewAt plan n

@@ -1,16 +1,18 @@
 -- The numbers by which the check of races knows the agents and the places of the process machine.
 -- Source: own choice.
 use Rattle.std.specs.Prelude.{ℕ, suc, ◌≡◌, ◌≢◌, ◌↔◌, List, [], ◌∷◌, Some, length, slice_get, if◌then◌else◌}
-use Rattle.tclocks.specs.Numbers.{Numbers}
 use Rattle.tprocesses.specs.Places.{Place}
 use Rattle.tprocesses.specs.Machine.{Agent, same_agent}
-use Rattle.tfollow.specs.Modes.{Manner, mode_at}
 
 -- the number that each place has
 abbrev pub Places : Type 0
 Places = Place → ℕ
 
--- the number of an agent: how many stand before it in the list
+-- the number that each agent has or had. Others may have it before and after it
+abbrev pub AgentNumbers : Type 0
+AgentNumbers = Agent → ℕ
+
+-- the number of an agent that has one now: how many stand before it in the list of those who have
 abbrev pub number_in : List Agent → Agent → ℕ
 number_in [] a = 0
 number_in (b ∷ bs) a = if same_agent b a then 0 else suc (number_in bs a)
@@ -32,7 +34,3 @@ abbrev pub NewAgentsAreOthers : Type 0
 NewAgentsAreOthers =
     (agents : List Agent) (a : Agent) → AreApart agents
     → IsNew agents a ↔ ((number : ℕ) (b : Agent) → HasNumber agents b number → b ≢ a)
-
--- places have these numbers, agents those of their list, and accesses their modes
-abbrev pub numbers_by : Places → List Agent → Numbers Agent Place Manner
-numbers_by places agents = record { agent = number_in agents; place = places; mode = mode_at }

@@ -11,7 +11,7 @@ use Rattle.tprocesses.specs.Values.{Value, Word, IsWord, stand_in, half_in, link
 use Rattle.tprocesses.specs.Changes.{Decrement}
 use Rattle.tprocesses.specs.Machine.{Agent, Process, Channel, Wire, Successor, Processor, role_at, offer_place}
 use Rattle.tprocesses.specs.Machine.{take_place}
-use Rattle.tprocesses.specs.Machine.{sender_to, is_ready, is_offered, is_met_at, is_passable, awaits_successor, step_of}
+use Rattle.tprocesses.specs.Machine.{sender_to, is_ready, is_due_at, is_met_at, is_passable, awaits_successor, step_of}
 use Rattle.tprocesses.specs.Machine.{process_machine}
 use Rattle.tcertify.specs.Running.{State}
 use Rattle.tcertify.specs.Seeing.{sights}
@@ -26,7 +26,7 @@ pub record AreOpenBy (plan : Plan) (s : State) : Type 0 where
   pub channel : (n c : ℕ) → are_open (process_machine plan) (Channel n c) s
       ≡ (is_met_at (Half n c Input) (half_in (s (Half n c Input)))
       && is_met_at (Half n c Output) (half_in (s (Half n c Output))))
-  -- a wire: there is a message at the one end, and it is asked for at the other
+  -- a wire: there is a message at the one end, and somebody waits for it at the other
   pub wire : (e f : End) → sender_to plan e ≡ Some f → are_open (process_machine plan) (Wire e) s
       ≡ (is_passable (offer_place (role_at plan f.node) f) (s (offer_place (role_at plan f.node) f))
       && is_passable (take_place (role_at plan e.node) e) (s (take_place (role_at plan e.node) e)))
@@ -50,14 +50,14 @@ pub record LeadsBy (plan : Plan) (a : Agent) (s : State) : Type 0 where
   pub channel : (n c : ℕ) (side : Side) (v : Value)
       → Contains (sights (step_of plan a) s) (record { place = Half n c side; value = v })
       → is_met_at (Half n c side) (half_in v) ≡ false → RunLeads plan a s (Channel n c)
-  -- a wire of which an end is seen at which nobody asks for a message
+  -- a wire of which an end is seen at which nobody waits for a message, alone or among others
   pub input : (e : End) (v : Value) → role_at plan e.node ≡ Processor
       → Contains (sights (step_of plan a) s) (record { place = LinkHalf e Input; value = v })
-      → is_offered (link_in v) ≡ false → RunLeads plan a s (Wire e)
+      → is_due_at Input (link_in v) ≡ false → RunLeads plan a s (Wire e)
   -- or at which nobody offers one
   pub output : (e f : End) (v : Value) → sender_to plan e ≡ Some f → role_at plan f.node ≡ Processor
       → Contains (sights (step_of plan a) s) (record { place = LinkHalf f Output; value = v })
-      → is_offered (link_in v) ≡ false → RunLeads plan a s (Wire e)
+      → is_due_at Output (link_in v) ≡ false → RunLeads plan a s (Wire e)
   -- a successor whose count is counted down
   pub count : (n k p : ℕ)
       → Contains (changes (step_of plan a) s) (record { place = WordAt n k; change = Decrement p })

@@ -1,8 +1,11 @@
 -- How the notes of what a step has touched are told to the check of races.
 -- Source: own choice.
-use Rattle.std.specs.Prelude.{◌+◌, List, All, map}
+use Rattle.std.specs.Prelude.{ℕ, ◌+◌, ◌⊎◌, List, All, map}
 use Rattle.tclocks.specs.declared.mode.Mode as clocks
 use Rattle.tclocks.specs.declared.mode.Mode.TheVariants as mode
+use Rattle.tclocks.specs.Checks.{Check}
+use Rattle.tclocks.specs.Own.{IsOwnYet}
+use Rattle.tclocks.specs.Followed.{HasCover}
 use Rattle.tcertify.specs.declared.notes.Mode.{Mode}
 use Rattle.tcertify.specs.declared.notes.Mode.TheVariants.{Looks, Claims, Puts, Lends, Engages, CountsDown, Adds}
 use Rattle.tcertify.specs.declared.notes.Mode.TheVariants.{Raises}
@@ -11,7 +14,7 @@ use Rattle.tcertify.specs.Priorities.{number_of}
 use Rattle.tcertify.specs.Walked.{Accessed}
 use Rattle.tcertify.specs.Notes.{IsNoted}
 use Rattle.tfollow.specs.Numbering.{Places}
-use Rattle.tfollow.specs.Following.{Told, IsTold}
+use Rattle.tfollow.specs.Following.{Told, IsTold, IsToldOrOwn}
 
 -- the mode in which a note is told
 abbrev pub told_mode : Mode → clocks.Mode
@@ -33,3 +36,12 @@ abbrev pub NotesAreTold : Type 0
 NotesAreTold =
     (places : Places) (notes : List Note) (accesses : List Accessed) → All (IsNoted places notes) accesses
     → All (IsTold places (map told_of notes)) accesses
+
+-- the same, if notes need not be told of which nobody else knows
+abbrev pub NotesAreToldOrOwn : Type 0
+NotesAreToldOrOwn =
+    (places : Places) (check : Check) (number : ℕ) (notes : List Note) (told : List Told) (accesses : List Accessed)
+    → All (IsNoted places notes) accesses
+    → All (λ note. HasCover told note.place (told_mode note.mode)
+    ⊎ IsOwnYet check number note.place (told_mode note.mode)) notes
+    → All (IsToldOrOwn places check number told) accesses

@@ -1,7 +1,8 @@
 -- What is known of a race where all that the check is told is true.
 -- Source: own choice.
-use Rattle.std.specs.Prelude.{ℕ, ◌≡◌, ◌≢◌, ◌<◌, true, List, [], ◌∷◌, ◌++◌, Contains, length, slice_index}
+use Rattle.std.specs.Prelude.{ℕ, ◌≡◌, ◌≢◌, ◌<◌, true, List, ◌∷◌, Contains, length, slice_index}
 use Rattle.tplan.specs.declared.plan.Plan.{Plan}
+use Rattle.tagents.specs.Groups.{AgreeOn}
 use Rattle.tagents.specs.Tables.{HasAccess}
 use Rattle.tagents.specs.Walks.{label_of}
 use Rattle.tagents.specs.WalkAccesses.{accesses_of_step}
@@ -13,8 +14,9 @@ use Rattle.tprocesses.specs.Machine.{Agent, process_machine}
 use Rattle.tprocesses.specs.Certified.{ProcessStep}
 use Rattle.tcertify.specs.Running.{State}
 use Rattle.tfollow.specs.Modes.{Manner, mode_at}
-use Rattle.tfollow.specs.Numbering.{Places}
+use Rattle.tfollow.specs.Numbering.{Places, AgentNumbers}
 use Rattle.tfollow.specs.Following.{Told, KeptAccess, IsDone, IsFollowed, IsFollowedStep, IsRefusedStep}
+use Rattle.tfollow.specs.Following.{number_by}
 
 -- a step accesses a place of this number, in this mode
 pub record Makes (plan : Plan) (places : Places) (step : ProcessStep) (number : ℕ) (mode : Mode) : Type 0 where
@@ -29,35 +31,39 @@ abbrev pub AreTrue : Plan → Places → ProcessStep → List Told → Type 0
 AreTrue plan places step told = (access : Told) → Contains told access → Makes plan places step access.place access.mode
 
 -- each access that is kept was made by the step to which it belongs
-abbrev pub KeepsTruth : Plan → Places → List Agent → List ProcessStep → Check → Type 0
-KeepsTruth plan places agents steps check =
+abbrev pub KeepsTruth : Plan → Places → AgentNumbers → List ProcessStep → Check → Type 0
+KeepsTruth plan places group steps check =
     (number : ℕ) (access : KeptAccess) → Contains (accesses_at check number) access
-    → (done : IsDone plan agents steps access.step) × Makes plan places done.label number access.mode
+    → (done : IsDone group steps access.step) × Makes plan places done.label number access.mode
 
 -- it is kept by a step that is told with true accesses, and where agents and places come. It speaks only of places,
 -- so clocks and slots do not matter to it
-pub record KeepsTruthOn (plan : Plan) (places : Places) (agents : List Agent) (steps : List ProcessStep)
-    (check : Check) (state : State) : Type 0 where
+pub record KeepsTruthOn (plan : Plan) (places : Places) (group : AgentNumbers) (agents : List Agent)
+    (steps : List ProcessStep) (check : Check) (state : State) : Type 0 where
   pub by_step : (number : ℕ) (a : Agent) (told : List Told) (after : Check) (state' : State)
-      → IsFollowedStep plan places agents number a told check after state state'
+      → IsFollowedStep plan places group agents number a told check after state state'
       → AreTrue plan places (label_of (process_machine plan) a state) told
-      → KeepsTruth plan places agents (label_of (process_machine plan) a state ∷ steps) after
-  pub by_agent : (a : Agent) → KeepsTruth plan places (agents ++ a ∷ []) steps (with_slot (with_agent check))
+      → KeepsTruth plan places group (label_of (process_machine plan) a state ∷ steps) after
+  pub by_agent : (more : AgentNumbers) → AgreeOn (number_by group) (number_by more) steps
+      → KeepsTruth plan places more steps (with_slot (with_agent check))
+  pub by_number : (more : AgentNumbers) → AgreeOn (number_by group) (number_by more) steps
+      → KeepsTruth plan places more steps check
   pub by_places : (more : Places) (count : ℕ)
       → ((p : Place) → places p < length check.places → more p ≡ places p)
-      → KeepsTruth plan more agents steps (with_places count check)
+      → KeepsTruth plan more group steps (with_places count check)
 
 abbrev pub TruthIsKept : Type 0
 TruthIsKept =
-    (plan : Plan) (places : Places) (agents : List Agent) (steps : List ProcessStep) (check : Check) (state : State)
-    → IsFollowed plan places agents steps check state → KeepsTruth plan places agents steps check
-    → KeepsTruthOn plan places agents steps check state
+    (plan : Plan) (places : Places) (group : AgentNumbers) (agents : List Agent) (steps : List ProcessStep)
+    (check : Check) (state : State)
+    → IsFollowed plan places group agents steps check state → KeepsTruth plan places group steps check
+    → KeepsTruthOn plan places group agents steps check state
 
 -- a race: an earlier step of another agent, and this one, access places of one number in modes that collide, and the
 -- step does not know of the earlier one
-pub record HasTrueRace (plan : Plan) (places : Places) (agents : List Agent) (steps : List ProcessStep) (number : ℕ)
+pub record HasTrueRace (plan : Plan) (places : Places) (group : AgentNumbers) (steps : List ProcessStep) (number : ℕ)
     (step : ProcessStep) (access : Told) (kept : KeptAccess) (after : Check) : Type 0 where
-  pub earlier : IsDone plan agents steps kept.step
+  pub earlier : IsDone group steps kept.step
   pub other : kept.step.agent ≢ number
   pub before : Makes plan places earlier.label access.place kept.mode
   pub now : Makes plan places step access.place access.mode
@@ -66,9 +72,10 @@ pub record HasTrueRace (plan : Plan) (places : Places) (agents : List Agent) (st
 
 abbrev pub TrueRefusalsTellTrueRaces : Type 0
 TrueRefusalsTellTrueRaces =
-    (plan : Plan) (places : Places) (agents : List Agent) (steps : List ProcessStep) (number : ℕ) (a : Agent)
+    (plan : Plan) (places : Places) (group : AgentNumbers) (agents : List Agent) (steps : List ProcessStep)
+    (number : ℕ) (a : Agent)
     (told : List Told) (access : Told) (kept : KeptAccess) (before after : Check) (state state' : State)
-    → IsFollowed plan places agents steps before state → KeepsTruth plan places agents steps before
-    → IsRefusedStep plan places agents number a told access kept before after state state'
+    → IsFollowed plan places group agents steps before state → KeepsTruth plan places group steps before
+    → IsRefusedStep plan places group agents number a told access kept before after state state'
     → Makes plan places (label_of (process_machine plan) a state) access.place access.mode
-    → HasTrueRace plan places agents steps number (label_of (process_machine plan) a state) access kept after
+    → HasTrueRace plan places group steps number (label_of (process_machine plan) a state) access kept after

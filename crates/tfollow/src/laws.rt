@@ -4,13 +4,13 @@ ghost use Rattle.tfollow.specs.Laws.{LeadsAreLeads, RunsTellLeads, FollowingBegi
 ghost use Rattle.tfollow.specs.Modes.{ModesTellCollisions};
 ghost use Rattle.tfollow.specs.Laws.{StepsAreFollowed, ClocksAreHandedOn, SlotsMayBeCleared, AgentsMayCome};
 ghost use Rattle.tfollow.specs.Laws.{PlacesMayCome, FollowedRunsAreCertificates, StopsAreTold};
-ghost use Rattle.tfollow.specs.Laws.{RefusalsTellRaces};
+ghost use Rattle.tfollow.specs.Laws.{NumbersMayBeTaken, RefusalsTellRaces, NewStepsAreUnknown};
 ghost use Rattle.tfollow.specs.Numbering.{NewAgentsAreOthers};
 ghost use Rattle.tfollow.specs.Lodging.{CountedStepsAreChained, LodgingBegins, LodgedAgentsMayCome, OthersKeepBerths};
 ghost use Rattle.tfollow.specs.Lodging.{BeginningsTakeBerths, EndsLeaveBerths, BerthsLetFewLive};
 ghost use Rattle.tfollow.specs.Opening.{AgentsAreOpenBy, StepsLeadBy};
 ghost use Rattle.tfollow.specs.Sites.{StepsAreAtSites};
-ghost use Rattle.tfollow.specs.Telling.{NotesAreTold};
+ghost use Rattle.tfollow.specs.Telling.{NotesAreTold, NotesAreToldOrOwn};
 ghost use Rattle.tfollow.specs.Truth.{TruthIsKept, TrueRefusalsTellTrueRaces};
 
 /// Accesses to one place that collide have modes that collide.
@@ -48,7 +48,8 @@ pub fn steps_are_at_sites()
 {}
 
 /// An agent whose gates are open does its step, which does not stop. The check begins it, joins the clock in the
-/// agent's slot, and is told accesses that cover all of its own. Then the run is followed on.
+/// agent's slot, and is told accesses. They cover all of its own, but for those that are covered by an earlier one of
+/// its number of which nobody else knows. Then the run is followed on.
 pub fn steps_are_followed()
     ensures { StepsAreFollowed }
 {}
@@ -56,6 +57,16 @@ pub fn steps_are_followed()
 /// The notes of what a step has touched, told to the check, cover all accesses that they tell of.
 pub fn notes_are_told()
     ensures { NotesAreTold }
+{}
+
+/// Notes need not be told of what was accessed with the number before, if nobody else knows of that.
+pub fn notes_are_told_or_own()
+    ensures { NotesAreToldOrOwn }
+{}
+
+/// Nobody else knows of steps that were not begun, and no access of one is kept.
+pub fn new_steps_are_unknown()
+    ensures { NewStepsAreUnknown }
 {}
 
 /// The clock of the last step may be handed on to an agent to which the step leads.
@@ -76,6 +87,12 @@ pub fn new_agents_are_others()
 /// An agent may come, with a clock and a slot.
 pub fn agents_may_come()
     ensures { AgentsMayCome }
+{}
+
+/// An agent to which the last step leads may take the number of one that has ended, if the clock of the step has
+/// counted all steps with this number.
+pub fn numbers_may_be_taken()
+    ensures { NumbersMayBeTaken }
 {}
 
 /// Places may come; those that the check does not have may get other numbers.
@@ -130,7 +147,7 @@ pub fn lodging_begins()
     ensures { LodgingBegins }
 {}
 
-/// Agents may come where processes are lodged.
+/// Agents that have done no step may have other numbers where processes are lodged.
 pub fn lodged_agents_may_come()
     ensures { LodgedAgentsMayCome }
 {}

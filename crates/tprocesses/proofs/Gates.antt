@@ -1,7 +1,7 @@
 -- Whose gate each place is.
 use Rattle.std.proofs.Common.{◌≡◌, ℕ, refl, sym, ap, ◌∙◌, subst, Bool, true, false, inl, inr, true≢false, Option}
 use Rattle.std.proofs.Common.{Some, None}
-use Rattle.std.specs.Prelude.{if◌then◌else◌, is_some}
+use Rattle.std.specs.Prelude.{◌&&◌, if◌then◌else◌, is_some}
 use Rattle.tproc.specs.declared.channels.Side.{Side}
 use Rattle.tproc.specs.declared.channels.Side.TheVariants.{Input, Output}
 use Rattle.tplan.specs.declared.plan.End.{End}
@@ -10,12 +10,13 @@ use Rattle.tplan.specs.Wires.{same_end, far_end}
 use Rattle.tplan.specs.Wires.{all_wires}
 use Rattle.tplan.proofs.Ends.{same_end-true}
 use Rattle.tagents.specs.Tidy.{IsOneOf, IsGate}
-use Rattle.tprocesses.specs.Places.{Name, Place, WordAt, Standing, Ports, Half, LinkHalf, Error, HaltOnError}
-use Rattle.tprocesses.specs.Places.{Successions, Messages, Kept}
+use Rattle.tprocesses.specs.Places.{Name, Place, WordAt, Standing, Ports, Half, LinkHalf, Unfinished, Error}
+use Rattle.tprocesses.specs.Places.{HaltOnError, Successions, Messages, Kept}
 use Rattle.tprocesses.specs.Values.{Value, IsStand, IsHalf, IsLink, stand_in, half_in, link_in}
 use Rattle.tprocesses.specs.Machine.{Agent, Process, Channel, Wire, Successor, Role, Processor, Source, Sink}
 use Rattle.tprocesses.specs.Machine.{Nothing, offer_place, take_place, if_joined, joined_to, sender_to}
-use Rattle.tprocesses.specs.Machine.{gates_between, role_at, is_ready, is_offered, is_met_at, is_open, process_machine}
+use Rattle.tprocesses.specs.Machine.{gates_between, role_at, is_ready, is_due_at, is_met_at, is_passable, is_open}
+use Rattle.tprocesses.specs.Machine.{process_machine}
 use Rattle.tprocesses.specs.Choosing.{is_taken}
 use Rattle.tprocesses.proofs.Changing.{shut_wire}
 use Rattle.tprocesses.proofs.Safe.{Seen, Shut, Tells, IsShutTo}
@@ -270,10 +271,12 @@ module _ (p : Plan) where
       subst (λ (c : Agent). IsGate (process_machine p) c (Messages f)) w.wire gate in
       w.wire ∙ ap Wire (one_receiver w.«end» e f (messages_of w.«end» (sender_to p w.«end») f mine) from)
 
-  pub own_input : (e : End) (seen : Seen) → Shut p (Wire e) (LinkHalf e Input) seen
+  input_gate : (e : End) (b : Agent) → IsGate (process_machine p) b (LinkHalf e Input) → b ≡ Wire e
   unfolding is_wire_place
-  own_input e seen b other gate =
-      absurd (other (other_input e b gate (wire_gate b (LinkHalf e Input) refl gate)))
+  input_gate e b gate = other_input e b gate (wire_gate b (LinkHalf e Input) refl gate)
+
+  pub own_input : (e : End) (seen : Seen) → Shut p (Wire e) (LinkHalf e Input) seen
+  own_input e seen b other gate = absurd (other (input_gate e b gate))
 
   pub own_kept : (e : End) (seen : Seen) → Shut p (Wire e) (Kept e) seen
   unfolding is_wire_place
@@ -303,6 +306,10 @@ module _ (p : Plan) where
   pub ports_are_free : (a : Agent) (x : Name) (seen : Seen) → Shut p a (Ports x) seen
   unfolding may_be_gate
   ports_are_free a x seen = nobodys a (Ports x) seen refl
+
+  pub unfinished_is_free : (a : Agent) (e : End) (seen : Seen) → Shut p a (Unfinished e) seen
+  unfolding may_be_gate
+  unfinished_is_free a e seen = nobodys a (Unfinished e) seen refl
 
   pub successions_are_free : (a : Agent) (n w : ℕ) (seen : Seen) → Shut p a (Successions n w) seen
   unfolding may_be_gate
@@ -337,14 +344,30 @@ module _ (p : Plan) where
       (inr (inl refl)) in
       tells b other output (half_shut a n c Output v h b output)
 
-  wire_shut : (e f : End) (s : Side) (v : Value) → is_offered (link_in v) ≡ false
+  wire_shut : (e f : End) (s : Side) (v : Value) → is_due_at s (link_in v) ≡ false
       → is_open p (Wire e) (LinkHalf f s) v ≡ false
   wire_shut e f s (IsLink l) h = shut_wire (is_some (sender_to p e)) _ h
   wire_shut e f s _ h = shut_wire (is_some (sender_to p e)) _ refl
 
-  pub link_shut : (a : Agent) (f : End) (s : Side) (v : Value) → is_offered (link_in v) ≡ false
+  pub link_shut : (a : Agent) (f : End) (s : Side) (v : Value) → is_due_at s (link_in v) ≡ false
       → IsShutTo p a (LinkHalf f s) v
   unfolding is_wire_place
   link_shut a f s v h b gate =
       let w : IsWire b (LinkHalf f s) = wire_gate b (LinkHalf f s) refl gate in
       ap (λ (c : Agent). is_open p c (LinkHalf f s) v) w.wire ∙ wire_shut w.«end» f s v h
+
+  -- the input of a link is shut where nobody offers at the far end
+  pub unoffered_shut : (a : Agent) (e f : End) (v : Value) (t : Seen) → sender_to p e ≡ Some f
+      → is_passable (offer_place (role_at p f.node) f) v ≡ false → Tells p a (offer_place (role_at p f.node) f) v t
+      → Shut p a (LinkHalf e Input) t
+  unoffered_shut a e f v t from unoffered tells b other gate = let q = offer_place (role_at p f.node) f in
+      let offer : IsGate (process_machine p) (Wire e) q =
+      subst (λ z. IsOneOf q (gates_between p e z)) (sym from) (inl refl) in
+      tells b other (subst (λ (c : Agent). IsGate (process_machine p) c q) (sym (input_gate e b gate)) offer)
+      (ap (λ (c : Agent). is_open p c q v) (input_gate e b gate) ∙ shut_wire (is_some (sender_to p e)) _ unoffered)
+
+  -- and where there is no far end
+  pub unjoined_shut : (a : Agent) (e : End) (v : Value) → sender_to p e ≡ None → IsShutTo p a (LinkHalf e Input) v
+  unjoined_shut a e v none b gate =
+      ap (λ (c : Agent). is_open p c (LinkHalf e Input) v) (input_gate e b gate)
+      ∙ ap (λ z. is_some z && is_passable (LinkHalf e Input) v) none

@@ -12,6 +12,7 @@ mod SafeTouches
 mod Gates
 -- the steps of agents
 mod SafeParts
+mod SafeLinks
 mod SafeChoices
 mod SafeMessages
 mod SafeSteps
@@ -19,6 +20,7 @@ mod SafeSteps
 mod Quiet
 mod Plain
 mod PlainChoices
+mod PlainLinks
 pub mod Leaving
 pub mod Tally
 pub mod StepsTallied
@@ -28,5 +30,10 @@ mod StepsStood
 pub mod Living
 -- what a step shows of those that begin and end
 pub mod Lived
+-- that a process that has ended stays so
+mod Avoiding
+mod AvoidingMessages
+mod AvoidingChoices
+pub mod EndedStay
 -- all of it
 pub mod Tidy

@@ -10,7 +10,8 @@ use Rattle.tagents.specs.Agents.{Does}
 use Rattle.tagents.specs.Walks.{are_open}
 use Rattle.tagents.proofs.Walking.{is_step}
 use Rattle.tprocesses.specs.Places.{Place, Name, Standing, Population, same_name, same_place}
-use Rattle.tprocesses.specs.Values.{Value, Stand, Rests, Runs, Chosen, Ended, IsStand, stand_in, amount_in, IsAmount}
+use Rattle.tprocesses.specs.Values.{Value, Stand, Rests, Runs, Chosen, Listens, Ended, IsStand, stand_in, amount_in}
+use Rattle.tprocesses.specs.Values.{IsAmount}
 use Rattle.tprocesses.specs.Changes.{Change, Put, apply}
 use Rattle.tprocesses.specs.Parts.{Changed, made}
 use Rattle.tprocesses.specs.Standing.{is_absent}
@@ -119,6 +120,7 @@ ready_is_there : (p : Plan) (x : Name) (v : Value) → (is_open p (Process x) (S
 ready_is_there p x (IsStand (Rests c)) h = record { present = refl; lives = refl }
 ready_is_there p x (IsStand (Runs c)) h = record { present = refl; lives = refl }
 ready_is_there p x (IsStand (Chosen c)) h = record { present = refl; lives = refl }
+ready_is_there p x (IsStand (Listens channel c)) h = record { present = refl; lives = refl }
 ready_is_there p x _ h = absurd (true≢false (sym h))
 
 has_not_ended : (stand : Stand) → is_ended stand ≡ false → stand ≢ Ended

@@ -7,29 +7,29 @@ use Rattle.tword.specs.declared.span.Span.{Span}
 use Rattle.tword.specs.Stores.{Store}
 use Rattle.tword.specs.Touches.{Reads, is_aligned, word_place_break}
 use Rattle.tproc.specs.declared.channels.Side.{Side}
-use Rattle.tproc.specs.declared.channels.Side.TheVariants.{Output}
+use Rattle.tproc.specs.declared.channels.Side.TheVariants.{Input, Output}
 use Rattle.tproc.specs.Channels.{mode_of}
-use Rattle.tproc.specs.LinkChannels.{is_link, is_right_end}
+use Rattle.tproc.specs.LinkChannels.{is_link, is_right_end, link_of}
 use Rattle.tplan.specs.declared.plan.End.{End}
 use Rattle.tplan.specs.declared.plan.NodePlan.{NodePlan}
 use Rattle.tplan.specs.declared.plan.Plan.{Plan}
+use Rattle.tplan.specs.Wires.{end_at}
 use Rattle.tprocesses.specs.Places.{Name}
 use Rattle.tprocesses.specs.Values.{Value, Free, Receiving, Engaged, Context, Lent, Stand, Absent, Rests, Runs, Waits}
-use Rattle.tprocesses.specs.Values.{Chooses, Chosen, Ended, Request, Link, Offered, AreMessages}
+use Rattle.tprocesses.specs.Values.{Chooses, Chosen, Listens, Ended, Request, Link, Offered, AreMessages}
 use Rattle.tprocesses.specs.Values.{AreKept, stand_in}
 use Rattle.tprocesses.specs.Values.{half_in, link_in, flag_in}
 use Rattle.tprocesses.specs.Parts.{Part, stopping, require, unless, Breaks, Halts, FullSink, HasNoStep, ◌>>=◌}
 use Rattle.tprocesses.specs.Touching.{Site, word_number, word_count, word_for, words_for, unsent, touch, replaced, put}
 use Rattle.tprocesses.specs.Touching.{count_outputs, write_word_at, save, forgotten, kept}
 use Rattle.tprocesses.specs.Performing.{copied}
-use Rattle.tprocesses.specs.Standing.{known, ready, wakes, unsave, is_copied, takes_back, resumes}
+use Rattle.tprocesses.specs.Standing.{known, ready, wakes, unsave, takes_back, resumes}
 use Rattle.tprocesses.specs.ChannelMessages.{is_nobody, takes_half, meet}
-use Rattle.tprocesses.specs.LinkMessages.{is_empty, lends, takes_link, sent_by, node_sends, first_message, received_by}
-use Rattle.tprocesses.specs.LinkMessages.{node_receives, keeps}
+use Rattle.tprocesses.specs.LinkMessages.{is_empty, finished, lends, takes_link, sent_by, node_sends, first_message}
+use Rattle.tprocesses.specs.LinkMessages.{received_by, node_receives, keeps}
 use Rattle.tprocesses.specs.Scheduling.{communicates, sends_or_receives, sends_from_workspace, laid_down}
 use Rattle.tprocesses.specs.Instructions.{jumped, sets_error}
-use Rattle.tprocesses.specs.Machine.{Role, Processor, Source, Sink, Nothing, role_at, site_of, at_site, sends, receives}
-use Rattle.tprocesses.specs.Machine.{passes}
+use Rattle.tprocesses.specs.Machine.{Role, Processor, Source, Sink, Nothing, site_of, at_site, sends, receives}
 use Rattle.tprocesses.proofs.Quiet.{IsPlain, IsQuiet, quiet_is_plain, Makes, both, widen, Quiet, requires, unlesses}
 use Rattle.tprocesses.proofs.Quiet.{touches, words_have, all_have, puts, counts, writes_at, saves, unsents, copies}
 use Rattle.tprocesses.proofs.Quiet.{unsaves, knows, lend}
@@ -60,6 +60,7 @@ readies (Runs c) x lent = tt
 readies (Waits c) x lent = (tt, tt)
 readies (Chooses c) x lent = tt
 readies (Chosen c) x lent = tt
+readies (Listens channel c) x lent = tt
 readies Ended x lent = tt
 
 wake : (x : Name) (lent : Option Lent) → Plain (wakes x lent)
@@ -69,7 +70,7 @@ take_back : (s : Site) (lent : Option Lent) → Plain (takes_back s lent)
 take_back s None = tt
 take_back s (Some l) =
     quietly (count_outputs s (negsuc 0) l.buffer) _ (counts s (negsuc 0) l.buffer)
-    (λ y half. quietly (require (is_copied (link_in half)) HasNoStep) _ (requires (is_copied (link_in half)) HasNoStep)
+    (λ y unfinished. quietly (require (flag_in unfinished) HasNoStep) _ (requires (flag_in unfinished) HasNoStep)
     (λ z. (tt, tt)))
 
 pub resume : (s : Site) (x : Name) (c : Context) → Plain (resumes s x c)
@@ -103,6 +104,11 @@ meets s channel input output =
           (λ v. andthen (wakes output.process None) _ (wake output.process None) (λ w. (tt, (tt, tt))))),
     )))
 
+-- messages on links
+pub finish : (side : Side) (e : End) → Quiet (finished side e)
+finish Output e = λ unfinished. requires (not (flag_in unfinished)) (Breaks LinkBusy)
+finish Input e = tt
+
 take_link : (s : Site) (x : Name) (c : Context) (side : Side) (channel : ℕ) (buffer : Span)
     → Plain (takes_link s x c side channel buffer)
 take_link s x c side channel buffer =
@@ -113,19 +119,24 @@ take_link s x c side channel buffer =
     (requires (not (buffer.size == 0)) (Breaks ZeroLength))
     (λ u pending. quietly (require (is_empty (link_in pending)) (Breaks LinkBusy)) _
     (requires (is_empty (link_in pending)) (Breaks LinkBusy))
-    (λ v. (
+    (λ v. quietly (finished side (end_at s.number (link_of side channel))) _
+    (finish side (end_at s.number (link_of side channel)))
+    (λ l. (
       tt,
       quietly (save s c.wptr kept) _ (saves s c.wptr kept)
           (λ w. quietly (lends side s buffer) _ (lend side s buffer) (λ r. (tt, tt))),
-    )))))
+    ))))))
 
 sents : (s : Site) (f : End) (l : Link) → Plain (sent_by s f l)
 sents s f (Offered output) =
     quietly (touch s Reads output.buffer) _ (touches s Reads output.buffer)
     (λ words. (
       tt,
-      andthen (wakes output.process (Some (record { link = f.link; buffer = output.buffer }))) _
-          (wake output.process (Some (record { link = f.link; buffer = output.buffer }))) (λ y. tt),
+      (
+        tt,
+        andthen (wakes output.process (Some (record { link = f.link; buffer = output.buffer }))) _
+            (wake output.process (Some (record { link = f.link; buffer = output.buffer }))) (λ y. tt),
+      ),
     ))
 sents s f _ = tt
 
@@ -187,21 +198,15 @@ there p n step h = by (slice_get p.nodes n)
     by (Some plan) = h (site_of n plan)
     by None = tt
 
-send : (p : Plan) (r : Role) (f : End) → Plain (sends p r f)
+pub send : (p : Plan) (r : Role) (f : End) → Plain (sends p r f)
 send p Processor f = there p f.node (node_sends f) (λ s half. sents s f (link_in half))
 send p Source f = λ messages. first_messages f messages
 send p Sink f = tt
 send p Nothing f = tt
 
-take_in : (p : Plan) (r : Role) (e : End) (message : Store) → Plain (receives p r e message)
+pub take_in : (p : Plan) (r : Role) (e : End) (message : Store) → Plain (receives p r e message)
 take_in p Processor e message =
     there p e.node (node_receives message e) (λ s half. receive s e message (link_in half))
 take_in p Sink e message = λ messages. keep e message messages
 take_in p Source e message = tt
 take_in p Nothing e message = tt
-
-pub pass : (p : Plan) (f : Option End) (e : End) → Plain (passes p f e)
-pass p None e = tt
-pass p (Some f) e =
-    andthen (sends p (role_at p f.node) f) _ (send p (role_at p f.node) f)
-    (λ message. andthen (receives p (role_at p e.node) e message) _ (take_in p (role_at p e.node) e message) (λ y. tt))

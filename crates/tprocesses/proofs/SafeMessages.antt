@@ -15,23 +15,23 @@ use Rattle.tproc.specs.LinkChannels.{link_of, is_right_end}
 use Rattle.tplan.specs.declared.plan.End.{End}
 use Rattle.tplan.specs.declared.plan.Plan.{Plan}
 use Rattle.tplan.specs.Wires.{end_at}
-use Rattle.tprocesses.specs.Places.{Place, Name, Half, LinkHalf, Messages, Kept}
+use Rattle.tprocesses.specs.Places.{Place, Name, Half, LinkHalf, Unfinished, Messages, Kept}
 use Rattle.tprocesses.specs.Values.{Free, Receiving, Engaged, Context, Waits, Request, Holder, Nobody, TakenBy}
-use Rattle.tprocesses.specs.Values.{AwaitedBy, Link, Empty, Offered, Copied, Value, IsWord, IsHalf, IsLink}
-use Rattle.tprocesses.specs.Values.{AreMessages, AreKept, half_in, link_in}
+use Rattle.tprocesses.specs.Values.{AwaitedBy, Link, Empty, Offered, Value, IsWord, IsHalf, IsLink, IsFlag}
+use Rattle.tprocesses.specs.Values.{AreMessages, AreKept, half_in, link_in, flag_in}
 use Rattle.tprocesses.specs.Changes.{Put, free_word}
 use Rattle.tprocesses.specs.Parts.{change, Breaks, FullSink, HasNoStep}
 use Rattle.tprocesses.specs.Touching.{Site, word_number, word_count, word_place, part_of, replaced, kept, forgotten}
 use Rattle.tprocesses.specs.Standing.{forget}
 use Rattle.tprocesses.specs.ChannelMessages.{is_nobody, takes_half, meet, meet_if, channel_step}
-use Rattle.tprocesses.specs.LinkMessages.{is_empty, lends, takes_link, sent_by, node_sends, first_message}
+use Rattle.tprocesses.specs.LinkMessages.{is_empty, finished, lends, takes_link, sent_by, node_sends, first_message}
 use Rattle.tprocesses.specs.LinkMessages.{source_sends, received_by, node_receives, keeps, sink_receives}
-use Rattle.tprocesses.specs.Machine.{Agent, is_offered, is_met_at}
-use Rattle.tprocesses.proofs.Gates.{half_shut, link_shut}
+use Rattle.tprocesses.specs.Machine.{Agent, is_due_at, is_met_at}
+use Rattle.tprocesses.proofs.Gates.{half_shut, link_shut, unfinished_is_free}
 use Rattle.tprocesses.proofs.Safe.{Seen, Anything, Shut, Safely, andthen, nothing, stops, sees}
-use Rattle.tprocesses.proofs.Safe.{sees_fine, requires, requires_fine, unless_fine, puts, engages}
+use Rattle.tprocesses.proofs.Safe.{sees_fine, lighter, requires, requires_fine, unless_fine, puts, engages}
 use Rattle.tprocesses.proofs.SafeTouches.{unsent_safe, touch_safe, put_safe, save_safe, word_for_safe}
-use Rattle.tprocesses.proofs.SafeTouches.{words_for_safe, count_outputs_safe}
+use Rattle.tprocesses.proofs.SafeTouches.{words_for_safe, count_outputs_safe, still}
 use Rattle.tprocesses.proofs.SafeChoices.{lets_go_on_safe}
 use Rattle.tprocesses.proofs.SafeParts.{IsOwn, touch_fine, copied_fine, stands_safe, wakes_fine}
 
@@ -97,9 +97,16 @@ module _ (p : Plan) (a : Agent) where
       andthen p a (touch_safe p a s Writes buffer)
       (λ words. put_safe p a s Receiving buffer (replaced buffer words (replicate buffer.size None)))
 
-  empty_shut : (l : Link) → is_empty l ≡ true → is_offered l ≡ false
-  empty_shut Empty h = refl
-  empty_shut _ h = absurd (true≢false (sym h))
+  empty_shut : (side : Side) (l : Link) → is_empty l ≡ true → is_due_at side l ≡ false
+  empty_shut Input Empty h = refl
+  empty_shut Output Empty h = refl
+  empty_shut side _ h = absurd (true≢false (sym h))
+
+  finished_fine : {K : Seen → Type 0} (side : Side) (e : End) → Safely p a K (finished side e) Anything
+  finished_fine Output e =
+      andthen p a (sees_fine p a (Unfinished e))
+      (λ unfinished. requires_fine p a (not (flag_in unfinished)) (Breaks LinkBusy))
+  finished_fine Input e = nothing p a tt (λ t k. tt)
 
   pub takes_link_safe : {K : Seen → Type 0} (s : Site) (x : Name) (c : Context) (side : Side) (channel : ℕ)
       (buffer : Span) → IsOwn p a x → Safely p a K (takes_link s x c side channel buffer) Anything
@@ -109,21 +116,24 @@ module _ (p : Plan) (a : Agent) where
       (λ y. andthen p a (requires_fine p a (is_right_end side channel) (Breaks WrongEnd))
       (λ z. andthen p a (requires_fine p a (not (buffer.size == 0)) (Breaks ZeroLength))
       (λ u. andthen p a (sees p a (LinkHalf e side))
-      (λ pending. andthen p a (requires p a (is_empty (link_in pending)) (Breaks LinkBusy))
-      (λ v. andthen p a
-      (puts p a (LinkHalf e side) (IsLink (Offered (record { process = x; buffer = buffer })))
-      (λ t k. k.1 (link_shut p a e side pending (empty_shut (link_in pending) k.0))))
+      (λ pending. andthen p a
+      (lighter p a (λ t k. k) (λ v t k. k.1 (link_shut p a e side pending (empty_shut side (link_in pending) k.0)))
+      (requires p a (is_empty (link_in pending)) (Breaks LinkBusy)))
+      (λ v. andthen p a (still p a (LinkHalf e side) (finished_fine side e))
+      (λ l. andthen p a
+      (puts p a (LinkHalf e side) (IsLink (Offered (record { process = x; buffer = buffer }))) (λ t k. k))
       (λ w. andthen p a (save_safe p a s c.wptr kept)
       (λ r. andthen p a (lends_safe side s buffer)
-      (λ k. stands_safe p a x (Waits (forget c)) own))))))))
+      (λ k. stands_safe p a x (Waits (forget c)) own)))))))))
 
   sent_by_safe : {K : Seen → Type 0} (s : Site) (f : End) (l : Link) → IsMine (LinkHalf f Output)
       → Safely p a K (sent_by s f l) Anything
   sent_by_safe s f (Offered output) own =
       andthen p a (touch_fine p a s Reads output.buffer)
-      (λ words. andthen p a (puts_mine (LinkHalf f Output) (IsLink Copied) own)
+      (λ words. andthen p a (puts_mine (LinkHalf f Output) (IsLink Empty) own)
+      (λ u. andthen p a (puts_mine (Unfinished f) (IsFlag true) (unfinished_is_free p a f))
       (λ y. andthen p a (wakes_fine p a output.process (Some (record { link = f.link; buffer = output.buffer })))
-      (λ z. nothing p a (part_of output.buffer words) (λ t k. tt))))
+      (λ z. nothing p a (part_of output.buffer words) (λ t k. tt)))))
   sent_by_safe s f _ own = stops p a HasNoStep
 
   pub node_sends_safe : {K : Seen → Type 0} (f : End) (s : Site) → IsMine (LinkHalf f Output)

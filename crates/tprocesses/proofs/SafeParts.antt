@@ -9,21 +9,21 @@ use Rattle.tword.specs.Words.{word_below}
 use Rattle.tword.specs.Touches.{Mode, Reads, byte_span, is_aligned}
 use Rattle.tword.specs.Actions.{Action, answer, breaks, requiring, touching_word, touching_byte, touching}
 use Rattle.tword.specs.Actions.{writing_word, writing_byte, copying, descheduling, reading_saved, setting_saved}
-use Rattle.tproc.specs.declared.channels.Side.TheVariants.{Output}
 use Rattle.tplan.specs.declared.plan.Plan.{Plan}
 use Rattle.tplan.specs.Wires.{end_at}
-use Rattle.tprocesses.specs.Places.{Name, Standing, LinkHalf, Life, Population, HasRun}
+use Rattle.tprocesses.specs.Places.{Name, Standing, Ports, Unfinished, Life, Population, HasRun}
 use Rattle.tprocesses.specs.Values.{Free, Saved, Context, Lent, Stand, Absent, Rests, Runs, Waits, Chooses, Chosen}
-use Rattle.tprocesses.specs.Values.{Ended, Link, Empty, Copied, Value, IsWord, IsStand, IsLink, stand_in, link_in}
-use Rattle.tprocesses.specs.Values.{amount_in}
+use Rattle.tprocesses.specs.Values.{Ended, Value, IsWord, IsStand, IsFlag, ArePorts, stand_in, flag_in, amount_in}
+use Rattle.tprocesses.specs.Values.{ports_in}
 use Rattle.tprocesses.specs.Changes.{are_known}
 use Rattle.tprocesses.specs.Parts.{Part, Breaks, WordInUse, HasNoStep}
 use Rattle.tprocesses.specs.Touching.{Site, touch, touch_word_at, word_number, word_place, is_zero, part_of, kept}
 use Rattle.tprocesses.specs.Performing.{Performed, noted, copied, perform, is_next_known, after_next, bytes_if}
 use Rattle.tprocesses.specs.Standing.{stands, known, is_absent, comes, starts, ends, moves, ready, wakes}
-use Rattle.tprocesses.specs.Standing.{unsave_word, unsave_upper, unsave, is_copied, takes_back, resumes}
-use Rattle.tprocesses.specs.Machine.{Agent, is_ready, is_offered}
-use Rattle.tprocesses.proofs.Gates.{standing_shut, link_shut}
+use Rattle.tprocesses.specs.Standing.{unsave_word, unsave_upper, unsave, takes_back, resumes}
+use Rattle.tprocesses.specs.Choosing.{changes_ports}
+use Rattle.tprocesses.specs.Machine.{Agent, is_ready}
+use Rattle.tprocesses.proofs.Gates.{standing_shut, unfinished_is_free, ports_are_free}
 use Rattle.tprocesses.proofs.Safe.{Seen, Anything, Shut, Safely, IsShutTo, IsFine, andthen, nothing, stops, sees}
 use Rattle.tprocesses.proofs.Safe.{sees_fine, plain, chooses, requires, requires_fine, puts, adds, raises}
 use Rattle.tprocesses.proofs.SafeTouches.{touch_safe, write_safe, touch_word_at_safe, write_word_at_safe, save_safe}
@@ -147,21 +147,23 @@ module _ (p : Plan) (a : Agent) where
   unsave_fine : {K : Seen → Type 0} (s : Site) (w : ℕ) → Safely p a K (unsave s w) Anything
   unsave_fine s w = andthen p a (unsave_word_fine s (word_below w 3)) (λ x. unsave_upper_fine s w)
 
-  copied_shut : (l : Link) → is_copied l ≡ true → is_offered l ≡ false
-  copied_shut Copied h = refl
-  copied_shut _ h = absurd (true≢false (sym h))
-
   takes_back_fine : {K : Seen → Type 0} (s : Site) (lent : Option Lent) → Safely p a K (takes_back s lent) Anything
   takes_back_fine s None = nothing p a tt (λ t k. tt)
-  takes_back_fine s (Some l) = let q = LinkHalf (end_at s.number l.link) Output in
+  takes_back_fine s (Some l) = let e = end_at s.number l.link in
       andthen p a (count_outputs_safe p a s (negsuc 0) l.buffer)
-      (λ x. andthen p a (sees p a q)
-      (λ half. andthen p a (requires p a (is_copied (link_in half)) HasNoStep)
-      (λ y. puts p a q (IsLink Empty)
-      (λ t k. k.1 (link_shut p a (end_at s.number l.link) Output half (copied_shut (link_in half) k.0))))))
+      (λ x. andthen p a (sees_fine p a (Unfinished e))
+      (λ unfinished. andthen p a (requires_fine p a (flag_in unfinished) HasNoStep)
+      (λ y. puts p a (Unfinished e) (IsFlag false) (λ t k. unfinished_is_free p a e t))))
 
   pub resumes_safe : {K : Seen → Type 0} (s : Site) (x : Name) (c : Context) → IsOwn x
       → Safely p a K (resumes s x c) Anything
   resumes_safe s x c own =
       andthen p a (unsave_fine s c.wptr)
       (λ y. andthen p a (takes_back_fine s c.lent) (λ z. stands_safe x (Runs (record c { lent = None })) own))
+
+  -- which channels a process has enabled is no gate
+  pub changes_ports_safe : {K : Seen → Type 0} (x : Name) (next : List ℕ → List ℕ)
+      → Safely p a K (changes_ports x next) Anything
+  changes_ports_safe x next =
+      andthen p a (sees_fine p a (Ports x))
+      (λ ports. puts p a (Ports x) (ArePorts (next (ports_in ports))) (λ t k. ports_are_free p a x t))

@@ -27,8 +27,8 @@ use Rattle.tplan.specs.declared.plan.NodePlan.{NodePlan}
 use Rattle.tplan.specs.declared.plan.Plan.{Plan}
 use Rattle.tprocesses.specs.Places.{Place, Name, WordAt, Standing, LinkHalf, Messages, Kept, Error, HaltOnError}
 use Rattle.tprocesses.specs.Places.{FlagChanged, Successions, After, child_of}
-use Rattle.tprocesses.specs.Values.{Use, Last, Context, Stand, Rests, Runs, Chosen, IsWord, IsCount, IsFlag, word_in}
-use Rattle.tprocesses.specs.Values.{stand_in, flag_in, count_in}
+use Rattle.tprocesses.specs.Values.{Use, Last, Context, Stand, Rests, Runs, Chosen, Listens, IsWord, IsCount}
+use Rattle.tprocesses.specs.Values.{IsFlag, word_in, stand_in, link_in, flag_in, count_in}
 use Rattle.tprocesses.specs.Changes.{known_word, free_word}
 use Rattle.tprocesses.specs.Parts.{Part, stopping, Breaks, Halts, SawTheScheduler, WordInUse}
 use Rattle.tprocesses.specs.Parts.{HasNoStep}
@@ -45,8 +45,8 @@ use Rattle.tprocesses.specs.Instructions.{Flags, has_flags, flags_before, regist
 use Rattle.tprocesses.specs.Instructions.{flags_after, context_after, jumped, sets_error, followed, completed}
 use Rattle.tprocesses.specs.Instructions.{executed, runs}
 use Rattle.tprocesses.specs.Machine.{Agent, Process, Channel, Wire, Successor, Role, Processor, Source, Sink}
-use Rattle.tprocesses.specs.Machine.{Nothing, role_at, site_of, at_site, sender_to, process_step, sends, receives}
-use Rattle.tprocesses.specs.Machine.{passes, step_of}
+use Rattle.tprocesses.specs.Machine.{Nothing, role_at, site_of, at_site, sender_to, awaiting, sends, receives, asks}
+use Rattle.tprocesses.specs.Machine.{crosses, passes, stepped, step_of}
 use Rattle.tprocesses.proofs.Gates.{own_standing, own_half, own_word, own_input, own_kept, own_output, own_messages}
 use Rattle.tprocesses.proofs.Gates.{error_is_free, halting_is_free, successions_are_free}
 use Rattle.tprocesses.proofs.Safe.{Seen, Anything, Safely, IsFine, andthen, nothing, stops, sees_fine, plain}
@@ -60,6 +60,7 @@ use Rattle.tprocesses.proofs.SafeMessages.{sink_receives_safe}
 use Rattle.tprocesses.proofs.SafeChoices.{begins_choice_safe, enables_channel_safe, enables_skip_safe}
 use Rattle.tprocesses.proofs.SafeChoices.{awaits_choice_safe, goes_on_chosen_safe, disables_channel_safe}
 use Rattle.tprocesses.proofs.SafeChoices.{disables_skip_safe, ends_choice_safe}
+use Rattle.tprocesses.proofs.SafeLinks.{offers_fine, listens_safe, fires_safe}
 
 module _ (p : Plan) (a : Agent) where
   goes_on_safe : {K : Seen → Type 0} (x : Name) (c : Context) → IsOwn p a x → Safely p a K (goes_on x c) Anything
@@ -231,12 +232,13 @@ module _ (p : Plan) (a : Agent) where
       andthen p a (plain p a (perform_fine p a s [] (decode s.kind c.iptr)))
       (λ d. andthen p a (requires_fine p a d.known SawTheScheduler) (λ y. executed_safe s x c d.value own))
 
-  process_step_safe : {K : Seen → Type 0} (x : Name) (stand : Stand) (s : Site) → IsOwn p a x
-      → Safely p a K (process_step x stand s) Anything
-  process_step_safe x (Rests c) s own = resumes_safe p a s x c own
-  process_step_safe x (Runs c) s own = runs_safe s x c own
-  process_step_safe x (Chosen c) s own = goes_on_chosen_safe p a s x c own
-  process_step_safe x _ s own = stops p a HasNoStep
+  stepped_safe : {K : Seen → Type 0} (x : Name) (stand : Stand) (s : Site) → s.number ≡ x.node → IsOwn p a x
+      → Safely p a K (stepped p x stand s) Anything
+  stepped_safe x (Rests c) s home own = resumes_safe p a s x c own
+  stepped_safe x (Runs c) s home own = runs_safe s x c own
+  stepped_safe x (Chosen c) s home own = goes_on_chosen_safe p a s x c own
+  stepped_safe x (Listens channel c) s home own = listens_safe p a x channel c s home own
+  stepped_safe x _ s home own = stops p a HasNoStep
 
   at_site_safe : {A : Type 0} {K : Seen → Type 0} (n : ℕ) (step : Site → Part A)
       → ((plan : NodePlan) → Safely p a K (step (site_of n plan)) Anything) → Safely p a K (at_site p n step) Anything
@@ -264,21 +266,37 @@ module _ (p : Plan) (a : Agent) where
   receives_safe Source e message input mine = stops p a HasNoStep
   receives_safe Nothing e message input mine = stops p a HasNoStep
 
+  asks_fine : {K : Seen → Type 0} (r : Role) (e : End) → Safely p a K (asks r e) Anything
+  asks_fine Processor e =
+      andthen p a (sees_fine p a (LinkHalf e Input)) (λ half. nothing p a (awaiting (link_in half)) (λ t k. tt))
+  asks_fine Source e = nothing p a None (λ t k. tt)
+  asks_fine Sink e = nothing p a None (λ t k. tt)
+  asks_fine Nothing e = nothing p a None (λ t k. tt)
+
 module _ (p : Plan) where
-  passes_safe : (e : End) (t : Option End) → sender_to p e ≡ t → IsFine p (Wire e) (passes p t e)
-  passes_safe e (Some f) from =
+  crosses_safe : {K : Seen → Type 0} (e f : End) (asked : Option Name) → sender_to p e ≡ Some f
+      → Safely p (Wire e) K (crosses p f e asked) Anything
+  crosses_safe e f None from =
       andthen p (Wire e)
       (sends_safe p (Wire e) (role_at p f.node) f (own_output p e f from) (own_messages p e f from))
       (λ message. andthen p (Wire e)
       (receives_safe p (Wire e) (role_at p e.node) e message (own_input p e) (own_kept p e))
       (λ y. tells p (Wire e) message))
+  crosses_safe e f (Some x) from =
+      andthen p (Wire e) (offers_fine p (Wire e) f)
+      (λ offered. andthen p (Wire e) (requires_fine p (Wire e) offered HasNoStep)
+      (λ y. fires_safe p (Wire e) e x (own_input p e)))
+
+  passes_safe : (e : End) (t : Option End) → sender_to p e ≡ t → IsFine p (Wire e) (passes p t e)
+  passes_safe e (Some f) from =
+      andthen p (Wire e) (asks_fine p (Wire e) (role_at p e.node) e) (λ asked. crosses_safe e f asked from)
   passes_safe e None from = stops p (Wire e) HasNoStep
 
   pub step_of_safe : (a : Agent) → IsFine p a (step_of p a)
   step_of_safe (Process x) =
       andthen p (Process x) (sees_fine p (Process x) (Standing x))
-      (λ stood. at_site_safe p (Process x) x.node (process_step x (stand_in stood))
-      (λ plan. process_step_safe p (Process x) x (stand_in stood) (site_of x.node plan) (own_standing p x)))
+      (λ stood. at_site_safe p (Process x) x.node (stepped p x (stand_in stood))
+      (λ plan. stepped_safe p (Process x) x (stand_in stood) (site_of x.node plan) refl (own_standing p x)))
   step_of_safe (Channel n c) =
       at_site_safe p (Channel n c) n (channel_step c)
       (λ plan. channel_step_safe p (Channel n c) c (site_of n plan) (λ side. own_half p n c side))

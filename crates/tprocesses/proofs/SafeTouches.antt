@@ -10,6 +10,7 @@ use Rattle.tprocesses.specs.Places.{Place, WordAt, Sending}
 use Rattle.tprocesses.specs.Values.{Use, Free, Saved, Receiving, Engaged, Choosing}
 use Rattle.tprocesses.specs.Values.{Awaiting, Last, Spoilt, Value, IsWord}
 use Rattle.tprocesses.specs.Values.{word_in, amount_in}
+use Rattle.tprocesses.specs.Parts.{Part}
 use Rattle.tprocesses.specs.Touching.{Site, free_cells, unsent, settled, touch_word, touch_words, touch, is_zero}
 use Rattle.tprocesses.specs.Touching.{replaced, word_number, word_count, word_place, put_words, put, write, count_words}
 use Rattle.tprocesses.specs.Touching.{count_outputs, touch_word_at, write_word_at, save_word, save_upper, save}
@@ -50,6 +51,12 @@ module _ (p : Plan) (a : Agent) where
 
   pub stays_shut : (q : Place) → Stays p a (Shut p a q)
   stays_shut q s s' later shut b other gate = later b (shut b other gate)
+
+  -- a place that was seen shut still is known to be
+  pub still : {A : Type 0} {F : A → Seen → Type 0} {part : Part A} (q : Place)
+      → Safely p a (λ t. Shut p a q t) part F → Safely p a (λ t. Shut p a q t) part (λ x t. Shut p a q t)
+  still q h =
+      lighter p a (λ t known. known) (λ x t known. known.0) (keeping p a (stays_shut q) (λ t known. known) h)
 
   pub touch_word_safe : {K : Seen → Type 0} (s : Site) (mode : Mode) (k : ℕ)
       → Safely p a K (touch_word s mode k) (λ x t. Shut p a (WordAt s.number k) t)

@@ -22,7 +22,7 @@ use Rattle.tproc.specs.declared.channels.Side.TheVariants.{Input, Output}
 use Rattle.tplan.specs.declared.plan.NodePlan.{NodePlan}
 use Rattle.tplan.specs.declared.plan.Plan.{Plan}
 use Rattle.tprocesses.specs.Places.{Name, WordAt, Standing, Error, Life, HasRun, Successions, After, child_of}
-use Rattle.tprocesses.specs.Values.{Use, Last, Context, Stand, Rests, Runs, Chosen, Ended, IsWord, IsCount}
+use Rattle.tprocesses.specs.Values.{Use, Last, Context, Stand, Rests, Runs, Chosen, Listens, Ended, IsWord, IsCount}
 use Rattle.tprocesses.specs.Values.{word_in, stand_in, flag_in, amount_in, count_in}
 use Rattle.tprocesses.specs.Changes.{Put, Decrement, Raise, free_word, known_word, Add}
 use Rattle.tprocesses.specs.Parts.{Part, stopping, change, require, unless, Breaks, SawTheScheduler, WordInUse}
@@ -41,13 +41,14 @@ use Rattle.tprocesses.specs.Instructions.{sets_error, followed, completed, execu
 use Rattle.tprocesses.specs.ChannelMessages.{channel_step}
 use Rattle.tprocesses.specs.Uses.{Uses, uses_of, has_needed, known_writes}
 use Rattle.tprocesses.specs.Machine.{Agent, Process, Channel, Wire, Successor, site_of, at_site, sender_to}
-use Rattle.tprocesses.specs.Machine.{process_step, passes, step_of}
+use Rattle.tprocesses.specs.Machine.{listens, passes, stepped, step_of}
 use Rattle.tprocesses.proofs.Quiet.{requires, unlesses, unsents, touches_at, writes_at, saves, performs, knows}
 use Rattle.tprocesses.proofs.Quiet.{flags_looked_at, set_flags}
-use Rattle.tprocesses.proofs.Plain.{resume, send_or_receive, send_from, jump, set_error, pass}
+use Rattle.tprocesses.proofs.Plain.{resume, send_or_receive, send_from, jump, set_error}
 use Rattle.tprocesses.proofs.Plain.{there as plain_there}
 use Rattle.tprocesses.proofs.PlainChoices.{begin_choice, enable_channel, enable_skip, await_choice, go_on_chosen}
 use Rattle.tprocesses.proofs.PlainChoices.{disable_channel, disable_skip, end_choice, channels}
+use Rattle.tprocesses.proofs.PlainLinks.{pass, listen}
 use Rattle.tprocesses.proofs.Leaving.{Leaves, andthen, sees, chooses, lighter}
 use Rattle.tprocesses.proofs.Stood.{Stood, is_ended, NoneEnded, Holds, IsFresh, HasCome, IsSettled, Begun, Done, Goes}
 use Rattle.tprocesses.proofs.Stood.{holds_more, keeps, stopped, quietly, lives_on, still, stands_there, adds}
@@ -231,11 +232,13 @@ run s x c =
     (requires d.known SawTheScheduler)) (λ y. execute s x c d.value))
 
 -- the steps of all agents
-process : (x : Name) (stand : Stand) (s : Site) → Goes IsFresh (IsSettled (Process x)) (process_step x stand s)
-process x (Rests c) s = still (resumes s x c) (resume s x c)
-process x (Runs c) s = run s x c
-process x (Chosen c) s = still (goes_on_chosen s x c) (go_on_chosen s x c)
-process x _ s = stopped HasNoStep
+process : (p : Plan) (x : Name) (stand : Stand) (s : Site)
+    → Goes IsFresh (IsSettled (Process x)) (stepped p x stand s)
+process p x (Rests c) s = still (resumes s x c) (resume s x c)
+process p x (Runs c) s = run s x c
+process p x (Chosen c) s = still (goes_on_chosen s x c) (go_on_chosen s x c)
+process p x (Listens channel c) s = still (listens p x channel c s) (listen p x channel c s)
+process p x _ s = stopped HasNoStep
 
 there : {A : Type 0} {R T : List Stood → List ℕ → Type 0} (p : Plan) (m : ℕ) (step : Site → Part A)
     → ((plan : NodePlan) → Goes R T (step (site_of m plan))) → Goes R T (at_site p m step)
@@ -248,8 +251,8 @@ there {R = R} {T} p m step h = by (slice_get p.nodes m)
 step_goes : (p : Plan) (a : Agent) → Goes IsFresh (IsSettled a) (step_of p a)
 step_goes p (Process x) =
     andthen (sees (Standing x))
-    (λ stood. there p x.node (process_step x (stand_in stood))
-    (λ plan. process x (stand_in stood) (site_of x.node plan)))
+    (λ stood. there p x.node (stepped p x (stand_in stood))
+    (λ plan. process p x (stand_in stood) (site_of x.node plan)))
 step_goes p (Channel m c) = still (at_site p m (channel_step c)) (plain_there p m (channel_step c) (channels c))
 step_goes p (Wire e) = still (passes p (sender_to p e) e) (pass p (sender_to p e) e)
 step_goes p (Successor m k) =

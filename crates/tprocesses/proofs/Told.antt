@@ -8,7 +8,7 @@ use Rattle.tplan.specs.declared.plan.End.{End}
 use Rattle.tplan.specs.Wires.{same_end}
 use Rattle.tplan.proofs.Ends.{same_end-true, same_end-self}
 use Rattle.tprocesses.specs.Places.{Root, Image, After, Name, Place, WordAt, Sending, Standing, Ports, Half}
-use Rattle.tprocesses.specs.Places.{LinkHalf}
+use Rattle.tprocesses.specs.Places.{LinkHalf, Unfinished}
 use Rattle.tprocesses.specs.Places.{Error, HaltOnError, Life, Successions, Messages, Kept, Population, HasRun}
 use Rattle.tprocesses.specs.Places.{FlagChanged, same_path, same_root, same_name, same_side, same_place}
 use Rattle.tprocesses.specs.Machine.{Agent, Process, Channel, Wire, Successor, same_agent}
@@ -98,6 +98,7 @@ same_place-true (Standing x) (Standing y) h = ap Standing (same_name-true x y h)
 same_place-true (Ports x) (Ports y) h = ap Ports (same_name-true x y h)
 same_place-true (Half n c s) (Half m d t) h = same_half n c s m d t h
 same_place-true (LinkHalf e s) (LinkHalf f t) h = same_link e s f t h
+same_place-true (Unfinished e) (Unfinished f) h = ap Unfinished (same_end-true e f h)
 same_place-true (Error n) (Error m) h = ap Error (same_number n m h)
 same_place-true (HaltOnError n) (HaltOnError m) h = ap HaltOnError (same_number n m h)
 same_place-true (Life n w) (Life m v) h = same_pair Life n w m v h
@@ -116,6 +117,7 @@ same_place-self (Standing x) = same_name-self x
 same_place-self (Ports x) = same_name-self x
 same_place-self (Half n c s) = and_from _ _ (pair_itself n c) (same_side-self s)
 same_place-self (LinkHalf e s) = and_from _ _ (same_end-self e) (same_side-self s)
+same_place-self (Unfinished e) = same_end-self e
 same_place-self (Error n) = number_itself n
 same_place-self (HaltOnError n) = number_itself n
 same_place-self (Life n w) = pair_itself n w

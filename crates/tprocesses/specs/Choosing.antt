@@ -1,28 +1,31 @@
--- Alternatives over internal channels: a process enables channels, waits until one of them has a sender, and disables
--- them. The channel that has one makes the process go on, where no other one has.
+-- Alternatives: a process enables channels and inputs of links, waits until one of them has a sender, and disables
+-- them. The one that has a sender makes the process go on, where no other one has.
 -- Source: the Compiler Writer's Guide (1988): the words of an alternative, enabling and disabling. That a process waits
 -- beside its senders, and the checks: own choice.
 use Rattle.std.specs.Prelude.{ℕ, ◌==◌, ◌||◌, Bool, true, false, not, List, [], ◌∷◌, filter, Option, Some, None}
 use Rattle.std.specs.Prelude.{if◌then◌else◌}
 use Rattle.std.specs.List.{list_any}
 use Rattle.std.specs.Int.{w32, to_le_bytes}
-use Rattle.tword.specs.declared.breaks.Break.TheVariants.{ChannelMisuse}
+use Rattle.tword.specs.declared.breaks.Break.TheVariants.{ChannelMisuse, LinkBusy, Unaligned, WrongEnd}
 use Rattle.tword.specs.Stores.{as_cells}
 use Rattle.tword.specs.Words.{plus, word_below}
-use Rattle.tword.specs.Touches.{Reads, Writes, word_place_break}
+use Rattle.tword.specs.Touches.{Reads, Writes, is_aligned, word_place_break}
 use Rattle.tcpu.specs.Outcomes.{flag}
 use Rattle.tproc.specs.declared.channels.Side.TheVariants.{Input, Output}
 use Rattle.tproc.specs.Alternatives.{none_selected}
-use Rattle.tproc.specs.LinkChannels.{is_link}
+use Rattle.tproc.specs.LinkChannels.{is_link, is_right_end, link_of}
 use Rattle.tproc.specs.Queues.{state_word, not_process}
-use Rattle.tprocesses.specs.Places.{Name, Standing, Ports, Half, same_name}
+use Rattle.tplan.specs.declared.plan.End.{End}
+use Rattle.tplan.specs.Wires.{end_at}
+use Rattle.tprocesses.specs.Places.{Place, Name, Standing, Ports, Half, LinkHalf, same_name}
 use Rattle.tprocesses.specs.Values.{Use, Free, Engaged, Choosing, Awaiting, Choice}
-use Rattle.tprocesses.specs.Values.{Context, Stand, Chooses, Chosen, Holder, Nobody}
+use Rattle.tprocesses.specs.Values.{Context, Stand, Chooses, Chosen, Listens, Holder, Nobody, Link, Empty, Enabled}
+use Rattle.tprocesses.specs.Values.{Awaited, Fired, IsLink, link_in}
 use Rattle.tprocesses.specs.Values.{TakenBy, EnabledBy, AwaitedBy, IsWord, IsHalf, ArePorts, stand_in, half_in}
 use Rattle.tprocesses.specs.Values.{ports_in}
 use Rattle.tprocesses.specs.Changes.{Put, Engage, free_word, known_word, used_word}
 use Rattle.tprocesses.specs.Parts.{Part, gives, stopping, Doing, done, see, change, require, unless, Breaks}
-use Rattle.tprocesses.specs.Parts.{HasAlternatives, SeveralReady, WordInUse, ◌>>=◌, ◌>>◌}
+use Rattle.tprocesses.specs.Parts.{SeveralReady, WordInUse, HasNoStep, ◌>>=◌, ◌>>◌}
 use Rattle.tprocesses.specs.Touching.{Site, word_number, word_place, word_for, unsent, touch_word_at, write_word_at}
 use Rattle.tprocesses.specs.Touching.{save_upper}
 use Rattle.tprocesses.specs.Standing.{stands, goes_on, known, forget, unsave_upper}
@@ -100,12 +103,35 @@ enables s x channel = do
 abbrev pub drop_channel : Context → Context
 drop_channel c = record c { b = c.c }
 
+-- the place of the input of a link that a channel word names
+abbrev pub input_of : Site → (channel : ℕ) → Place
+input_of s channel = LinkHalf (end_at s.number (link_of Input channel)) Input
+
+-- a channel word names the input of a link
+abbrev pub is_input : (channel : ℕ) → Doing
+is_input channel = do
+  require (is_aligned channel) (Breaks Unaligned)
+  require (is_right_end Input channel) (Breaks WrongEnd)
+
+-- the input of a link is enabled, by what is pending there
+abbrev pub enables_pending : Site → Name → (channel : ℕ) → Link → Doing
+enables_pending s x channel Empty = change (input_of s channel) (Put (IsLink (Enabled x)))
+enables_pending s x channel (Enabled y) = require (same_name y x) (Breaks LinkBusy)
+enables_pending s x channel _ = stopping (Breaks LinkBusy)
+
+-- the input of a link is enabled, without a look at the far end
+abbrev pub enables_link : Site → Name → (channel : ℕ) → Doing
+enables_link s x channel = do
+  is_input channel
+  pending ← see (input_of s channel)
+  enables_pending s x channel (link_in pending)
+  changes_ports x (with_port channel)
+
 -- `enbc` with a guard that is true
 abbrev pub enables_port : Site → Name → Context → Doing
 enables_port s x c = do
   channel ← known c.b
-  require (not (is_link channel)) HasAlternatives
-  enables s x channel
+  (if is_link channel then enables_link s x channel else enables s x channel)
   goes_on x (drop_channel c)
 
 -- `enbc`
@@ -127,13 +153,30 @@ abbrev pub is_enabled_by : Name → Holder → Bool
 is_enabled_by x (EnabledBy y) = same_name y x
 is_enabled_by x _ = false
 
+-- a process has enabled the input of a link
+abbrev pub is_enabled_on : Name → Link → Bool
+is_enabled_on x (Enabled y) = same_name y x
+is_enabled_on x _ = false
+
+-- a process waits for a channel that it has enabled
+abbrev pub awaits_channel : Site → Name → (channel : ℕ) → Doing
+awaits_channel s x channel = do
+  half ← see (Half s.number channel Input)
+  require (is_enabled_by x (half_in half)) (Breaks ChannelMisuse)
+  change (Half s.number channel Input) (Put (IsHalf (AwaitedBy x)))
+
+-- a process waits for the input of a link that it has enabled
+abbrev pub awaits_link : Site → Name → (channel : ℕ) → Doing
+awaits_link s x channel = do
+  pending ← see (input_of s channel)
+  require (is_enabled_on x (link_in pending)) (Breaks LinkBusy)
+  change (input_of s channel) (Put (IsLink (Awaited x)))
+
 -- a process waits for channels that it has enabled
 abbrev pub awaits_ports : Site → Name → List ℕ → Doing
 awaits_ports s x [] = done
 awaits_ports s x (channel ∷ rest) = do
-  half ← see (Half s.number channel Input)
-  require (is_enabled_by x (half_in half)) (Breaks ChannelMisuse)
-  change (Half s.number channel Input) (Put (IsHalf (AwaitedBy x)))
+  (if is_link channel then awaits_link s x channel else awaits_channel s x channel)
   awaits_ports s x rest
 
 -- the word of the state changes its use
@@ -228,15 +271,66 @@ selects s x c ready = do
   sets_offset s c chosen
   goes_on x (answers chosen c)
 
+-- a process gives up the input of a link
+abbrev pub gives_up_link : Site → Name → (channel : ℕ) → Doing
+gives_up_link s x channel = do
+  change (input_of s channel) (Put (IsLink Empty))
+  changes_ports x (without_port channel)
+
+-- the guard of a link that did not make its process go on is not ready. The process has to listen
+abbrev pub begins_to_listen : Site → Name → Context → (channel : ℕ) → Doing
+begins_to_listen s x c channel = do
+  _ ← touch_word_at s Writes c.wptr
+  stands x (Listens channel (answers false c))
+
+-- the input of a link is disabled, by what is pending there: it is ready if it made the process go on
+abbrev pub disables_pending : Site → Name → Context → (channel : ℕ) → Link → Doing
+disables_pending s x c channel (Fired y) = do
+  require (same_name y x) (Breaks LinkBusy)
+  gives_up_link s x channel
+  selects s x c true
+disables_pending s x c channel (Enabled y) = do
+  require (same_name y x) (Breaks LinkBusy)
+  begins_to_listen s x c channel
+disables_pending s x c channel (Awaited y) = do
+  require (same_name y x) (Breaks LinkBusy)
+  begins_to_listen s x c channel
+disables_pending s x c channel _ = stopping (Breaks LinkBusy)
+
+-- the input of a link is disabled
+abbrev pub disables_link : Site → Name → Context → (channel : ℕ) → Doing
+disables_link s x c channel = do
+  is_input channel
+  pending ← see (input_of s channel)
+  disables_pending s x c channel (link_in pending)
+
+-- an internal channel is disabled
+abbrev pub disables_internal : Site → Name → Context → (channel : ℕ) → Doing
+disables_internal s x c channel = do
+  ready ← disables s x channel
+  selects s x c ready
+
 -- `disc` with a guard that is true. A channel that is disabled before `altwt` would leave its alternative ready without
 -- it, so the alternative must be one that need not wait
 abbrev pub disables_port : Site → Name → Context → Choice → Doing
 disables_port s x c choice = do
   require choice.skips WordInUse
   channel ← known c.c
-  require (not (is_link channel)) HasAlternatives
-  ready ← disables s x channel
-  selects s x c ready
+  (if is_link channel then disables_link s x c channel else disables_internal s x c channel)
+
+-- a process has enabled the input of a link, which did not make it go on
+abbrev pub is_unfired_by : Name → Link → Bool
+is_unfired_by x (Enabled y) = same_name y x
+is_unfired_by x (Awaited y) = same_name y x
+is_unfired_by x _ = false
+
+-- a process that has listened goes on
+abbrev pub goes_on_unfired : Site → Name → (channel : ℕ) → Context → Doing
+goes_on_unfired s x channel c = do
+  pending ← see (input_of s channel)
+  require (is_unfired_by x (link_in pending)) HasNoStep
+  gives_up_link s x channel
+  goes_on x c
 
 -- `disc`
 abbrev pub disables_channel : Site → Name → Context → Doing
@@ -269,14 +363,14 @@ requires_silence s channel = do
   output ← see (Half s.number channel Output)
   require (not (is_taken (half_in output))) SeveralReady
 
--- none is sent on these but on one
+-- none is sent on these channels but on one; links are not looked at
 abbrev pub requires_no_other : Site → (channel : ℕ) → List ℕ → Doing
 requires_no_other s channel [] = done
 requires_no_other s channel (d ∷ rest) = do
-  (if d == channel then done else requires_silence s d)
+  (if (d == channel) || is_link d then done else requires_silence s d)
   requires_no_other s channel rest
 
--- a process that waits for channels. Else another channel has made it go on already
+-- a process that waits for channels. Else another channel or a link has made it go on already
 abbrev pub waiting : Stand → Part Context
 waiting (Chooses c) = gives c
 waiting _ = stopping SeveralReady
@@ -289,4 +383,12 @@ lets_go_on s channel x = do
   ports ← see (Ports x)
   requires_no_other s channel (ports_in ports)
   change (Half s.number channel Input) (Put (IsHalf (EnabledBy x)))
+  stands x (Chosen (with_choice true c))
+
+-- the input of a link makes the process go on that waits for it and for others
+abbrev pub fires : End → Name → Doing
+fires e x = do
+  stood ← see (Standing x)
+  c ← waiting (stand_in stood)
+  change (LinkHalf e Input) (Put (IsLink (Fired x)))
   stands x (Chosen (with_choice true c))

@@ -11,11 +11,11 @@ use Rattle.tplan.specs.declared.plan.Plan.{Plan}
 use Rattle.tplan.specs.Wires.{end_at}
 use Rattle.tplan.specs.Examples.{node_plan, sender, receiver}
 use Rattle.tagents.specs.Walks.{next_step, steps_clash, step_leads}
-use Rattle.tprocesses.specs.Places.{Place, Name, Image, After, WordAt, Sending, Standing, Messages, Kept}
+use Rattle.tprocesses.specs.Places.{Place, Name, Image, After, WordAt, Sending, Standing, Unfinished, Messages, Kept}
 use Rattle.tprocesses.specs.Places.{FlagChanged}
 use Rattle.tprocesses.specs.Values.{Value, Stand, Ended, IsAmount, IsFlag, AreMessages, AreKept, word_in, stand_in}
 use Rattle.tprocesses.specs.Changes.{are_known, known_word}
-use Rattle.tprocesses.specs.Parts.{Reason, Breaks, Halts, HasAlternatives, SeveralReady, SawTheScheduler, WordInUse}
+use Rattle.tprocesses.specs.Parts.{Reason, Breaks, Halts, SeveralReady, SawTheScheduler, WordInUse}
 use Rattle.tprocesses.specs.Parts.{FullSink, Deed}
 use Rattle.tprocesses.specs.Touching.{word_number}
 use Rattle.tprocesses.specs.Machine.{Agent, Process, Channel, Wire, Successor, process_machine}
@@ -38,11 +38,11 @@ state_after p [] s = Some s
 state_after p (a ∷ rest) s = unless_stopped (state_after p rest) (step_in p a s)
 
 -- from the opening of a plan
-abbrev after : Plan → List Agent → Option (Place → Value)
+abbrev pub after : Plan → List Agent → Option (Place → Value)
 after p agents = state_after p agents (opening_state p)
 
 -- the word at an address, where its bytes are known
-abbrev word_then : Option (Place → Value) → (node address : ℕ) → Option ℕ
+abbrev pub word_then : Option (Place → Value) → (node address : ℕ) → Option ℕ
 word_then None n a = None
 word_then (Some s) n a = known_word (word_in (s (WordAt n (word_number a)))).cells
 
@@ -61,7 +61,7 @@ has_ended (Some s) x = is_ended (stand_in (s (Standing x)))
     is_ended _ = false
 
 -- why the next step of an agent stops, if it does
-abbrev reason_then : Plan → Option (Place → Value) → Agent → Option Reason
+abbrev pub reason_then : Plan → Option (Place → Value) → Agent → Option Reason
 reason_then p None a = None
 reason_then p (Some s) a = reason_of (step_in p a s)
   where
@@ -70,11 +70,11 @@ reason_then p (Some s) a = reason_of (step_in p a s)
     reason_of (Some (d, s')) = d.stops
 
 -- whether an agent has a step
-abbrev has_step : Plan → Option (Place → Value) → Agent → Option Bool
+abbrev pub has_step : Plan → Option (Place → Value) → Agent → Option Bool
 has_step p s a = option_map (λ state. is_some (step_in p a state)) s
 
 -- one node with these processes and segments
-abbrev one_node : List Segment → List Started → Plan
+abbrev pub one_node : List Segment → List Started → Plan
 one_node segments processes =
     record {
       timeslice = 1024;
@@ -84,18 +84,18 @@ one_node segments processes =
       sinks = [];
     }
 
-abbrev segment : ℕ → List ℕ → Segment
+abbrev pub segment : ℕ → List ℕ → Segment
 segment address bytes = record { address = address; bytes = bytes }
 
-abbrev started : ℕ → ℕ → Started
+abbrev pub started : ℕ → ℕ → Started
 started wdesc iptr = record { wdesc = wdesc; iptr = iptr }
 
 -- a process of the image
-abbrev image : (node k : ℕ) → Name
+abbrev pub image : (node k : ℕ) → Name
 image n k = record { node = n; root = Image k; path = [] }
 
 -- n steps of a process
-abbrev times : ℕ → Name → List Agent
+abbrev pub times : ℕ → Name → List Agent
 times n x = replicate n (Process x)
 
 -- `ldc 4; stl 0; ldl 0; adc 1; stl 1; stopp`: it goes on from its rest, and does six instructions
@@ -224,6 +224,19 @@ pair-over : sending_then (after pair (both_come ++ (Wire (end_at 1 2) ∷ times 
     ≡ Some (IsAmount (pos 0))
 unfolding computes sender receiver node_plan
 pair-over = refl
+
+-- until then its output is unfinished
+abbrev unfinished_then : Option (Place → Value) → Option Value
+unfinished_then s = option_map (λ state. state (Unfinished (end_at 0 1))) s
+
+pair-unfinished : unfinished_then (after pair (both_come ++ Wire (end_at 1 2) ∷ [])) ≡ Some (IsFlag true)
+unfolding computes sender receiver node_plan
+pair-unfinished = refl
+
+pair-finished : unfinished_then (after pair (both_come ++ (Wire (end_at 1 2) ∷ times 1 (image 0 0))))
+    ≡ Some (IsFlag false)
+unfolding computes sender receiver node_plan
+pair-finished = refl
 
 -- the first process starts a second one, each ends with `endp`, and the last goes on as their successor
 abbrev two_ends : Plan
@@ -455,7 +468,7 @@ unfolding computes
 par-other_order = refl
 
 -- the label of the next step of an agent after the steps of these
-abbrev label_after : Plan → List Agent → Agent → Option ProcessStep
+abbrev pub label_after : Plan → List Agent → Agent → Option ProcessStep
 label_after p agents a =
     option_and_then (λ s. option_map (λ x. x.0) (next_step (process_machine p) a s)) (after p agents)
 
@@ -464,10 +477,10 @@ abbrev told_of : (ProcessStep → ProcessStep → Bool) → Option ProcessStep �
 told_of test (Some e) (Some f) = Some (test e f)
 told_of test _ _ = None
 
-abbrev do_clash : Plan → Option ProcessStep → Option ProcessStep → Option Bool
+abbrev pub do_clash : Plan → Option ProcessStep → Option ProcessStep → Option Bool
 do_clash p e f = told_of (steps_clash (process_machine p)) e f
 
-abbrev does_lead : Plan → Option ProcessStep → Option ProcessStep → Option Bool
+abbrev pub does_lead : Plan → Option ProcessStep → Option ProcessStep → Option Bool
 does_lead p e f = told_of (step_leads (process_machine p)) e f
 
 -- two processes have gone on from their rests; `stl 0` of the first writes the word at #80000100, the other one that or
@@ -657,33 +670,3 @@ stops-open_choice : reason_then (beside_another (0x24 ∷ 0xf3 ∷ 0x21 ∷ 0xf5
     ≡ Some WordInUse
 unfolding computes
 stops-open_choice = refl
-
--- after `alt` a process does this; its w(2) has the address of the input of link 2
-abbrev about_link : List ℕ → Plan
-about_link code =
-    one_node (segment 0x8000_0080 (0x24 ∷ 0xf3 ∷ code) ∷ segment 0x8000_0208 (0x18 ∷ 0 ∷ 0 ∷ 0x80 ∷ []) ∷ [])
-    (started 0x8000_0201 0x8000_0080 ∷ [])
-
--- `ldl 2; ldc 1; enbc`
-abbrev enabling : Plan
-enabling = about_link (0x72 ∷ 0x41 ∷ 0x24 ∷ 0xf8 ∷ [])
-
-enables-link : reason_then enabling (after enabling (times 4 (image 0 0))) (Process (image 0 0)) ≡ Some HasAlternatives
-unfolding computes
-enables-link = refl
-
--- `enbs` with this guard, then `ldl 2; ldc 1; ldc 0; disc`: a channel is disabled only in an alternative that need not
--- wait
-abbrev disabling : (skips : ℕ) → Plan
-disabling skips =
-    about_link ((0x40 + skips) ∷ 0x24 ∷ 0xf9 ∷ 0x72 ∷ 0x41 ∷ 0x40 ∷ 0x22 ∷ 0xff ∷ [])
-
-disables-link : reason_then (disabling 1) (after (disabling 1) (times 7 (image 0 0))) (Process (image 0 0))
-    ≡ Some HasAlternatives
-unfolding computes
-disables-link = refl
-
-disables-too_early : reason_then (disabling 0) (after (disabling 0) (times 7 (image 0 0))) (Process (image 0 0))
-    ≡ Some WordInUse
-unfolding computes
-disables-too_early = refl

@@ -36,3 +36,4 @@ pub mod Certified
 pub mod Lives
 -- runs of small programs
 pub mod Examples
+pub mod LinkExamples

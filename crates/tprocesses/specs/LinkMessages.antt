@@ -12,11 +12,12 @@ use Rattle.tproc.specs.declared.channels.Side.TheVariants.{Input, Output}
 use Rattle.tproc.specs.LinkChannels.{link_of, is_right_end}
 use Rattle.tplan.specs.declared.plan.End.{End}
 use Rattle.tplan.specs.Wires.{end_at}
-use Rattle.tprocesses.specs.Places.{Name, LinkHalf, Messages, Kept}
-use Rattle.tprocesses.specs.Values.{Free, Receiving, Context, Waits, Link, Empty, Offered, Copied, Value, IsLink}
-use Rattle.tprocesses.specs.Values.{AreMessages, AreKept, link_in}
+use Rattle.tprocesses.specs.Places.{Name, LinkHalf, Unfinished, Messages, Kept}
+use Rattle.tprocesses.specs.Values.{Free, Receiving, Context, Waits, Link, Empty, Offered, Value, IsLink, IsFlag}
+use Rattle.tprocesses.specs.Values.{AreMessages, AreKept, link_in, flag_in}
 use Rattle.tprocesses.specs.Changes.{Put}
-use Rattle.tprocesses.specs.Parts.{Part, gives, Doing, stopping, see, change, require, Breaks, FullSink, HasNoStep}
+use Rattle.tprocesses.specs.Parts.{Part, gives, Doing, done, stopping, see, change, require, Breaks, FullSink}
+use Rattle.tprocesses.specs.Parts.{HasNoStep}
 use Rattle.tprocesses.specs.Parts.{◌>>=◌, ◌>>◌}
 use Rattle.tprocesses.specs.Touching.{Site, word_number, word_count, touch, words_for, part_of, replaced, put}
 use Rattle.tprocesses.specs.Touching.{count_outputs, save, kept}
@@ -26,6 +27,13 @@ use Rattle.tprocesses.specs.Standing.{stands, forget, wakes}
 abbrev pub is_empty : Link → Bool
 is_empty Empty = true
 is_empty _ = false
+
+-- the process of the last message from an end has gone on
+abbrev pub finished : Side → End → Doing
+finished Output e = do
+  unfinished ← see (Unfinished e)
+  require (not (flag_in unfinished)) (Breaks LinkBusy)
+finished Input e = done
 
 -- the buffer of a message that is pending: that of an output may be read, that of an input not be used
 abbrev pub lends : Side → Site → Span → Doing
@@ -44,6 +52,7 @@ takes_link s x c side channel buffer = let half = LinkHalf (end_at s.number (lin
   require (not (buffer.size == 0)) (Breaks ZeroLength)
   pending ← see half
   require (is_empty (link_in pending)) (Breaks LinkBusy)
+  finished side (end_at s.number (link_of side channel))
   change half (Put (IsLink (Offered (record { process = x; buffer = buffer }))))
   save s c.wptr kept
   lends side s buffer
@@ -53,7 +62,8 @@ takes_link s x c side channel buffer = let half = LinkHalf (end_at s.number (lin
 abbrev pub sent_by : Site → End → Link → Part Store
 sent_by s f (Offered output) = do
   words ← touch s Reads output.buffer
-  change (LinkHalf f Output) (Put (IsLink Copied))
+  change (LinkHalf f Output) (Put (IsLink Empty))
+  change (Unfinished f) (Put (IsFlag true))
   wakes output.process (Some (record { link = f.link; buffer = output.buffer }))
   gives (part_of output.buffer words)
 sent_by s f _ = stopping HasNoStep

@@ -47,3 +47,9 @@ abbrev pub StepsTellLives : Type 0
 StepsTellLives =
     (p : Plan) (n : ℕ) (s s' : Place → Value) (e : ProcessStep) → IsReached (machine_of p) (opening_state p) s
     → Does (machine_of p) s e s' → (machine_of p).stops e ≡ false → TellsLives n e s s'
+
+-- a process that has ended stays so
+abbrev pub EndedStayEnded : Type 0
+EndedStayEnded =
+    (p : Plan) (s s' : Place → Value) (e : ProcessStep) (x : Name) → Does (machine_of p) s e s'
+    → (machine_of p).stops e ≡ false → stand_in (s (Standing x)) ≡ Ended → stand_in (s' (Standing x)) ≡ Ended

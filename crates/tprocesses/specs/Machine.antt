@@ -1,26 +1,29 @@
 -- The process machine: its agents and their steps.
 -- Source: own choice.
-use Rattle.std.specs.Prelude.{ℕ, ◌==◌, ◌&&◌, ◌||◌, ◌+◌, nat_lt, Bool, true, false, List, [], ◌∷◌, length, Option, Some}
-use Rattle.std.specs.Prelude.{None, slice_get, is_some, if◌then◌else◌}
+use Rattle.std.specs.Prelude.{ℕ, ◌==◌, ◌&&◌, ◌||◌, ◌+◌, nat_lt, Bool, true, false, not, List, [], ◌∷◌, length, Option}
+use Rattle.std.specs.Prelude.{Some, None, slice_get, is_some, if◌then◌else◌}
 use Rattle.tword.specs.Stores.{Store}
+use Rattle.tproc.specs.declared.channels.Side.{Side}
 use Rattle.tproc.specs.declared.channels.Side.TheVariants.{Input, Output}
+use Rattle.tproc.specs.LinkChannels.{link_of}
 use Rattle.tplan.specs.declared.plan.End.{End}
 use Rattle.tplan.specs.declared.plan.NodePlan.{NodePlan}
 use Rattle.tplan.specs.declared.plan.Plan.{Plan}
 use Rattle.tagents.specs.Walks.{Walkers}
-use Rattle.tplan.specs.Wires.{same_end, far_end}
+use Rattle.tplan.specs.Wires.{end_at, same_end, far_end}
 use Rattle.tplan.specs.Wires.{all_wires}
 use Rattle.tprocesses.specs.Places.{Place, Name, WordAt, Standing, Half, LinkHalf, Messages, Kept, same_name}
 use Rattle.tprocesses.specs.Places.{same_place}
-use Rattle.tprocesses.specs.Values.{Value, Use, Last, Spoilt, Stand, Rests, Runs, Chosen, Holder, Link}
-use Rattle.tprocesses.specs.Values.{Offered, IsWord, IsStand}
-use Rattle.tprocesses.specs.Values.{IsHalf, IsLink, AreMessages, AreKept, stand_in}
+use Rattle.tprocesses.specs.Values.{Value, Use, Last, Spoilt, Context, Stand, Rests, Runs, Chosen, Listens, Holder}
+use Rattle.tprocesses.specs.Values.{Link, Offered, Awaited, IsWord, IsStand, IsHalf, IsLink, AreMessages, AreKept}
+use Rattle.tprocesses.specs.Values.{stand_in, link_in}
 use Rattle.tprocesses.specs.Changes.{Change, ChangeKind, apply, kind_of, commute, awakens}
-use Rattle.tprocesses.specs.Parts.{Part, Doing, stopping, telling, done, see, Deed, walk_of, HasNoStep, ◌>>=◌, ◌>>◌}
+use Rattle.tprocesses.specs.Parts.{Part, gives, Doing, stopping, telling, done, see, require, Deed, walk_of}
+use Rattle.tprocesses.specs.Parts.{HasNoStep, SeveralReady, ◌>>=◌, ◌>>◌}
 use Rattle.tprocesses.specs.Touching.{Site}
 use Rattle.tprocesses.specs.Standing.{resumes}
 use Rattle.tprocesses.specs.ChannelMessages.{channel_step}
-use Rattle.tprocesses.specs.Choosing.{goes_on_chosen, is_taken, is_awaited}
+use Rattle.tprocesses.specs.Choosing.{goes_on_chosen, goes_on_unfired, fires, is_taken, is_awaited}
 use Rattle.tprocesses.specs.LinkMessages.{node_sends, source_sends, node_receives, sink_receives}
 use Rattle.tprocesses.specs.Scheduling.{successor_step}
 use Rattle.tprocesses.specs.Instructions.{runs}
@@ -102,6 +105,7 @@ abbrev pub is_ready : Stand → Bool
 is_ready (Rests c) = true
 is_ready (Runs c) = true
 is_ready (Chosen c) = true
+is_ready (Listens channel c) = true
 is_ready _ = false
 
 -- a half of a link has a process that waits for a message
@@ -125,9 +129,19 @@ awaits_successor (Last p) = true
 awaits_successor Spoilt = true
 awaits_successor _ = false
 
+-- who waits for the input of a link and for others
+abbrev pub awaiting : Link → Option Name
+awaiting (Awaited x) = Some x
+awaiting _ = None
+
+-- a wire may go on at a half of a link: a process waits for a message, or at the input also for several ones
+abbrev pub is_due_at : Side → Link → Bool
+is_due_at Input l = is_offered l || is_some (awaiting l)
+is_due_at Output l = is_offered l
+
 -- a wire may go on at a place with this value
 abbrev pub is_passable : Place → Value → Bool
-is_passable (LinkHalf e side) (IsLink l) = is_offered l
+is_passable (LinkHalf e side) (IsLink l) = is_due_at side l
 is_passable (Messages e) (AreMessages messages) = has_messages messages
 is_passable (Kept e) (AreKept room messages) = true
 is_passable _ _ = false
@@ -140,7 +154,7 @@ is_open p (Wire e) q v = is_some (sender_to p e) && is_passable q v
 is_open p (Successor n k) q (IsWord v) = awaits_successor v.used
 is_open p _ q _ = false
 
--- the step of a process where it stands
+-- the step of a process where it stands, if it is one of its node alone
 abbrev pub process_step : Name → Stand → Site → Doing
 process_step x (Rests c) s = resumes s x c
 process_step x (Runs c) s = runs s x c
@@ -159,19 +173,60 @@ receives p Processor e message = at_site p e.node (node_receives message e)
 receives p Sink e message = sink_receives message e
 receives p _ e message = stopping HasNoStep
 
--- a message goes over a wire
-abbrev pub passes : Plan → Option End → End → Doing
-passes p (Some f) e = do
+-- the process at an end that waits for its input and for others, if there is one
+abbrev pub asks : Role → End → Part (Option Name)
+asks Processor e = do
+  half ← see (LinkHalf e Input)
+  gives (awaiting (link_in half))
+asks _ e = gives None
+
+-- whether a message is offered at an end
+abbrev pub offers : Plan → End → Part Bool
+offers p f = do
+  offered ← see (offer_place (role_at p f.node) f)
+  gives (is_passable (offer_place (role_at p f.node) f) offered)
+
+-- a message goes over, or, if a process waits for it and for others, it makes the process go on
+abbrev pub crosses : Plan → (from to : End) → Option Name → Doing
+crosses p f e None = do
   message ← sends p (role_at p f.node) f
   receives p (role_at p e.node) e message
   telling message done
+crosses p f e (Some x) = do
+  offered ← offers p f
+  require offered HasNoStep
+  fires e x
+
+-- the step of a wire
+abbrev pub passes : Plan → Option End → End → Doing
+passes p (Some f) e = do
+  asked ← asks (role_at p e.node) e
+  crosses p f e asked
 passes p None e = stopping HasNoStep
+
+-- nobody sends to an end
+abbrev pub requires_no_sender : Plan → Option End → Doing
+requires_no_sender p (Some f) = do
+  offered ← offers p f
+  require (not offered) SeveralReady
+requires_no_sender p None = done
+
+-- a process listens, and goes on where nobody sends to the input of its link
+abbrev pub listens : Plan → Name → (channel : ℕ) → Context → Site → Doing
+listens p x channel c s = do
+  requires_no_sender p (sender_to p (end_at x.node (link_of Input channel)))
+  goes_on_unfired s x channel c
+
+-- the step of a process where it stands
+abbrev pub stepped : Plan → Name → Stand → Site → Doing
+stepped p x (Listens channel c) s = listens p x channel c s
+stepped p x stood s = process_step x stood s
 
 -- the step of an agent
 abbrev pub step_of : Plan → Agent → Doing
 step_of p (Process x) = do
   stood ← see (Standing x)
-  at_site p x.node (process_step x (stand_in stood))
+  at_site p x.node (stepped p x (stand_in stood))
 step_of p (Channel n c) = at_site p n (channel_step c)
 step_of p (Wire e) = passes p (sender_to p e) e
 step_of p (Successor n k) = at_site p n (successor_step k)

@@ -12,8 +12,9 @@ use Rattle.tplan.specs.declared.plan.NodePlan.{NodePlan}
 use Rattle.tplan.specs.declared.plan.SourcePlan.{SourcePlan}
 use Rattle.tplan.specs.declared.plan.SinkPlan.{SinkPlan}
 use Rattle.tplan.specs.declared.plan.Plan.{Plan}
-use Rattle.tprocesses.specs.Places.{Place, Root, Image, WordAt, Sending, Standing, Ports, Half, LinkHalf, Error}
-use Rattle.tprocesses.specs.Places.{HaltOnError, Life, Successions, Messages, Kept, Population, HasRun, FlagChanged}
+use Rattle.tprocesses.specs.Places.{Place, Root, Image, WordAt, Sending, Standing, Ports, Half, LinkHalf, Unfinished}
+use Rattle.tprocesses.specs.Places.{Error, HaltOnError, Life, Successions, Messages, Kept, Population, HasRun}
+use Rattle.tprocesses.specs.Places.{FlagChanged}
 use Rattle.tprocesses.specs.Values.{Value, Word, Free, Saved, Stand, Absent, Rests, Nobody, Empty, IsWord, IsStand}
 use Rattle.tprocesses.specs.Values.{IsHalf, IsLink, IsFlag, IsAmount, IsCount, ArePorts, AreMessages, AreKept}
 use Rattle.tprocesses.specs.Standing.{fresh}
@@ -96,6 +97,7 @@ opening_state p (Standing x) = IsStand (of_node p x.node Absent (stand_of x.root
 opening_state p (Ports x) = ArePorts []
 opening_state p (Half n c side) = IsHalf Nobody
 opening_state p (LinkHalf e side) = IsLink Empty
+opening_state p (Unfinished e) = IsFlag false
 opening_state p (Error n) = IsFlag false
 opening_state p (HaltOnError n) = IsFlag false
 opening_state p (Life n w) = IsAmount (pos (of_node p n 0 (lives w)))

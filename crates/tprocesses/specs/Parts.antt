@@ -16,9 +16,7 @@ pub data Reason : Type 0 where
   Halts : Reason
   -- a register or a byte decides that the scheduler may have changed
   SawTheScheduler : Reason
-  -- an alternative over a link
-  HasAlternatives : Reason
-  -- the scheduler decides which of several channels an alternative chooses
+  -- the scheduler, or the timing of links, decides which of several channels an alternative chooses
   SeveralReady : Reason
   -- a word is touched that is in use as a channel, as a count or for an alternative
   WordInUse : Reason

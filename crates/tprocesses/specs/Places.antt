@@ -37,6 +37,8 @@ pub data Place : Type 0 where
   Half : (node channel : ℕ) → Side → Place
   -- the input, or the output, of a link
   LinkHalf : End → Side → Place
+  -- a message from the end of a link has gone over, and its process has not gone on
+  Unfinished : End → Place
   -- the flags
   Error : ℕ → Place
   HaltOnError : ℕ → Place
@@ -85,6 +87,7 @@ same_place (Standing x) (Standing y) = same_name x y
 same_place (Ports x) (Ports y) = same_name x y
 same_place (Half n c s) (Half m d t) = (n == m) && (c == d) && same_side s t
 same_place (LinkHalf e s) (LinkHalf f t) = same_end e f && same_side s t
+same_place (Unfinished e) (Unfinished f) = same_end e f
 same_place (Error n) (Error m) = n == m
 same_place (HaltOnError n) (HaltOnError m) = n == m
 same_place (Life n w) (Life m v) = (n == m) && (w == v)

@@ -6,11 +6,10 @@ use Rattle.std.specs.Prelude.{if◌then◌else◌}
 use Rattle.tword.specs.declared.breaks.Break.TheVariants.{Unaligned, AlreadyLive}
 use Rattle.tword.specs.Words.{word_below}
 use Rattle.tword.specs.Touches.{is_aligned}
-use Rattle.tproc.specs.declared.channels.Side.TheVariants.{Output}
 use Rattle.tplan.specs.Wires.{end_at}
-use Rattle.tprocesses.specs.Places.{Name, Standing, LinkHalf, Life, Population, HasRun}
-use Rattle.tprocesses.specs.Values.{Free, Saved, Context, Lent, Stand, Absent, Rests, Runs, Waits, Ended, Link}
-use Rattle.tprocesses.specs.Values.{Empty, Copied, IsWord, IsStand, IsLink, stand_in, link_in, amount_in}
+use Rattle.tprocesses.specs.Places.{Name, Standing, Unfinished, Life, Population, HasRun}
+use Rattle.tprocesses.specs.Values.{Free, Saved, Context, Lent, Stand, Absent, Rests, Runs, Waits, Ended, IsWord}
+use Rattle.tprocesses.specs.Values.{IsStand, IsFlag, stand_in, flag_in, amount_in}
 use Rattle.tprocesses.specs.Changes.{Put, Add, Raise}
 use Rattle.tprocesses.specs.Parts.{Part, gives, stopping, Doing, done, see, change, require, Breaks}
 use Rattle.tprocesses.specs.Parts.{SawTheScheduler, WordInUse, HasNoStep, ◌>>=◌, ◌>>◌}
@@ -124,19 +123,14 @@ unsave s w = do
   unsave_word s (word_below w 3)
   unsave_upper s w
 
--- the message of an output has gone over
-abbrev pub is_copied : Link → Bool
-is_copied Copied = true
-is_copied _ = false
-
 -- an output of a link is over: its buffer may be written, and its link is free
 abbrev pub takes_back : Site → Option Lent → Doing
 takes_back s None = done
 takes_back s (Some l) = do
   count_outputs s (negsuc 0) l.buffer
-  half ← see (LinkHalf (end_at s.number l.link) Output)
-  require (is_copied (link_in half)) HasNoStep
-  change (LinkHalf (end_at s.number l.link) Output) (Put (IsLink Empty))
+  unfinished ← see (Unfinished (end_at s.number l.link))
+  require (flag_in unfinished) HasNoStep
+  change (Unfinished (end_at s.number l.link)) (Put (IsFlag false))
 
 -- a process that rests goes on
 abbrev pub resumes : Site → Name → Context → Doing

@@ -67,6 +67,8 @@ pub data Stand : Type 0 where
   Chooses : Context → Stand
   -- it is ready, since one of them made it go on
   Chosen : Context → Stand
+  -- it is ready, and disables the input of a link that did not make it go on: nobody may send at the far end
+  Listens : (channel : ℕ) → Context → Stand
   Ended : Stand
 
 -- a process that waits at a channel, with its buffer
@@ -87,8 +89,12 @@ pub data Holder : Type 0 where
 pub data Link : Type 0 where
   Empty : Link
   Offered : Request → Link
-  -- the message of an output has gone over, and its process has not gone on
-  Copied : Link
+  -- a process that has enabled the input
+  Enabled : Name → Link
+  -- a process that waits for the input, and for others
+  Awaited : Name → Link
+  -- a process that the input made go on
+  Fired : Name → Link
 
 -- a value
 pub data Value : Type 0 where

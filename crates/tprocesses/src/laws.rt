@@ -3,7 +3,7 @@
 ghost use Rattle.tprocesses.specs.Depending.{FlagsAreTold, UsesAreTold};
 ghost use Rattle.tprocesses.specs.Certified.{CertificatesTellOfAllRuns, ProcessMachineIsLawful, ProcessMachineIsTidy};
 ghost use Rattle.tprocesses.specs.Certified.{HadFewIsEnough, LivingAreCounted, PlacesLetFewLive};
-ghost use Rattle.tprocesses.specs.Lives.{StepsTellLives};
+ghost use Rattle.tprocesses.specs.Lives.{EndedStayEnded, StepsTellLives};
 
 /// The process machine of each plan is tidy: what its agents are and where they look is told, changes that may come in
 /// either order do, and each agent leaves open the gates of all others.
@@ -57,4 +57,9 @@ pub fn living_are_counted()
 /// it begins one if its node has had another number of processes, and it ends its own if that has ended.
 pub fn steps_tell_lives()
     ensures { StepsTellLives }
+{}
+
+/// A process that has ended stays so after each step that does not stop.
+pub fn ended_stay_ended()
+    ensures { EndedStayEnded }
 {}

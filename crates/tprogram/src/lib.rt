@@ -4,7 +4,7 @@
 //! - `program`: what is asked for is done, and its fault told
 //! - `commands`: which call does each command
 //! - `exploring`, `certifying`: `explore` with its logs, and `certify`
-//! - `progress`: how far the run of a certificate has come
+//! - `progress`: how far an exploration or the run of a certificate has come
 #![tactic(auto)]
 
 mod certifying;

@@ -2,7 +2,7 @@
 use Rattle.std.proofs.Math.Nat.{suc-mul, mul-le-mul_right}
 use Rattle.std.proofs.Common.{length, ◌≤◌, ◌-◌, suc, arith, inl, inr, ◌≡◌, ℕ, ◌+◌, ◌*◌, refl, sym, ap, subst, ◌∙◌}
 use Rattle.std.proofs.Common.{List, [], ◌∷◌, false, Some, None}
-use Rattle.std.proofs.Common.{◌++◌, map, Option, append_assoc, append-nil}
+use Rattle.std.proofs.Common.{◌++◌, append_assoc, append-nil}
 use Rattle.std.specs.Prelude.{slice_range}
 use Rattle.tword.specs.Stores.{Store}
 use Rattle.tplan.specs.declared.plan.End.{End}
@@ -11,7 +11,7 @@ use Rattle.tagents.specs.Agents.{own}
 use Rattle.tagents.specs.Certificates.{IsCompleted, IsAlike}
 use Rattle.tprocesses.specs.Machine.{Wire}
 use Rattle.tseen.specs.Carried.{arrived, handed, AreKnownAs}
-use Rattle.tseen.proofs.Carrying.{arrived_more, known_more, map_more}
+use Rattle.tseen.proofs.Carrying.{arrived_more, known_more, messages_of, messages_more}
 use Rattle.tplan.specs.declared.event.Note.{Note}
 use Rattle.tplan.specs.declared.plan.Plan.{Plan}
 use Rattle.tnet.specs.Building.{node_count, fault_of, opening_configuration, ArePlanWords}
@@ -138,7 +138,7 @@ module _ (p : Plan) (steps : List ProcessStep) (end : State) (none : fault_of p 
       : Type 0 where
     last : IsSeen p c'
     spending : length taken + spent c seen ≤ spent c' last
-    more : End → List (Option Store)
+    more : End → List Store
     hands : (e : End) → handed p e last.reached.steps ≡ handed p e seen.reached.steps ++ more e
     known : (e : End) → AreKnownAs (more e) (arrived e notes)
 
@@ -221,9 +221,9 @@ module _ (p : Plan) (steps : List ProcessStep) (end : State) (none : fault_of p 
         record {
           first = handed p e seen.reached.steps;
           others = handed p e completed.rest;
-          all = sym (map_more (λ (l : ProcessStep). l.deed.message) (own (machine_of p) (Wire e) seen.reached.steps)
+          all = sym (messages_more (own (machine_of p) (Wire e) seen.reached.steps)
               (own (machine_of p) (Wire e) completed.rest))
-              ∙ ap (map (λ (l : ProcessStep). l.deed.message)) (completed.as_each (Wire e));
+              ∙ ap messages_of (completed.as_each (Wire e));
           known = known_so_far e;
         }
 
@@ -240,7 +240,7 @@ module _ (p : Plan) (steps : List ProcessStep) (end : State) (none : fault_of p 
     carried_all : IsAtEnd c → (e : End) → AreKnownAs (handed p e steps) (arrived e notes)
     carried_all over e =
         subst (λ z. AreKnownAs z (arrived e notes))
-        (ap (map (λ (l : ProcessStep). l.deed.message)) ((alike over).as_each (Wire e))) (known_so_far e)
+        (ap messages_of ((alike over).as_each (Wire e))) (known_so_far e)
 
     pub told : IsTold p steps end c taken notes
     told =

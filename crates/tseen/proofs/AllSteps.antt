@@ -8,7 +8,7 @@ use Rattle.tword.specs.Stores.{Store, bytes_at}
 use Rattle.tplan.specs.declared.event.Note.{Note}
 use Rattle.tplan.specs.declared.event.Note.TheVariants.{Msg}
 use Rattle.tseen.specs.Carried.{arrived, handed, AreKnownAs}
-use Rattle.tseen.proofs.Carrying.{knows_shown, hands_one, copy_told}
+use Rattle.tseen.proofs.Carrying.{given, knows_shown, hands_one, copy_told}
 use Rattle.tseen.proofs.Handed.{IsKnown, handed_known}
 use Rattle.tword.specs.declared.breaks.Break.{Break}
 use Rattle.tword.specs.declared.breaks.Break.TheVariants.{LengthMismatch}
@@ -18,11 +18,9 @@ use Rattle.tproc.specs.Machine.{Machine}
 use Rattle.tproc.specs.Hidden.{hidden}
 use Rattle.tproc.specs.Resting.{is_idle, has_step}
 use Rattle.tproc.specs.Steps.{step}
-use Rattle.tproc.specs.declared.offer.Offer.{Offer}
-use Rattle.tproc.specs.LinkChannels.{link_end}
 use Rattle.tproc.specs.Links.{notice}
 use Rattle.tproc.proofs.Resting.{step_is_there}
-use Rattle.tlink.specs.Roles.{Processor, Source, Sink, receives, role_woken, woken}
+use Rattle.tlink.specs.Roles.{Processor, Source, Sink, role_woken, woken}
 use Rattle.tplan.specs.declared.plan.End.{End}
 use Rattle.tplan.specs.declared.plan.SourcePlan.{SourcePlan}
 use Rattle.tplan.specs.declared.plan.SinkPlan.{SinkPlan}
@@ -39,24 +37,26 @@ use Rattle.treduction.specs.Firsts.{IsScript}
 use Rattle.tprocesses.specs.Machine.{Wire}
 use Rattle.tprocesses.specs.Certified.{ProcessStep, IsCertificate}
 use Rattle.tseen.specs.Shown.{Shows, ShowsNode}
-use Rattle.tseen.specs.Steps.{IsSteady, IsSteadyNode, AreSteady}
+use Rattle.tseen.specs.Steps.{IsSteadyNode, AreSteady, IsNoticeSeen, stand_at}
 use Rattle.tseen.specs.Linked.{IsStopped}
 use Rattle.tseen.specs.Whole.{IsSeen}
 use Rattle.tseen.proofs.After.{State}
 use Rattle.tseen.proofs.Copies.{some_is, copies_are_seen}
 use Rattle.tseen.proofs.Mismatches.{mismatches_stop}
-use Rattle.tseen.proofs.Notices.{noticed_only, notices_are_seen}
+use Rattle.tseen.proofs.Notices.{noticing, notices_are_seen}
 use Rattle.tseen.proofs.Wakes.{link_small, wakes_are_seen}
 use Rattle.tseen.proofs.SourceWakes.{source_wakes_are_seen}
 use Rattle.tseen.proofs.SteadyRuns.{runs_stay_steady}
 use Rattle.tseen.proofs.NodesCounted.{Kind, processor, source, sink, kind_at}
 use Rattle.tseen.proofs.ScriptsRest.{script_rests, source_link, sink_silent}
-use Rattle.tseen.proofs.WireEnds.{AreJoined, wire_joins, wire_proper}
+use Rattle.tseen.proofs.WireEnds.{AreJoined, wire_joins}
 use Rattle.tseen.proofs.Weights.{weight, weight_of, put_lighter, notice_lighter, processor_lighter, source_lighter}
 use Rattle.tseen.proofs.DueWires.{wire_due}
 use Rattle.tseen.proofs.OwnInstructions.{Leads}
 use Rattle.tseen.proofs.OwnSteps.{own_step}
-use Rattle.tseen.proofs.Reached.{GoesOn, Progress, never, on}
+use Rattle.tseen.proofs.Reached.{GoesOn, Progress, none_more, never, on}
+use Rattle.tplan.specs.declared.plan.NodePlan.{NodePlan}
+use Rattle.tprocesses.specs.Values.{Stand, Chooses}
 
 ok_is : {A : Type 0} {a b : A} → ◌≡◌ {A = Result A Break} (Ok a) (Ok b) → a ≡ b
 ok_is e = cc
@@ -89,7 +89,7 @@ pub record IsNextSeen (p : Plan) (c : Configuration) (seen : IsSeen p c) (notes 
   where
     pub next : IsSeen p c'
     pub progress : Progress p seen.state next.state seen.reached next.reached c c'
-    pub more : End → List (Option Store)
+    pub more : End → List Store
     pub hands : (e : End) → handed p e next.reached.steps ≡ handed p e seen.reached.steps ++ more e
     pub known : (e : End) → AreKnownAs (more e) (arrived e notes)
 
@@ -193,7 +193,8 @@ module _ (p : Plan) (steps : List ProcessStep) (end : State) (k : IsCertificate 
 
   -- a notice
   notice_seen : (c' : Configuration) (e : End) → IsNotice c e c' → IsNextSeen p c seen [] c'
-  notice_seen c' e l = still c' (notices_are_seen p c c' s e reached.built shows steady l) lighter
+  notice_seen c' e l =
+      by (stand_at s e) (notices_are_seen p c c' s e reached.built shows steady l)
     where
       wired : far_end (all_wires p) e ≡ Some l.far
       wired = ap (λ ws. far_end ws e) (sym shows.wires) ∙ l.wired
@@ -205,36 +206,37 @@ module _ (p : Plan) (steps : List ProcessStep) (end : State) (k : IsCertificate 
           by (inl (a, b)) = a.1
           by (inr (a, b)) = omega (arith, a.2)
 
-      lighter : weight_of c' < weight_of c
-      lighter = by (kind_at p c e.node l.node reached l.here)
-        where
-          differ : {o : Offer} → Some o ≡ None → ⊥
-          differ e = cc
+      there : (plan : NodePlan) × (slice_get p.nodes e.node ≡ Some plan)
+      there = noticing p reached.built c c' s e shows l
 
-          by : Kind p e.node → weight_of c' < weight_of c
-          by (processor plan planned) =
-              let there = shows.processors e.node plan planned in
-              let shown : ShowsNode s e.node plan (shows.named e.node) (shows.sent e.node) l.node =
-              subst (ShowsNode s e.node plan (shows.named e.node) (shows.sent e.node)) (some_is (sym there.1 ∙ l.here))
-              there.2 in
-              let ready : IsSteady l.node = (steady e.node l.node l.here).steady shown.role in
-              put_lighter c c' e.node l.node (record l.node { machine = hidden (notice e.link l.node.machine) }) l.here
-              l.after (notice_lighter l.node e.link small ready.placed.claimed.links
-              (noticed_only s e.node plan (shows.named e.node) (shows.sent e.node) l.node shown ready e.link)
-              l.not_noticed)
-          by (source j plan planned at) =
-              let r = source_role e.node l.node j plan l.here planned at in
-              absurd (true≢false (sym l.listens ∙ ap receives r.2))
-          by (sink j plan planned at) = no_room (wire_proper p reached.built e l.far wired)
-            where
-              no_room : (e.node < length p.nodes) ⊎ (e.link ≡ 0) → weight_of c' < weight_of c
-              no_room (inl h) = absurd (omega (arith, h, at))
-              no_room (inr zero) =
-                  let there = shows.sinks j plan planned in
-                  let same : there.0 ≡ l.node = some_is (sym there.1 ∙ ap (node_of c) (sym at) ∙ l.here) in
-                  absurd (differ (sym there.2.input
-                  ∙ ap (λ (z : Node). (link_end z.machine.control 0).input) same
-                  ∙ ap (λ i. (link_end l.node.machine.control i).input) (sym zero) ∙ l.no_input))
+      shown : ShowsNode s e.node there.0 (shows.named e.node) (shows.sent e.node) l.node
+      shown =
+          let old = shows.processors e.node there.0 there.1 in
+          subst (ShowsNode s e.node there.0 (shows.named e.node) (shows.sent e.node)) (some_is (sym old.1 ∙ l.here))
+          old.2
+
+      lighter : weight_of c' < weight_of c
+      lighter =
+          put_lighter c c' e.node l.node (record l.node { machine = hidden (notice e.link l.node.machine) }) l.here
+          l.after (notice_lighter l.node e.link small
+          ((steady e.node l.node l.here).steady shown.role).placed.claimed.links l.not_noticed)
+
+      by : (o : Option Stand) → IsNoticeSeen o p c' e s → IsNextSeen p c seen [] c'
+      by (Some (Chooses d)) (due, after) =
+          let first : GoesOn p (Wire e) s seen.reached = on p steps end k s seen.reached (Wire e) due in
+          record {
+            next = record {
+              state = first.state;
+              reached = first.reached;
+              shows = (after first.state first.makes).1;
+            };
+            progress = inl (omega (arith, first.longer));
+            more = λ d. [];
+            hands = λ d. none_more p (Wire e) s seen.reached first d (after first.state first.makes).0 _ refl
+                ∙ sym (append-nil (handed p d seen.reached.steps));
+            known = λ d. tt;
+          }
+      by _ now = still c' now lighter
 
   -- a message that goes over
   copy_seen : (c' : Configuration) (f e : End) → IsCopy c f e c' → IsNextSeen p c seen (note_of c (Copy f e)) c'
@@ -246,10 +248,10 @@ module _ (p : Plan) (steps : List ProcessStep) (end : State) (k : IsCertificate 
           shows = copies_are_seen p c c' s first.state f e reached.built shows steady l first.makes;
         };
         progress = inl (omega (arith, first.longer));
-        more = λ d. cond (same_end e d) (first.makes.label.deed.message ∷ []) [];
+        more = λ d. cond (same_end e d) (given first.makes.label.deed.message) [];
         hands = λ d. ap (handed p d) first.last ∙ hands_one p d (Wire e) s first.state first.makes seen.reached.steps;
         known = λ d.
-            subst (λ z. AreKnownAs (cond (same_end e d) (first.makes.label.deed.message ∷ []) []) (arrived d z))
+            subst (λ z. AreKnownAs (cond (same_end e d) (given first.makes.label.deed.message) []) (arrived d z))
             (sym (copy_told c c' f e l))
             (passes d (same_end e d) refl first.makes.label.deed.message
             (handed_known p c c' s first.state f e reached.built shows steady l first.makes));
@@ -263,7 +265,7 @@ module _ (p : Plan) (steps : List ProcessStep) (end : State) (k : IsCertificate 
 
       passes : (d : End) (b : Bool) → same_end e d ≡ b → (o : Option Store)
           → IsKnown p c c' s first.state f e reached.built shows steady l first.makes o
-          → AreKnownAs (cond (same_end e d) (o ∷ []) [])
+          → AreKnownAs (cond (same_end e d) (given o) [])
           (arrived d (Msg f e (bytes_at l.sender.machine.store l.out.buffer l.out.length) ∷ []))
       passes d true h (Some message) known = rw h (knows_shown message _ known, tt)
       passes d true h None known = absurd known

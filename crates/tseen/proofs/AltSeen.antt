@@ -155,7 +155,7 @@ module _ (p : Plan) (c : Configuration) (s : State) (n : ℕ) (x : Name) (k : Is
       no_alternative =
           ap (λ (v : Value). alternative_of (stand_in v)) running.stood
           ∙ alternative_none true false running.context
-          (no_choice s n store x running.context shown.choices running.home
+          (no_choice s n m.links store x running.context shown.choices running.home
           running.stood (subst (λ z. use_of s n (below z 3) ≡ Free) (sym running.registers.wptr) was_free))
 
       none_some : {b : Alternative} → None ≡ Some b → ⊥
@@ -173,7 +173,7 @@ module _ (p : Plan) (c : Configuration) (s : State) (n : ℕ) (x : Name) (k : Is
           one_is : {b b' : Alternative} → Some b ≡ Some b' → b ≡ b'
           one_is g = cc
 
-      new_choice : HasChoice s' n last x new
+      new_choice : HasChoice s' n m.links last x new
       new_choice =
           record {
             small = (
@@ -203,7 +203,7 @@ module _ (p : Plan) (c : Configuration) (s : State) (n : ℕ) (x : Name) (k : Is
               sym (ap (λ (v : Value). has_port e (ports_in v))
               (now.others (Ports x) refl ∙ a.on.keeps.others (Ports x) refl)) ∙ h
 
-      free_not_state : (y : Name) (b : Alternative) → HasChoice s n store y b → below b.wptr 3 ≢ below w 3
+      free_not_state : (y : Name) (b : Alternative) → HasChoice s n m.links store y b → below b.wptr 3 ≢ below w 3
       free_not_state y b it e = by b.runs (sym it.used ∙ ap (use_of s n) e ∙ was_free)
         where
           by : (r : Bool) → state_use r ≡ Free → ⊥
@@ -234,7 +234,7 @@ module _ (p : Plan) (c : Configuration) (s : State) (n : ℕ) (x : Name) (k : Is
                 (λ e. true≢false (sym (ap is_for_choice (ap (use_of s n) e ∙ was_free)) ∙ h));
             states = λ j e f. other_word_now j (λ h. f (sym h)) ∙ a.on.keeps.kept j (λ h. choosing_free (sym e ∙ h));
             state_cells = λ i e f. other_cell_stays store address enabling i lies f;
-            own_choice = λ b e. subst (HasChoice s' n last x) (sym (is_new b e)) new_choice;
+            own_choice = λ b e. subst (HasChoice s' n m.links last x) (sym (is_new b e)) new_choice;
             own_apart = λ y b f home is same b' e.
                 free_not_state y b (shown.choices.choices y b home is) (ap (λ z. below z 3) same);
             own_word = λ y b f home is it. free_not_state y b it;
@@ -277,7 +277,7 @@ module _ (p : Plan) (c : Configuration) (s : State) (n : ℕ) (x : Name) (k : Is
 
       alt_leads : LeadsTo p c n s'
       alt_leads =
-          gone_leads p c s n x k s' after count last d (plain_gone p c s n x k s' after count last d plain)
+          gone_leads p c s n x k s' after count m.links last d (plain_gone p c s n x k s' after count last d plain)
           (a.steps (record m { registers = after; count = count }) last runs)
 
     alt_then : After (begins_choice site x context) u (λ _ z. LeadsTo p c n z)

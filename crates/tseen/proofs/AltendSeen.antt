@@ -98,7 +98,7 @@ module _ (p : Plan) (c : Configuration) (s : State) (n : ℕ) (x : Name) (k : Is
     abbrev d : Context
     d = record context { iptr = plus context.iptr offset; choice = None }
 
-    it : HasChoice s n store x (own p c s n x k choice is)
+    it : HasChoice s n m.links store x (own p c s n x k choice is)
     it = has p c s n x k choice is
 
     abbrev put : State
@@ -197,7 +197,7 @@ module _ (p : Plan) (c : Configuration) (s : State) (n : ℕ) (x : Name) (k : Is
 
       altend_leads : LeadsTo p c n s'
       altend_leads =
-          gone_leads p c s n x k s' after count store d (plain_gone p c s n x k s' after count store d plain)
+          gone_leads p c s n x k s' after count m.links store d (plain_gone p c s n x k s' after count store d plain)
           (a.steps (record m { registers = after; count = count }) store runs)
 
   altend_then : (u : State) (a : IsAtOperation p c s n x k Altend u)

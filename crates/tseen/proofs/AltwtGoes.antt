@@ -1,5 +1,5 @@
 -- A process goes on after `altwt`.
-use Rattle.std.proofs.Common.{pos}
+use Rattle.std.proofs.Common.{pos, Result}
 use Rattle.std.proofs.Common.{◌≡◌, ◌≢◌, ℕ, ◌/◌, ◌%◌, ◌<◌, refl, sym, ap, subst, ◌∙◌, Bool, true, false}
 use Rattle.std.proofs.Common.{true≢false, length, Ok, arith, ◌⊎◌, inl, inr, Some, None, get_or, ◌^◌}
 use Rattle.tword.specs.Words.{word_below}
@@ -12,11 +12,16 @@ use Rattle.tcpu.specs.declared.registers.Registers.{Registers}
 use Rattle.tproc.specs.declared.ran.Ran.TheVariants as ran
 use Rattle.tproc.specs.Alternatives.{none_selected}
 use Rattle.tproc.specs.Channels.{enabling, ready}
-use Rattle.tproc.specs.Machine.{Control, claims_of}
+use Rattle.tproc.specs.Machine.{Control, Machine, claims_of}
+use Rattle.tproc.specs.Hidden.{hidden}
+use Rattle.tproc.specs.Steps.{step}
+use Rattle.tproc.specs.declared.ran.Ran.{Ran}
+use Rattle.tword.specs.declared.breaks.Break.{Break}
+use Rattle.tnet.proofs.Puts.{put-same}
 use Rattle.tproc.specs.Scheduler.{operation_step}
 use Rattle.tproc.proofs.WordsApart.{LiesWord, other_word}
 use Rattle.tplan.specs.declared.plan.Plan.{Plan}
-use Rattle.tnet.specs.Rendezvous.{Configuration}
+use Rattle.tnet.specs.Rendezvous.{Node, Configuration, IsLocal, node_of}
 use Rattle.treduction.specs.Plain.{rank}
 use Rattle.tprocesses.specs.Places.{Place, Name, WordAt, Sending, Standing}
 use Rattle.tprocesses.specs.Values.{Value, Use, Free, Choosing, Choice, Context, Runs, IsWord, IsStand, word_in}
@@ -127,7 +132,7 @@ module _ (p : Plan) (c : Configuration) (s : State) (n : ℕ) (x : Name) (k : Is
       (λ i b d. subst (λ j. use_of u n j ≡ Free) (omega (arith, b, d, touched.at)) touched.touched.free)
       (inr (touched.above, omega (arith, touched.at, touched.above, touched.within))))
 
-  pub it : HasChoice s n store x (own p c s n x k choice way.is)
+  pub it : HasChoice s n m.links store x (own p c s n x k choice way.is)
   it = has p c s n x k choice way.is
 
   choosing_free : Choosing ≡ Free → ⊥
@@ -176,8 +181,8 @@ module _ (p : Plan) (c : Configuration) (s : State) (n : ℕ) (x : Name) (k : Is
         ⊎ ((is_for_choice (use_of s n j) ≡ true) × (is_for_choice (use_of z n j) ≡ true))
     pub states : (j : ℕ) → use_of s n j ≡ Choosing → j ≢ below w 3 → z (WordAt n j) ≡ v (WordAt n j)
     pub others : (q : Place) → is_word_of n q ≡ false → is_stand_of x q ≡ false → z q ≡ s q
-    pub told : ((word_at last address ≡ ready) × IsReady z n x skips)
-        ⊎ ((word_at last address ≡ enabling) × IsUnready z n x skips)
+    pub told : ((word_at last address ≡ ready) × IsReady z n m.links x skips)
+        ⊎ ((word_at last address ≡ enabling) × IsUnready z n m.links x skips)
 
   module _ (z : State) (d : Context) (skips : Bool) (g : HasGoneOn z d skips)
       (is_ready : word_at store address ≡ ready) where
@@ -198,7 +203,7 @@ module _ (p : Plan) (c : Configuration) (s : State) (n : ℕ) (x : Name) (k : Is
         one_is : {b b' : Alternative} → Some b ≡ Some b' → b ≡ b'
         one_is g = cc
 
-    new_choice : HasChoice z n last x new
+    new_choice : HasChoice z n m.links last x new
     new_choice =
         record {
           small = (
@@ -211,8 +216,8 @@ module _ (p : Plan) (c : Configuration) (s : State) (n : ℕ) (x : Name) (k : Is
           unseen = subst (λ y. (word_of z n (below y 3)).cells ≡ unknown) (sym same_wptr) g.unseen;
           unsent = subst (λ y. amount_in (z (Sending n (below y 3))) ≡ pos 0) (sym same_wptr)
               (ap amount_in (g.others (Sending n (below w 3)) refl refl) ∙ it.unsent);
-          state = subst (λ y. ((word_at last (word_below y 3) ≡ ready) × IsReady z n x skips)
-              ⊎ ((word_at last (word_below y 3) ≡ enabling) × IsUnready z n x skips)) (sym same_wptr) g.told;
+          state = subst (λ y. ((word_at last (word_below y 3) ≡ ready) × IsReady z n m.links x skips)
+              ⊎ ((word_at last (word_below y 3) ≡ enabling) × IsUnready z n m.links x skips)) (sym same_wptr) g.told;
           unready = λ e. absurd (true≢false (sym e));
         }
 
@@ -230,7 +235,7 @@ module _ (p : Plan) (c : Configuration) (s : State) (n : ℕ) (x : Name) (k : Is
           only = λ i h. other_cell i (λ e. true≢false (sym (ap is_for_choice (ap (use_of s n) e ∙ own_free)) ∙ h));
           states = λ j e f. g.states j e f ∙ on.keeps.kept j (λ h. choosing_free (sym e ∙ h));
           state_cells = λ i e f. other_cell i (λ h. choosing_free (sym e ∙ ap (use_of s n) h ∙ own_free));
-          own_choice = λ b e. subst (HasChoice z n last x) (sym (is_new b e)) new_choice;
+          own_choice = λ b e. subst (HasChoice z n m.links last x) (sym (is_new b e)) new_choice;
           own_apart = λ y b f home e same b' i. no_other p c s n x k choice way.is y b f home e same;
           own_word = other_state p c s n x k choice way.is;
           own_keeps = λ e h. (new, new_is);
@@ -251,17 +256,47 @@ module _ (p : Plan) (c : Configuration) (s : State) (n : ℕ) (x : Name) (k : Is
     unfolding operation_step
     runs = rw (may_write, may_take, is_ready) refl
 
+    altwt_steps : step k.node.machine
+        ≡ Ok (record { control = record m { registers = after; count = count }; store = last }, ran.Instruction)
+    altwt_steps = a.steps (record m { registers = after; count = count }) last runs
+
     pub altwt_goes : LeadsTo p c n z
     altwt_goes =
-        gone_leads p c s n x k z after count last d (plain_gone p c s n x k z after count last d plain)
-        (a.steps (record m { registers = after; count = count }) last runs)
+        gone_leads p c s n x k z after count m.links last d (plain_gone p c s n x k z after count last d plain)
+        altwt_steps
+
+    -- the links are as they were
+    pub links_there : (node : Node) → node_of altwt_goes.configuration n ≡ Some node
+        → node.machine.control.links ≡ m.links
+    links_there node at =
+        ap (λ (z : Node). z.machine.control.links)
+        (one_node (sym at ∙ ap (λ w. node_of w n) local.after ∙ put-same c n now local.node local.here))
+        ∙ ap (λ (z : Machine). z.control.links)
+        (one_machine (sym local.steps ∙ ap (λ (z : Node). step z.machine) same ∙ altwt_steps))
+      where
+        local : IsLocal c n altwt_goes.configuration
+        local = altwt_goes.local
+
+        now : Node
+        now = record local.node { machine = hidden local.machine }
+
+        one_node : {b b' : Node} → Some b ≡ Some b' → b ≡ b'
+        one_node e = cc
+
+        same : local.node ≡ k.node
+        same = one_node (sym local.here ∙ k.here)
+
+        one_machine : {b b' : Machine} {r r' : Ran}
+            → ◌≡◌ {A = Result (Machine × Ran) Break} (Ok (b, r)) (Ok (b', r')) → b ≡ b'
+        one_machine {b} {b'} {r} {r'} e =
+            let both : ◌≡◌ {A = Machine × Ran} (b, r) (b', r') = cc in ap (λ (z : Machine × Ran). z.0) both
 
   -- the state of an alternative that need not wait
   pub skipping_ready : choice.skips ≡ true → word_at store address ≡ ready
   skipping_ready e = by it.state
     where
-      by : ((word_at store address ≡ ready) × IsReady s n x choice.skips)
-          ⊎ ((word_at store address ≡ unready_word false) × IsUnready s n x choice.skips)
+      by : ((word_at store address ≡ ready) × IsReady s n m.links x choice.skips)
+          ⊎ ((word_at store address ≡ unready_word false) × IsUnready s n m.links x choice.skips)
           → word_at store address ≡ ready
       by (inl f) = f.0
       by (inr f) = absurd (true≢false (sym e ∙ f.1.0))

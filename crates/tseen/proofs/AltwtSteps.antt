@@ -1,39 +1,65 @@
 -- What `altwt` does in the process machine.
 use Rattle.std.proofs.Common.{◌≡◌, ◌≢◌, ℕ, ◌%◌, refl, sym, ap, subst, ◌∙◌, Bool, true, false, true≢false, List, []}
-use Rattle.std.proofs.Common.{◌∷◌, Some, pos}
-use Rattle.std.specs.Prelude.{◌==◌, ◌&&◌, ◌||◌, if◌then◌else◌}
+use Rattle.std.proofs.Common.{◌∷◌, Some, pos, ◌⊎◌, inl, inr}
+use Rattle.std.specs.Prelude.{◌==◌, if◌then◌else◌}
 use Rattle.std.specs.Int.{w32, to_le_bytes}
-use Rattle.std.proofs.lemmas.Bool.{eq-eqb, eqb-true}
+use Rattle.std.proofs.lemmas.Bool.{eq-eqb, eqb-true, or_cases}
 use Rattle.tword.specs.Stores.{Store, as_cells}
 use Rattle.tword.specs.Words.{word_below}
 use Rattle.tword.specs.Touches.{Writes}
-use Rattle.tproc.specs.declared.channels.Side.TheVariants.{Input, Output}
+use Rattle.tproc.specs.declared.channels.Side.TheVariants.{Input}
 use Rattle.tproc.specs.Alternatives.{none_selected}
 use Rattle.tplan.specs.declared.plan.Plan.{Plan}
-use Rattle.tprocesses.specs.Places.{Place, Name, WordAt, Sending, Standing, Ports, Half}
+use Rattle.tprocesses.specs.Places.{Place, Name, WordAt, Sending, Standing, Ports, Half, LinkHalf, same_place}
+use Rattle.tplan.specs.Wires.{end_at}
+use Rattle.tproc.specs.LinkChannels.{is_link, link_of}
+use Rattle.tprocesses.proofs.Tidy.{process_machine_is_tidy}
 use Rattle.tprocesses.specs.Values.{Value, Free, Saved, Choosing, Awaiting, Choice, Context, Chooses, Runs, Holder}
 use Rattle.tprocesses.specs.Values.{Nobody, TakenBy, EnabledBy, AwaitedBy, IsWord, IsHalf, word_in, half_in, ports_in}
-use Rattle.tprocesses.specs.Values.{amount_in, IsStand}
+use Rattle.tprocesses.specs.Values.{amount_in, IsStand, Link, Empty, Offered, Enabled, Awaited, Fired, IsLink, link_in}
 use Rattle.tprocesses.specs.Changes.{Change, Put, used_word}
 use Rattle.tprocesses.specs.Parts.{Breaks, WordInUse, require}
-use Rattle.tword.specs.declared.breaks.Break.TheVariants.{ChannelMisuse}
+use Rattle.tword.specs.declared.breaks.Break.TheVariants.{ChannelMisuse, LinkBusy}
 use Rattle.tprocesses.specs.Touching.{Site, word_number, word_for, same_use, save_word, save_upper, forgotten}
 use Rattle.tprocesses.specs.Touching.{write_word_at}
 use Rattle.tprocesses.specs.Standing.{forget, goes_on}
-use Rattle.tprocesses.specs.Choosing.{has_port, is_enabled_by, awaits_ports, changes_use, under_way, awaits_choice}
+use Rattle.tprocesses.specs.Choosing.{has_port, is_enabled_by, is_enabled_on, awaits_ports, awaits_channel}
+use Rattle.tprocesses.specs.Choosing.{awaits_link}
+use Rattle.tprocesses.specs.Choosing.{changes_use, under_way, awaits_choice}
 use Rattle.tprocesses.specs.Choosing.{waits_for_ports}
 use Rattle.tseen.proofs.After.{State, changed, After, after_bind, after_require}
 use Rattle.tseen.proofs.Cells.{use_of}
-use Rattle.tseen.proofs.Finished.{is_stand_of, one_name, StandsNow, stands_then}
+use Rattle.tseen.proofs.Finished.{is_stand_of, one_name, place_itself, StandsNow, stands_then}
 use Rattle.tseen.proofs.OwnChoice.{under_way_then}
 use Rattle.tseen.proofs.Saving.{below, changed_at, save_word_then, other_touched, touched_before, with_used, putting}
 use Rattle.tseen.proofs.Written.{is_word_of, changed_there, changed_word, changed_else}
 use Rattle.tseen.proofs.Writing.{IsWordTouched, IsWordWritten, write_word_at_then}
 
--- the input of a channel of a node
+-- the input of a channel or of a link of a node
 abbrev pub is_input_of : ℕ → Place → Bool
 is_input_of n (Half m d Input) = n == m
+is_input_of n (LinkHalf e Input) = n == e.node
 is_input_of n _ = false
+
+-- where a channel is enabled, by whether it is a link
+abbrev pub port_place : (n : ℕ) → (link : Bool) → (channel : ℕ) → Place
+port_place n true d = LinkHalf (end_at n (link_of Input d)) Input
+port_place n false d = Half n d Input
+
+-- what stands there once a process waits for it
+abbrev pub awaited_value : Name → (link : Bool) → Value
+awaited_value x true = IsLink (Awaited x)
+awaited_value x false = IsHalf (AwaitedBy x)
+
+-- a process has enabled it
+abbrev pub IsEnabledAt : Name → (link : Bool) → Value → Type 0
+IsEnabledAt x true v = link_in v ≡ Enabled x
+IsEnabledAt x false v = half_in v ≡ EnabledBy x
+
+-- a process that had enabled an input waits for it
+abbrev pub IsTakenUp : Name → Value → Value → Type 0
+IsTakenUp x v w =
+    ((half_in v ≡ EnabledBy x) × (w ≡ IsHalf (AwaitedBy x))) ⊎ ((link_in v ≡ Enabled x) × (w ≡ IsLink (Awaited x)))
 
 enabled_is : Plan → (x : Name) (h : Holder) → is_enabled_by x h ≡ true → h ≡ EnabledBy x
 enabled_is p x (EnabledBy y) e = ap EnabledBy (one_name p y x e)
@@ -41,34 +67,132 @@ enabled_is p x Nobody e = absurd (true≢false (sym e))
 enabled_is p x (TakenBy q) e = absurd (true≢false (sym e))
 enabled_is p x (AwaitedBy y) e = absurd (true≢false (sym e))
 
--- a change of the input of a channel
-module _ (n d : ℕ) (v : Value) (s : State) where
-  pub input_there : changed (Half n d Input) (Put v) s (Half n d Input) ≡ v
-  input_there = rw (eq-eqb n n refl, eq-eqb d d refl) refl
+enabled_link_is : Plan → (x : Name) (h : Link) → is_enabled_on x h ≡ true → h ≡ Enabled x
+enabled_link_is p x (Enabled y) e = ap Enabled (one_name p y x e)
+enabled_link_is p x Empty e = absurd (true≢false (sym e))
+enabled_link_is p x (Offered q) e = absurd (true≢false (sym e))
+enabled_link_is p x (Awaited y) e = absurd (true≢false (sym e))
+enabled_link_is p x (Fired y) e = absurd (true≢false (sym e))
 
-  pub other_input : (e : ℕ) → (d == e) ≡ false
-      → changed (Half n d Input) (Put v) s (Half n e Input) ≡ s (Half n e Input)
-  other_input e h = rw (eq-eqb n n refl, h) refl
+-- what is awaited is not enabled
+not_enabled : (x : Name) (a b : Bool) → IsEnabledAt x b (awaited_value x a) → ⊥
+not_enabled x true true e = cc
+not_enabled x true false e = cc
+not_enabled x false true e = cc
+not_enabled x false false e = cc
 
-  pub no_input : (q : Place) → is_input_of n q ≡ false → changed (Half n d Input) (Put v) s q ≡ s q
-  no_input (Half m e Input) h = rw h refl
-  no_input (Half m e Output) h = by ((n == m) && (d == e))
+not_taken_up : (x : Name) (a : Bool) (w : Value) → IsTakenUp x (awaited_value x a) w → ⊥
+not_taken_up x true w (inl e) = not_enabled x true false e.0
+not_taken_up x true w (inr e) = not_enabled x true true e.0
+not_taken_up x false w (inl e) = not_enabled x false false e.0
+not_taken_up x false w (inr e) = not_enabled x false true e.0
+
+taken_up : (x : Name) (a : Bool) (v : Value) → IsEnabledAt x a v → IsTakenUp x v (awaited_value x a)
+taken_up x true v e = inr (e, refl)
+taken_up x false v e = inl (e, refl)
+
+-- a change of an input
+module _ (p : Plan) (n : ℕ) (link : Bool) (d : ℕ) (v : Value) (s : State) where
+  abbrev input_put : State
+  input_put = changed (port_place n link d) (Put v) s
+
+  pub input_there : input_put (port_place n link d) ≡ v
+  input_there = rw (place_itself p (port_place n link d)) refl
+
+  pub other_input : (q : Place) → same_place (port_place n link d) q ≡ false → input_put q ≡ s q
+  other_input q h = rw h refl
+
+  pub no_input : (q : Place) → is_input_of n q ≡ false → input_put q ≡ s q
+  no_input q h = by (same_place (port_place n link d) q) refl
     where
-      by : (b : Bool) → (if b && false then v else s (Half m e Output)) ≡ s (Half m e Output)
-      by true = refl
-      by false = refl
-  no_input _ h = refl
+      inside : (b : Bool) → is_input_of n (port_place n b d) ≡ true
+      inside true = eq-eqb n n refl
+      inside false = eq-eqb n n refl
+
+      by : (b : Bool) → same_place (port_place n link d) q ≡ b → input_put q ≡ s q
+      by false e = rw e refl
+      by true e =
+          let same : port_place n link d ≡ q =
+          (process_machine_is_tidy p).told.is_same_place (port_place n link d) q e in
+          absurd (true≢false (sym (inside link) ∙ ap (is_input_of n) same ∙ h))
 
 -- a process waits for these channels, which it had enabled
 pub record AreAwaited (n : ℕ) (x : Name) (ports : List ℕ) (s t : State) : Type 0 where
-  pub enabled : (d : ℕ) → has_port d ports ≡ true → half_in (s (Half n d Input)) ≡ EnabledBy x
-  pub awaited : (d : ℕ) → has_port d ports ≡ true → t (Half n d Input) ≡ IsHalf (AwaitedBy x)
-  pub others : (d : ℕ) → has_port d ports ≡ false → t (Half n d Input) ≡ s (Half n d Input)
+  pub enabled : (d : ℕ) → has_port d ports ≡ true → IsEnabledAt x (is_link d) (s (port_place n (is_link d) d))
+  pub awaited : (d : ℕ) → has_port d ports ≡ true → t (port_place n (is_link d) d) ≡ awaited_value x (is_link d)
+  pub each : (q : Place) → (t q ≡ s q) ⊎ IsTakenUp x (s q) (t q)
   pub rest : (q : Place) → is_input_of n q ≡ false → t q ≡ s q
 
 module _ (site : Site) (whole : site.size % 4 ≡ 0) (p : Plan) (x : Name) where
   abbrev n : ℕ
   n = site.number
+
+  module _ (channel : ℕ) (ports : List ℕ) (s : State)
+      (own : IsEnabledAt x (is_link channel) (s (port_place n (is_link channel) channel))) where
+    abbrev v : Value
+    v = awaited_value x (is_link channel)
+
+    abbrev place : Place
+    place = port_place n (is_link channel) channel
+
+    abbrev mid : State
+    mid = changed place (Put v) s
+
+    same_there : (q : Place) → same_place place q ≡ true → place ≡ q
+    same_there q e = (process_machine_is_tidy p).told.is_same_place place q e
+
+    mid_there : mid place ≡ v
+    mid_there = input_there p n (is_link channel) channel v s
+
+    one_more : (t : State) → AreAwaited n x ports mid t → AreAwaited n x (channel ∷ ports) s t
+    one_more t more =
+        record {
+          enabled = λ d e. enabled d (or_cases (channel == d) (has_port d ports) e);
+          awaited = λ d e. awaited d (or_cases (channel == d) (has_port d ports) e);
+          each = λ q. each q (same_place place q) refl (more.each q);
+          rest = λ q e. more.rest q e ∙ no_input p n (is_link channel) channel v s q e;
+        }
+      where
+        enabled : (d : ℕ) → ((channel == d) ≡ true) ⊎ (has_port d ports ≡ true)
+            → IsEnabledAt x (is_link d) (s (port_place n (is_link d) d))
+        enabled d (inl f) =
+            subst (λ a. IsEnabledAt x (is_link a) (s (port_place n (is_link a) a))) (eqb-true channel d f) own
+        enabled d (inr f) = by (same_place place (port_place n (is_link d) d)) refl
+          where
+            before : IsEnabledAt x (is_link d) (mid (port_place n (is_link d) d))
+            before = more.enabled d f
+
+            by : (b : Bool) → same_place place (port_place n (is_link d) d) ≡ b
+                → IsEnabledAt x (is_link d) (s (port_place n (is_link d) d))
+            by false g =
+                subst (IsEnabledAt x (is_link d)) (other_input p n (is_link channel) channel v s _ g) before
+            by true g =
+                absurd (not_enabled x (is_link channel) (is_link d)
+                (subst (IsEnabledAt x (is_link d)) (ap mid (sym (same_there _ g)) ∙ mid_there) before))
+
+        each : (q : Place) (b : Bool) → same_place place q ≡ b → (t q ≡ mid q) ⊎ IsTakenUp x (mid q) (t q)
+            → (t q ≡ s q) ⊎ IsTakenUp x (s q) (t q)
+        each q false f (inl e) = inl (e ∙ other_input p n (is_link channel) channel v s q f)
+        each q false f (inr e) =
+            inr (subst (λ z. IsTakenUp x z (t q)) (other_input p n (is_link channel) channel v s q f) e)
+        each q true f (inl e) =
+            inr (subst (λ z. IsTakenUp x (s q) z) (sym (e ∙ ap mid (sym (same_there q f)) ∙ mid_there))
+            (subst (λ z. IsTakenUp x (s z) v) (same_there q f) (taken_up x (is_link channel) (s place) own)))
+        each q true f (inr e) =
+            absurd (not_taken_up x (is_link channel) (t q)
+            (subst (λ z. IsTakenUp x z (t q)) (ap mid (sym (same_there q f)) ∙ mid_there) e))
+
+        awaited : (d : ℕ) → ((channel == d) ≡ true) ⊎ (has_port d ports ≡ true)
+            → t (port_place n (is_link d) d) ≡ awaited_value x (is_link d)
+        awaited d (inr f) = more.awaited d f
+        awaited d (inl f) =
+            subst (λ a. t (port_place n (is_link a) a) ≡ awaited_value x (is_link a)) (eqb-true channel d f)
+            (by (more.each place))
+          where
+            by : (t place ≡ mid place) ⊎ IsTakenUp x (mid place) (t place) → t place ≡ v
+            by (inl e) = e ∙ mid_there
+            by (inr e) =
+                absurd (not_taken_up x (is_link channel) (t place) (subst (λ z. IsTakenUp x z (t place)) mid_there e))
 
   awaits_ports_then : (ports : List ℕ) (s : State) (Q : Unit {0} → State → Type 0)
       → ((t : State) → AreAwaited n x ports s t → Q tt t) → After (awaits_ports site x ports) s Q
@@ -76,52 +200,32 @@ module _ (site : Site) (whole : site.size % 4 ≡ 0) (p : Plan) (x : Name) where
       h s (record {
         enabled = λ d e. absurd (true≢false (sym e));
         awaited = λ d e. absurd (true≢false (sym e));
-        others = λ d e. refl;
+        each = λ q. inl refl;
         rest = λ q e. refl;
       })
   awaits_ports_then (channel ∷ ports) s Q h =
-      after_bind (require (is_enabled_by x (half_in (s (Half n channel Input)))) (Breaks ChannelMisuse)) _ s Q
-      (after_require (is_enabled_by x (half_in (s (Half n channel Input)))) (Breaks ChannelMisuse) s _ (λ e.
-      awaits_ports_then ports mid Q (λ t more. h t (all (enabled_is p x _ e) t more))))
+      after_bind (if is_link channel then awaits_link site x channel else awaits_channel site x channel) _ s Q
+      (by (is_link channel) (one_more channel ports s)
+      (λ mid rest. awaits_ports_then ports mid Q rest))
     where
-      mid : State
-      mid = changed (Half n channel Input) (Put (IsHalf (AwaitedBy x))) s
-
-      all : half_in (s (Half n channel Input)) ≡ EnabledBy x → (t : State) → AreAwaited n x ports mid t
-          → AreAwaited n x (channel ∷ ports) s t
-      all own t more =
-          record {
-            enabled = λ d e. enabled d (channel == d) refl e;
-            awaited = λ d e. awaited d (channel == d) refl (has_port d ports) refl e;
-            others = λ d e. others d (channel == d) refl e;
-            rest = λ q e. more.rest q e ∙ no_input n channel (IsHalf (AwaitedBy x)) s q e;
-          }
-        where
-          v : Value
-          v = IsHalf (AwaitedBy x)
-
-          enabled : (d : ℕ) (b : Bool) → (channel == d) ≡ b → has_port d (channel ∷ ports) ≡ true
-              → half_in (s (Half n d Input)) ≡ EnabledBy x
-          enabled d true f e =
-              subst (λ a. half_in (s (Half n a Input)) ≡ EnabledBy x) (eqb-true channel d f) own
-          enabled d false f e =
-              ap half_in (sym (other_input n channel v s d f))
-              ∙ more.enabled d (sym (ap (λ b. b || has_port d ports) f) ∙ e)
-
-          awaited : (d : ℕ) (b : Bool) → (channel == d) ≡ b → (b' : Bool) → has_port d ports ≡ b'
-              → has_port d (channel ∷ ports) ≡ true → t (Half n d Input) ≡ v
-          awaited d b f true g e = more.awaited d g
-          awaited d true f false g e =
-              more.others d g
-              ∙ subst (λ a. mid (Half n a Input) ≡ v) (eqb-true channel d f) (input_there n channel v s)
-          awaited d false f false g e =
-              absurd (true≢false (sym e ∙ ap (λ b. b || has_port d ports) f ∙ g))
-
-          others : (d : ℕ) (b : Bool) → (channel == d) ≡ b → has_port d (channel ∷ ports) ≡ false
-              → t (Half n d Input) ≡ s (Half n d Input)
-          others d true f e = absurd (true≢false (sym (ap (λ b. b || has_port d ports) f) ∙ e))
-          others d false f e =
-              more.others d (sym (ap (λ b. b || has_port d ports) f) ∙ e) ∙ other_input n channel v s d f
+      by : (b : Bool)
+          → (IsEnabledAt x b (s (port_place n b channel)) → (t : State)
+          → AreAwaited n x ports (changed (port_place n b channel) (Put (awaited_value x b)) s) t
+          → AreAwaited n x (channel ∷ ports) s t)
+          → ((mid : State) → ((t : State) → AreAwaited n x ports mid t → Q tt t)
+          → After (awaits_ports site x ports) mid Q)
+          → After (if b then awaits_link site x channel else awaits_channel site x channel) s
+          (λ _ z. After (awaits_ports site x ports) z Q)
+      by true more rest =
+          after_bind (require (is_enabled_on x (link_in (s (port_place n true channel)))) (Breaks LinkBusy)) _ s _
+          (after_require (is_enabled_on x (link_in (s (port_place n true channel)))) (Breaks LinkBusy) s _ (λ e.
+          rest (changed (port_place n true channel) (Put (awaited_value x true)) s)
+          (λ t f. h t (more (enabled_link_is p x _ e) t f))))
+      by false more rest =
+          after_bind (require (is_enabled_by x (half_in (s (port_place n false channel)))) (Breaks ChannelMisuse)) _ s _
+          (after_require (is_enabled_by x (half_in (s (port_place n false channel)))) (Breaks ChannelMisuse) s _ (λ e.
+          rest (changed (port_place n false channel) (Put (awaited_value x false)) s)
+          (λ t f. h t (more (enabled_is p x _ e) t f))))
 
   -- the two upper words below a workspace were touched, and are saved now
   record IsUpperSaved (s t : State) (w : ℕ) : Type 0 where
@@ -188,9 +292,12 @@ module _ (site : Site) (whole : site.size % 4 ≡ 0) (p : Plan) (x : Name) where
       pub one : t (WordAt n (below w 1)) ≡ IsWord (used_word Saved)
       pub words : (j : ℕ) → j ≢ below w 1 → j ≢ below w 2 → j ≢ below w 3 → t (WordAt n j) ≡ v (WordAt n j)
       pub stands : t (Standing x) ≡ IsStand (Chooses (forget c))
-      pub enabled : (d : ℕ) → has_port d (ports_in (v (Ports x))) ≡ true → half_in (v (Half n d Input)) ≡ EnabledBy x
-      pub awaited : (d : ℕ) → has_port d (ports_in (v (Ports x))) ≡ true → t (Half n d Input) ≡ IsHalf (AwaitedBy x)
-      pub inputs : (d : ℕ) → has_port d (ports_in (v (Ports x))) ≡ false → t (Half n d Input) ≡ v (Half n d Input)
+      pub enabled : (d : ℕ) → has_port d (ports_in (v (Ports x))) ≡ true
+          → IsEnabledAt x (is_link d) (v (port_place n (is_link d) d))
+      pub awaited : (d : ℕ) → has_port d (ports_in (v (Ports x))) ≡ true
+          → t (port_place n (is_link d) d) ≡ awaited_value x (is_link d)
+      pub inputs : (q : Place) → is_word_of n q ≡ false → is_stand_of x q ≡ false
+          → (t q ≡ v q) ⊎ IsTakenUp x (v q) (t q)
       pub rest : (q : Place) → is_word_of n q ≡ false → is_stand_of x q ≡ false → is_input_of n q ≡ false → t q ≡ v q
 
     not_free : Awaiting ≡ Free → ⊥
@@ -256,10 +363,20 @@ module _ (site : Site) (whole : site.size % 4 ≡ 0) (p : Plan) (x : Name) where
                 ∙ changed_word n (below w 3) put t1 j (λ e. d (sym e)) ∙ halves.rest (WordAt n j) refl;
             stands = now.is;
             enabled = halves.enabled;
-            awaited = λ d e. no_word (Half n d Input) refl refl ∙ halves.awaited d e;
-            inputs = λ d e. no_word (Half n d Input) refl refl ∙ halves.others d e;
+            awaited = λ d e. awaited d (is_link d) (halves.awaited d e);
+            inputs = λ q e f. inputs q (no_word q e f) (halves.each q);
             rest = λ q e f g. no_word q e f ∙ halves.rest q g;
           }
+        where
+          awaited : (d : ℕ) (b : Bool) → t1 (port_place n b d) ≡ awaited_value x b
+              → t (port_place n b d) ≡ awaited_value x b
+          awaited d true e = no_word (port_place n true d) refl refl ∙ e
+          awaited d false e = no_word (port_place n false d) refl refl ∙ e
+
+          inputs : (q : Place) → t q ≡ t1 q → (t1 q ≡ v q) ⊎ IsTakenUp x (v q) (t1 q)
+              → (t q ≡ v q) ⊎ IsTakenUp x (v q) (t q)
+          inputs q e (inl f) = inl (e ∙ f)
+          inputs q e (inr f) = inr (subst (IsTakenUp x (v q)) (sym e) f)
 
     waits_for_ports_then : (v : State) (Q : Unit {0} → State → Type 0)
         → ((t : State) → IsWaiting v t → Q tt t) → After (waits_for_ports site x c) v Q

@@ -2,7 +2,7 @@
 use Rattle.tprocesses.specs.Values.{amount_in}
 use Rattle.tseen.proofs.Choices.{stands_alike, quiet_alike, alternative_none, choices_stay}
 use Rattle.tprocesses.specs.Values.{stand_in}
-use Rattle.tprocesses.specs.Places.{Ports}
+use Rattle.tprocesses.specs.Places.{Ports, Unfinished}
 use Rattle.tseen.specs.Choices.{alternative_of, alternative_at, is_quiet}
 use Rattle.std.proofs.Common.{◌≡◌, ℕ, suc, ◌+◌, ◌<◌, ◌≤◌, ◌%◌, refl, sym, ap, subst, ◌∙◌, Bool, true, false, true≢false}
 use Rattle.std.proofs.Common.{length, cond, Option, Some, None, arith, ◌⊎◌, inl, inr, pos}
@@ -36,6 +36,8 @@ use Rattle.tseen.proofs.Counted.{count_at, settled, live_long, live_idle, lives_
 use Rattle.tseen.proofs.Missing.{is_missing, queued_there, waiting_there, interrupted_there}
 use Rattle.tseen.proofs.Others.{other_name, queued_seated, waiting_seated, interrupted_seated}
 use Rattle.tseen.proofs.DispatchShown.{running_named}
+use Rattle.tseen.proofs.InputChannels.{descriptors_stay, inputs_stay}
+use Rattle.tproc.specs.declared.channels.Side.TheVariants.{Input}
 
 -- a place that changes where a process comes
 abbrev pub is_new : ℕ → Name → Place → Bool
@@ -206,10 +208,12 @@ module _ (p : Plan) (plan : NodePlan) (n : ℕ) (s s' : State) (named : Seat →
             (λ j e. sym (uses j) ∙ e) (λ a side. stay (Half n a side) refl) (λ q. refl) refl (λ a h e. refl)
             shown.channels;
         links = λ l h. link_stays s s' n named named' sent node node' l (λ b. refl)
-            (λ side. stay (LinkHalf (end_at n l) side) refl) refl refl (shown.links l h);
+            (λ side. stay (LinkHalf (end_at n l) side) refl) (stay (Unfinished (end_at n l)) refl)
+            (descriptors_stay s s' n m.links node.machine.store shown.choices alternatives l h) refl refl
+            (shown.links l h);
         processes = processes_now;
-        choices = choices_stay s s' n node.machine.store node.machine.store
-            (λ z h. stands_alike p s s' n y stand_stays (standing_now ∙ sym standing_before) z)
+        choices = choices_stay s s' n m.links m.links node.machine.store node.machine.store
+            (inputs_stay s s' n m.links m.links (λ l. stay (LinkHalf (end_at n l) Input) refl) refl) alternatives
             (λ z h e. quiet_alike p s s' n y stand_stays quiet_now z e) (λ z h. stay (Ports z) refl)
             (λ a side. stay (Half n a side) refl) (λ j e z. ap amount_in (stay (Sending n j) refl) ∙ z)
             (λ j e. stay (WordAt n j) refl) refl (λ a e f. refl) shown.choices;
@@ -223,3 +227,6 @@ module _ (p : Plan) (plan : NodePlan) (n : ℕ) (s s' : State) (named : Seat →
 
       quiet_now : is_quiet (stand_in (s' (Standing y))) ≡ true
       quiet_now = ap (λ (v : Value). is_quiet (stand_in v)) new.stand
+
+      alternatives : (z : Name) → z.node ≡ n → alternative_at s' n z ≡ alternative_at s n z
+      alternatives z h = stands_alike p s s' n y stand_stays (standing_now ∙ sym standing_before) z

@@ -1,13 +1,19 @@
 -- What is shown stays shown where a process that has enabled inputs of channels waits for them.
-use Rattle.std.proofs.Common.{None, ◌<◌}
+use Rattle.std.proofs.Common.{None, ◌<◌, List, Some, option_map}
+use Rattle.tproc.specs.declared.waiter.LinkEnd.{LinkEnd}
+use Rattle.tproc.specs.LinkChannels.{link_end, quiet_end}
+use Rattle.tproc.specs.Channels.{ready}
+use Rattle.tproc.specs.Queues.{state_word}
+use Rattle.tword.specs.Words.{word_below}
+use Rattle.tplan.specs.declared.plan.End.{End}
 use Rattle.tlink.specs.Roles.{Processor}
 use Rattle.tseen.specs.Halves.{ShowsLink}
 use Rattle.tseen.specs.Words.{AreMarked, ShowsStore}
-use Rattle.tword.specs.Stores.{Store}
+use Rattle.tword.specs.Stores.{Store, word_at}
 use Rattle.tseen.specs.Choices.{ShowsChoices}
 use Rattle.tprocesses.specs.Values.{amount_in}
 use Rattle.std.proofs.Common.{◌≡◌, ℕ, refl, sym, ap, subst, ◌∙◌, Bool, true, false, length, ◌⊎◌, inl, inr, Option}
-use Rattle.std.specs.Prelude.{◌+◌}
+use Rattle.std.specs.Prelude.{◌+◌, slice_get, slice_index_or, option_and_then}
 use Rattle.std.proofs.lemmas.Option.{IfSome_then}
 use Rattle.std.proofs.lemmas.List.Elements.{All-contains}
 use Rattle.tproc.specs.declared.channels.Side.{Side}
@@ -16,30 +22,40 @@ use Rattle.tproc.specs.Machine.{descheduled}
 use Rattle.tplan.specs.declared.plan.NodePlan.{NodePlan}
 use Rattle.tplan.specs.declared.plan.Plan.{Plan}
 use Rattle.tplan.specs.Wires.{end_at}
-use Rattle.tnet.specs.Rendezvous.{Node, Configuration}
+use Rattle.tnet.specs.Rendezvous.{Node, Configuration, node_of}
 use Rattle.tprocesses.specs.Places.{Place, Name, WordAt, Sending, Standing, Ports, Half, LinkHalf, Error, HaltOnError}
-use Rattle.tprocesses.specs.Places.{Life, Messages, Kept, Population, HasRun, FlagChanged}
+use Rattle.tprocesses.specs.Places.{Life, Messages, Kept, Population, HasRun, FlagChanged, Unfinished}
 use Rattle.tprocesses.specs.Values.{Value, Holder, TakenBy, EnabledBy, AwaitedBy, Request, IsHalf, word_in, stand_in}
-use Rattle.tprocesses.specs.Values.{half_in}
-use Rattle.tprocesses.specs.Choosing.{is_taken as is_taken_half}
-use Rattle.tprocesses.specs.Machine.{awaits_successor}
-use Rattle.tseen.specs.Choices.{alternative_of, is_quiet, enabler}
+use Rattle.tprocesses.specs.Values.{half_in, ports_in}
+use Rattle.tprocesses.specs.Choosing.{is_taken as is_taken_half, has_port}
+use Rattle.tprocesses.specs.Machine.{awaits_successor, is_passable, Role, Processor as Computing, Source, Sink}
+use Rattle.tprocesses.specs.Machine.{Nothing}
+use Rattle.tprocesses.specs.Machine.{offer_place, role_at}
+use Rattle.tseen.specs.Choices.{Alternative, alternative_of, alternative_at, is_quiet, enabler, enabler_at, enabler_on}
+use Rattle.tseen.specs.Choices.{enables, is_sent, is_due, input_at, input_channel, unfired}
+use Rattle.tseen.specs.Choices.{descriptor_at}
+use Rattle.tseen.specs.Choices.{remembered_at, unready_word, IsReady, IsUnready, HasChoice, HasEnabled, IsEnabled}
+use Rattle.tseen.specs.Choices.{IsEnabledLink}
 use Rattle.tseen.specs.Seats.{Seat, is_taken}
 use Rattle.tseen.specs.Outputs.{Pending}
 use Rattle.tseen.specs.Words.{ShowsWord, AreSavedWords}
 use Rattle.tseen.specs.Halves.{ShowsChannels, IsTakenHalf, HasHolder}
 use Rattle.tcpu.specs.declared.registers.Registers.{Registers}
 use Rattle.tseen.specs.Processes.{IsSeated, IsGone, HasFlags, KeepsFlags, ShowsProcesses, context_in}
-use Rattle.tseen.specs.Shown.{ShowsNode, Shows}
+use Rattle.tseen.specs.Shown.{ShowsNode, Shows, HasSender}
 use Rattle.tseen.specs.Steps.{LeadsTo}
 use Rattle.tseen.proofs.After.{State}
-use Rattle.tseen.proofs.Staying.{saved_words_alike, marks_from, link_stays}
-use Rattle.tseen.proofs.Choices.{choices_kept}
+use Rattle.tseen.proofs.AwaitedLinks.{IsLinkAwaitedNow, enabler_still, unfired_still, awaited_still, fired_still}
+use Rattle.tseen.proofs.AwaitedLinks.{input_still}
+use Rattle.tseen.proofs.Staying.{saved_words_alike, marks_from}
+use Rattle.tseen.proofs.ChoiceChanged.{due_same}
+use Rattle.tseen.proofs.Choices.{ready_same, unready_same}
 use Rattle.tseen.proofs.Nets.{source_stays, sink_stays}
 
--- the input of a channel
+-- the input of a channel or of a link
 abbrev pub is_input_half : Place → Bool
 is_input_half (Half n d Input) = true
+is_input_half (LinkHalf e Input) = true
 is_input_half _ = false
 
 -- a half stays, or who has enabled it waits for it
@@ -49,6 +65,7 @@ IsAwaitedNow v w = (w ≡ v) ⊎ ((x : Name) × (v ≡ IsHalf (EnabledBy x)) × 
 -- a state with the inputs of another
 abbrev pub restored : State → State → State
 restored s z (Half n d Input) = s (Half n d Input)
+restored s z (LinkHalf e Input) = s (LinkHalf e Input)
 restored s z q = z q
 
 -- all that is shown of a node but its alternatives
@@ -128,6 +145,8 @@ module _ (s s' : State) (same : (q : Place) → is_input_half q ≡ false → s'
         by (inr f) = (AwaitedBy f.0, f.2)
 
     module _ (plan : NodePlan) (named : Seat → Name) (sent : ℕ → Option Pending) (node : Node)
+        (linked : (l : ℕ) → l < 4 → IsLinkAwaitedNow (link_end node.machine.control l).noticed
+        (s (LinkHalf (end_at n l) Input)) (s' (LinkHalf (end_at n l) Input)))
         (k : IsShownBeside s n plan named sent node) where
       uses : (j : ℕ) → (word_in (s' (WordAt n j))).used ≡ (word_in (s (WordAt n j))).used
       uses j = ap (λ (v : Value). (word_in v).used) (same (WordAt n j) refl)
@@ -214,7 +233,35 @@ module _ (s s' : State) (same : (q : Place) → is_input_half q ≡ false → s'
           there x (inl g) = inl (gone_now x g)
           there x (inr q) = inr q
 
-      pub node_awaits : ShowsChoices s' n node.machine.store → ShowsNode s' n plan named sent node
+      remembered_still : (l : ℕ) → l < 4 → (link_end node.machine.control l).noticed ≡ false
+          → remembered_at s' n l ≡ remembered_at s n l
+      remembered_still l b e =
+          ap (option_and_then (descriptor_at s' n)) (unfired_still _ _ _ e (linked l b))
+          ∙ by (unfired (input_at s n l))
+        where
+          by : (o : Option Name) → option_and_then (descriptor_at s' n) o ≡ option_and_then (descriptor_at s n) o
+          by None = refl
+          by (Some x) =
+              ap (λ (v : Value). option_map (λ (a : Alternative). a.wptr + a.priority) (alternative_of (stand_in v)))
+              (same (Standing x) refl)
+
+      link_now : (l : ℕ) → l < 4 → ShowsLink s n named sent node l → ShowsLink s' n named sent node l
+      link_now l b h =
+          record {
+            input = input_still _ _ _ named (link_end node.machine.control l).input h.input (linked l b);
+            output = same (LinkHalf (end_at n l) Output) refl ∙ h.output;
+            unfinished = same (Unfinished (end_at n l)) refl ∙ h.unfinished;
+            offered = h.offered;
+            fresh = h.fresh;
+            unnoticed = h.unnoticed;
+            remembered = λ e. h.remembered e ∙ sym (remembered_still l b e);
+            forgotten = h.forgotten;
+            fired = λ x e. fired_still _ _ _ x e (h.fired x) (linked l b);
+            pending = h.pending;
+          }
+
+      pub node_awaits : ShowsChoices s' n node.machine.control.links node.machine.store
+          → ShowsNode s' n plan named sent node
       node_awaits choices =
           record {
             role = k.role;
@@ -230,8 +277,7 @@ module _ (s s' : State) (same : (q : Place) → is_input_half q ≡ false → s'
                 (λ j e. uses j ∙ e) (λ j. same (Sending n j) refl ∙ k.marks.outputs j)
                 (λ j. ap awaits_successor (uses j) ∙ k.marks.no_successor j) k.marks;
             channels = channels_now;
-            links = λ l h. link_stays s s' n named named sent node node l (λ w. refl)
-                (λ side. same (LinkHalf (end_at n l) side) refl) refl refl (k.links l h);
+            links = λ l b. link_now l b (k.links l b);
             processes = processes_now;
             choices = choices;
           }
@@ -245,26 +291,110 @@ module _ (s s' : State) (same : (q : Place) → is_input_half q ≡ false → s'
         differ g = cc
 
     -- and its alternatives
-    choices_await : (store : Store) → ShowsChoices s n store → ShowsChoices s' n store
-    choices_await store =
-        choices_kept s s' n store store (record {
-          stands = λ x e. ap (λ (v : Value). alternative_of (stand_in v)) (same (Standing x) refl);
-          quiet = λ x e f. ap (λ (v : Value). is_quiet (stand_in v)) (same (Standing x) refl) ∙ f;
-          ports = λ x e. same (Ports x) refl;
-          inputs = enabler_same;
-          held = λ d x e. held d x e (awaited n d);
-          unsent = λ j e z. ap amount_in (same (Sending n j) refl) ∙ z;
-          sent = λ d x e. ap (λ (v : Value). is_taken_half (half_in v)) (same (Half n d Output) refl);
-          choosing = λ j e. same (WordAt n j) refl;
-          engaged = λ d x e f. ap (λ (v : Value). (word_in v).used) (same (WordAt n _) refl) ∙ f;
-          size = refl;
-          states = λ a e f. refl;
-          words = λ d x e f g. refl;
-        })
+    module _ (links : List LinkEnd) (store : Store) (linked : (l : ℕ) → l < 4 → IsLinkAwaitedNow
+        (slice_index_or links l quiet_end).noticed (s (LinkHalf (end_at n l) Input)) (s' (LinkHalf (end_at n l) Input)))
+        (k : ShowsChoices s n links store) where
+      stands : (x : Name) → alternative_at s' n x ≡ alternative_at s n x
+      stands x = ap (λ (v : Value). alternative_of (stand_in v)) (same (Standing x) refl)
+
+      enables_same : (x : Name) (d : ℕ) → enables s' n x d ≡ enables s n x d
+      enables_same x d = ap (λ (v : Value). has_port d (ports_in v)) (same (Ports x) refl)
+
+      on_same : (l : ℕ) → l < 4 → enabler_on s' n l ≡ enabler_on s n l
+      on_same l b = enabler_still _ _ _ (linked l b)
+
+      sent_same : (d : ℕ) → is_sent s' n d ≡ is_sent s n d
+      sent_same d = ap (λ (v : Value). is_taken_half (half_in v)) (same (Half n d Output) refl)
+
+      due : (x : Name) (d : ℕ) → enables s n x d ≡ true → is_due s' n links d ≡ is_due s n links d
+      due x d e = due_same s s' n links (λ i. same (Half n i Output) refl) d
+
+      choice : (x : Name) (a : Alternative) → HasChoice s n links store x a → HasChoice s' n links store x a
+      choice x a c =
+          record {
+            small = c.small;
+            placed = c.placed;
+            used = ap (λ (v : Value). (word_in v).used) (same (WordAt n _) refl) ∙ c.used;
+            unseen = ap (λ (v : Value). (word_in v).cells) (same (WordAt n _) refl) ∙ c.unseen;
+            unsent = ap amount_in (same (Sending n _) refl) ∙ c.unsent;
+            state = by c.state;
+            unready = λ e. unready_same s s' n links links x (same (Ports x) refl) (due x) a.skips (c.unready e);
+          }
+        where
+          by : ((word_at store (word_below a.wptr state_word) ≡ ready) × IsReady s n links x a.skips)
+              ⊎ ((word_at store (word_below a.wptr state_word) ≡ unready_word a.waits)
+              × IsUnready s n links x a.skips)
+              → ((word_at store (word_below a.wptr state_word) ≡ ready) × IsReady s' n links x a.skips)
+              ⊎ ((word_at store (word_below a.wptr state_word) ≡ unready_word a.waits)
+              × IsUnready s' n links x a.skips)
+          by (inl (e, f)) = inl (e, ready_same s s' n links links x (same (Ports x) refl) (due x) a.skips f)
+          by (inr (e, f)) = inr (e, unready_same s s' n links links x (same (Ports x) refl) (due x) a.skips f)
+
+      has_enabled : (d : ℕ) (x : Name) → HasEnabled s n d x → HasEnabled s' n d x
+      has_enabled d x (inl (internal, e)) = inl (internal, enabler_same d ∙ e)
+      has_enabled d x (inr (l, b, is, e)) = inr (l, b, is, on_same l b ∙ e)
+
+      enabled : (d : ℕ) (x : Name) → enabler_at s' n d ≡ Some x → IsEnabled s' n store d x
+      enabled d x e =
+          let old : IsEnabled s n store d x = k.enabled d x (sym (enabler_same d) ∙ e) in
+          record {
+            internal = old.internal;
+            home = old.home;
+            port = enables_same x d ∙ old.port;
+            placed = old.placed;
+            engaged = ap (λ (v : Value). (word_in v).used) (same (WordAt n _) refl) ∙ old.engaged;
+            names = λ f a g. old.names (sym (sent_same d) ∙ f) a (sym (stands x) ∙ g);
+            awaited = λ a g f. held d x (old.awaited a (sym (stands x) ∙ g) f) (awaited n d);
+          }
+
+      enabled_link : (l : ℕ) (x : Name) → l < 4 → enabler_on s' n l ≡ Some x → IsEnabledLink s' n l x
+      enabled_link l x b e =
+          let old : IsEnabledLink s n l x = k.linked l x b (sym (on_same l b) ∙ e) in
+          record {
+            home = old.home;
+            port = enables_same x (input_channel l) ∙ old.port;
+            awaited = λ a g f. awaited_still _ _ _ x (old.awaited a (sym (stands x) ∙ g) f) (linked l b);
+          }
+
+      choices_await : ShowsChoices s' n links store
+      choices_await =
+          record {
+            choices = λ x a home e. choice x a (k.choices x a home (sym (stands x) ∙ e));
+            apart = λ x y a b f g d e i. k.apart x y a b f g (sym (stands x) ∙ d) (sym (stands y) ∙ e) i;
+            quiet = λ x home. ap (λ (v : Value). is_quiet (stand_in v)) (same (Standing x) refl) ∙ k.quiet x home;
+            owner = λ x d home e. (let o = k.owner x d home (sym (enables_same x d) ∙ e) in
+                (o.0, stands x ∙ o.1, has_enabled d x o.2));
+            enabled = enabled;
+            linked = enabled_link;
+          }
 
   -- so what is shown of a net
-  shows_awaits : (p : Plan) (c : Configuration) → Shows p c s → Shows p c s'
-  shows_awaits p c k =
+  sender_still : (p : Plan) (e : End) → HasSender p s e → HasSender p s' e
+  sender_still p e h =
+      record {
+        from = h.from;
+        joined = h.joined;
+        sends = ap (is_passable (offers h.from)) (offer_stays (role_at p h.from.node) h.from) ∙ h.sends;
+      }
+    where
+      offers : End → Place
+      offers f = offer_place (role_at p f.node) f
+
+      offer_stays : (r : Role) (f : End) → s' (offer_place r f) ≡ s (offer_place r f)
+      offer_stays Source f = same _ refl
+      offer_stays Computing f = same _ refl
+      offer_stays Sink f = same _ refl
+      offer_stays Nothing f = same _ refl
+
+  -- the inputs of links are those of a configuration
+  abbrev pub AreLinksOf : Plan → Configuration → Type 0
+  AreLinksOf p c =
+      (n l : ℕ) (plan : NodePlan) (node : Node) → l < 4 → slice_get p.nodes n ≡ Some plan → node_of c n ≡ Some node
+      → IsLinkAwaitedNow (link_end node.machine.control l).noticed (s (LinkHalf (end_at n l) Input))
+      (s' (LinkHalf (end_at n l) Input))
+
+  shows_awaits : (p : Plan) (c : Configuration) → AreLinksOf p c → Shows p c s → Shows p c s'
+  shows_awaits p c linked k =
       record {
         named = k.named;
         sent = k.sent;
@@ -272,8 +402,10 @@ module _ (s s' : State) (same : (q : Place) → is_input_half q ≡ false → s'
         processors = λ n plan is. (let old = k.processors n plan is in (
           old.0,
           old.1,
-          node_awaits n plan (k.named n) (k.sent n) old.0 (beside s n plan (k.named n) (k.sent n) old.0 old.2)
-              (choices_await n old.0.machine.store old.2.choices),
+          node_awaits n plan (k.named n) (k.sent n) old.0 (λ l b. linked n l plan old.0 b is old.1)
+              (beside s n plan (k.named n) (k.sent n) old.0 old.2)
+              (choices_await n old.0.machine.control.links old.0.machine.store
+              (λ l b. linked n l plan old.0 b is old.1) old.2.choices),
         ));
         sources = λ j source is. (let old = k.sources j source is in (
           old.0,
@@ -285,11 +417,18 @@ module _ (s s' : State) (same : (q : Place) → is_input_half q ≡ false → s'
           old.0,
           old.1,
           sink_stays s s' (end_at (length p.nodes + length p.sources + j) 0) old.0
-              (same (Kept (end_at (length p.nodes + length p.sources + j) 0)) refl) old.2,
+              (same (Kept (end_at (length p.nodes + length p.sources + j) 0)) refl)
+              (same (LinkHalf (end_at (length p.nodes + length p.sources + j) 0) Output) refl) old.2,
         ));
+        noticed = λ n l plan node planned here e. sender_still p (end_at n l) (k.noticed n l plan node planned here e);
         nobody = λ x none. same (Standing x) refl ∙ k.nobody x none;
       }
 
-  pub leads_awaits : (p : Plan) (c : Configuration) (n : ℕ) → LeadsTo p c n s → LeadsTo p c n s'
-  leads_awaits p c n k =
-      record { configuration = k.configuration; local = k.local; shows = shows_awaits p k.configuration k.shows }
+  pub leads_awaits : (p : Plan) (c : Configuration) (n : ℕ) (k : LeadsTo p c n s) → AreLinksOf p k.configuration
+      → LeadsTo p c n s'
+  leads_awaits p c n k linked =
+      record {
+        configuration = k.configuration;
+        local = k.local;
+        shows = shows_awaits p k.configuration linked k.shows;
+      }

@@ -116,7 +116,7 @@ pub record Awaits (p : Plan) (c : Configuration) (s : State) (n : ℕ) (x : Name
   pub waits : IsWaiting (site_of n k.plan) (there p c s n x k).whole p x (context_at p c s n x k operation.size) written
       s'
   pub state : word_at k.node.machine.store (word_below k.node.machine.control.registers.wptr 3) ≡ enabling
-  pub unready : IsUnready s n x choice.skips
+  pub unready : IsUnready s n k.node.machine.control.links x choice.skips
 
 module _ (p : Plan) (c : Configuration) (s : State) (n : ℕ) (x : Name) (k : IsCurrent p c s n x) (s' : State)
     (h : Awaits p c s n x k s') where

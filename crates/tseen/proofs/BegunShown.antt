@@ -1,5 +1,5 @@
 -- A process has begun another one: the node is shown.
-use Rattle.tprocesses.specs.Places.{Sending}
+use Rattle.tprocesses.specs.Places.{Sending, Unfinished}
 use Rattle.tprocesses.specs.Places.{Ports}
 use Rattle.tseen.specs.Choices.{alternative_of, alternative_at, is_quiet}
 use Rattle.tseen.proofs.Choices.{is_lasting, lasting_not_free, both_alike, both_quiet, alternative_alike, choices_stay}
@@ -24,7 +24,8 @@ use Rattle.tplan.specs.Wires.{end_at}
 use Rattle.tnet.specs.Rendezvous.{Node, Configuration}
 use Rattle.tprocesses.specs.Places.{Place, Name, WordAt, Standing, Half, LinkHalf, Error, HaltOnError, Life, Population}
 use Rattle.tprocesses.specs.Places.{HasRun, same_name}
-use Rattle.tprocesses.specs.Values.{Chosen, Chooses, Value, Use, Free, Saved, Engaged, Context, Lent, Stand, Absent}
+use Rattle.tprocesses.specs.Values.{Chosen, Listens, Chooses, Value, Use, Free, Saved, Engaged, Context, Lent, Stand}
+use Rattle.tprocesses.specs.Values.{Absent}
 use Rattle.tprocesses.specs.Values.{Rests, Runs, Waits}
 use Rattle.tprocesses.specs.Values.{Ended, IsStand, IsAmount, IsFlag, word_in, stand_in, amount_in}
 use Rattle.tprocesses.specs.Changes.{Add, Raise, apply}
@@ -55,6 +56,9 @@ use Rattle.tseen.proofs.Joined.{counted_now, many_now, still_queued, was_queued,
 use Rattle.tseen.proofs.Joined.{own_priority}
 use Rattle.tseen.proofs.BegunWords.{HasBegun, made, size_after, iptr_there, hidden_still, at, unfree, used, tells_now}
 use Rattle.tseen.proofs.BegunWords.{lasting_stays, marks_now, new_there}
+use Rattle.tseen.proofs.InputChannels.{descriptors_stay, inputs_stay}
+use Rattle.tproc.specs.declared.channels.Side.TheVariants.{Input, Output}
+use Rattle.tseen.proofs.NoticedOffers.{outputs_stay}
 
 -- a flag that is raised
 flag_cases : (v : Value) → ((b : Bool) × (v ≡ IsFlag b)) → (v ≡ IsFlag true) ⊎ (v ≡ IsFlag false)
@@ -252,6 +256,7 @@ module _ (p : Plan) (c : Configuration) (s : State) (n : ℕ) (x : Name) (k : Is
         by (Waits d) e f r = absurd f
         by Ended e f r = absurd f
         by (Chooses d) e f r = absurd f
+        by (Listens channel d) e f r = absurd f
 
     waiting_seated : (process : ℕ) (y : Name) → is_taken m (Waiting process) ≡ true
         → IsSeated s n k.node (Waiting process) y → IsSeated s' n node' (Waiting process) y
@@ -293,6 +298,7 @@ module _ (p : Plan) (c : Configuration) (s : State) (n : ℕ) (x : Name) (k : Is
         by (Runs d) e f r = absurd f
         by Ended e f r = absurd f
         by (Chosen d) e f r = absurd f
+        by (Listens channel d) e f r = absurd f
 
     interrupted_seated : is_some m.interrupted ≡ true → IsSeated s' n node' Interrupted (named Interrupted)
     interrupted_seated h = with_seat (shown.processes.seated Interrupted h)
@@ -316,6 +322,7 @@ module _ (p : Plan) (c : Configuration) (s : State) (n : ℕ) (x : Name) (k : Is
         by q Ended e f r = absurd f
         by q (Chooses d) e f r = absurd f
         by q (Chosen d) e f r = absurd f
+        by q (Listens channel d) e f r = absurd f
 
         with_seat : IsSeated s n k.node Interrupted (named Interrupted)
             → IsSeated s' n node' Interrupted (named Interrupted)
@@ -472,10 +479,14 @@ module _ (p : Plan) (c : Configuration) (s : State) (n : ℕ) (x : Name) (k : Is
               (size_after p c s n x k s' b ∙ sym shown.size)
               (λ a h e. lasting_stays p c s n x k s' b a h (ap is_lasting e)) shown.channels;
           links = λ l h. link_stays s s' n named named' (k.shows.sent n) k.node node' l (λ a. refl)
-              (λ side. stay (LinkHalf (end_at n l) side) refl refl refl) refl refl (shown.links l h);
+              (λ side. stay (LinkHalf (end_at n l) side) refl refl refl)
+              (stay (Unfinished (end_at n l)) refl refl refl)
+              (descriptors_stay s s' n m.links k.node.machine.store shown.choices alternatives l h) refl refl
+              (shown.links l h);
           processes = processes_now;
-          choices = choices_stay s s' n k.node.machine.store now.store
-              (λ y h. both_alike p s s' n x b.child stand_stays parent_alternative (child_now ∙ sym child_before) y)
+          choices = choices_stay s s' n m.links m.links k.node.machine.store now.store
+              (inputs_stay s s' n m.links m.links (λ l. stay (LinkHalf (end_at n l) Input) refl refl refl) refl)
+              alternatives
               (λ y h e. both_quiet p s s' n x b.child stand_stays parent_quiet child_quiet y e)
               (λ y h. stay (Ports y) refl refl refl) (λ a side. stay (Half n a side) refl refl refl)
               (λ j e z. ap amount_in (stay (Sending n j) refl refl refl) ∙ z)
@@ -506,6 +517,10 @@ module _ (p : Plan) (c : Configuration) (s : State) (n : ℕ) (x : Name) (k : Is
 
         child_quiet : is_quiet (stand_in (s' (Standing b.child))) ≡ true
         child_quiet = ap (λ (z : Value). is_quiet (stand_in z)) child_stands
+
+        alternatives : (y : Name) → y.node ≡ n → alternative_at s' n y ≡ alternative_at s n y
+        alternatives y h =
+            both_alike p s s' n x b.child stand_stays parent_alternative (child_now ∙ sym child_before) y
 
     -- places of other nodes stay
     elsewhere : (q : Place) → node_at q ≢ n → s' q ≡ s q
@@ -538,3 +553,4 @@ module _ (p : Plan) (c : Configuration) (s : State) (n : ℕ) (x : Name) (k : Is
         leads_there p c s n x k now s' named' (k.shows.sent n) stepped
         (ap (λ (z : Store). record { control = now.control; store = z }) (hidden_still p c s n x k s' b))
         node_now elsewhere
+        (outputs_stay s s' n k.node node' (λ l. stay (LinkHalf (end_at n l) Output) refl refl refl) (λ l. refl))

@@ -1,29 +1,34 @@
 -- Where one process alone changes its alternative, what is shown of those of others stays shown.
 use Rattle.tprocesses.specs.Values.{AwaitedBy}
 use Rattle.tprocesses.specs.Values.{word_in}
-use Rattle.tproc.specs.declared.channels.Side.TheVariants.{Input}
+use Rattle.tproc.specs.declared.channels.Side.TheVariants.{Input, Output}
 use Rattle.tprocesses.specs.Places.{WordAt, Sending, Half}
 use Rattle.tseen.proofs.Writing.{word_lies}
 use Rattle.tprocesses.specs.Touching.{Site, word_number}
-use Rattle.std.specs.Prelude.{◌^◌, ◌-◌}
+use Rattle.std.specs.Prelude.{◌^◌, ◌-◌, slice_index_or, if◌then◌else◌}
 use Rattle.std.proofs.Common.{◌%◌, ◌<◌, ◌+◌, arith, pos}
 use Rattle.std.proofs.Common.{◌⊎◌, inl, inr, ◌≡◌, ℕ, refl, sym, ap, subst, ◌∙◌, Bool, true, false, length}
-use Rattle.std.proofs.Common.{Some, None}
+use Rattle.std.proofs.Common.{Some, None, List}
 use Rattle.tword.specs.Stores.{Store, word_at}
 use Rattle.tword.specs.Words.{word_below}
 use Rattle.tword.specs.Touches.{word_place_break}
 use Rattle.tproc.specs.Channels.{ready}
 use Rattle.tproc.specs.Queues.{state_word}
+use Rattle.tproc.specs.declared.waiter.LinkEnd.{LinkEnd}
+use Rattle.tproc.specs.LinkChannels.{is_link, link_of, quiet_end}
 use Rattle.tplan.specs.declared.plan.Plan.{Plan}
 use Rattle.tprocesses.specs.Places.{Name, Standing, Ports, same_name}
-use Rattle.tprocesses.specs.Values.{Value, Engaged, stand_in, half_in, amount_in, ports_in}
-use Rattle.tprocesses.specs.Choosing.{has_port}
+use Rattle.tprocesses.specs.Values.{Value, Engaged, Awaited, stand_in, half_in, amount_in, ports_in}
+use Rattle.tprocesses.specs.Choosing.{has_port, is_taken}
 use Rattle.tseen.specs.Words.{use_at}
-use Rattle.tseen.specs.Choices.{Alternative, alternative_at, is_quiet, enabler_at, enables, is_sent, IsReady, IsUnready}
-use Rattle.tseen.specs.Choices.{HasChoice, IsEnabled, ShowsChoices, unready_word}
+use Rattle.tseen.specs.Choices.{Alternative, alternative_at, is_quiet, enabler_at, enabler_on, enables, is_sent}
+use Rattle.tseen.specs.Choices.{is_due}
+use Rattle.tseen.specs.Choices.{input_at, input_channel, IsReady, IsUnready, HasEnabled}
+use Rattle.tseen.specs.Choices.{HasChoice, IsEnabled, IsEnabledLink, ShowsChoices, unready_word}
 use Rattle.tseen.proofs.After.{State}
 use Rattle.tseen.proofs.Cells.{use_of}
-use Rattle.tseen.proofs.Choices.{is_state, state_use_is}
+use Rattle.tseen.proofs.Choices.{is_state, state_use_is, ready_same, unready_same}
+use Rattle.tseen.proofs.InputChannels.{input_is_link, input_names_link}
 use Rattle.tseen.proofs.Finished.{one_name}
 
 -- two workspaces with one word for the state of their alternatives are one
@@ -38,7 +43,24 @@ one_workspace site whole v w small small' a b e =
     let w_is : (w + (2 ^ 32 - 12)) % 2 ^ 32 ≡ word_below w 3 = refl in
     omega (arith, k.0, k.1, l.0, l.1, e, v_is, w_is, small, small')
 
-module _ (p : Plan) (s s' : State) (n : ℕ) (store store' : Store) (x : Name) where
+-- a channel is ready as before where the same is sent and noticed
+pub due_where : (s s' : State) (n : ℕ) (links links' : List LinkEnd)
+    → ((d : ℕ) → s' (Half n d Output) ≡ s (Half n d Output))
+    → ((l : ℕ) → (slice_index_or links' l quiet_end).noticed ≡ (slice_index_or links l quiet_end).noticed) → (d : ℕ)
+    → is_due s' n links' d ≡ is_due s n links d
+due_where s s' n links links' halves noticed d = by (is_link d)
+  where
+    by : (b : Bool)
+        → (if b then (slice_index_or links' (link_of Input d) quiet_end).noticed else is_sent s' n d)
+        ≡ (if b then (slice_index_or links (link_of Input d) quiet_end).noticed else is_sent s n d)
+    by true = noticed (link_of Input d)
+    by false = ap (λ (v : Value). is_taken (half_in v)) (halves d)
+
+pub due_same : (s s' : State) (n : ℕ) (links : List LinkEnd)
+    → ((d : ℕ) → s' (Half n d Output) ≡ s (Half n d Output)) → (d : ℕ) → is_due s' n links d ≡ is_due s n links d
+due_same s s' n links halves d = due_where s s' n links links halves (λ l. refl) d
+
+module _ (p : Plan) (s s' : State) (n : ℕ) (links links' : List LinkEnd) (store store' : Store) (x : Name) where
   -- the alternatives of other processes stay, and this process has one, with channels, or none
   pub record IsChanged : Type 0 where
     pub stands : (y : Name) → same_name x y ≡ false → y.node ≡ n → alternative_at s' n y ≡ alternative_at s n y
@@ -55,45 +77,56 @@ module _ (p : Plan) (s s' : State) (n : ℕ) (store store' : Store) (x : Name) w
         → amount_in (s' (Sending n k)) ≡ pos 0
     pub size : length store' ≡ length store
     pub states : (y : Name) (b : Alternative) → same_name x y ≡ false → y.node ≡ n → alternative_at s n y ≡ Some b
-        → HasChoice s n store y b
+        → HasChoice s n links store y b
         → (s' (WordAt n (word_number (word_below b.wptr state_word)))
         ≡ s (WordAt n (word_number (word_below b.wptr state_word))))
         × (word_at store' (word_below b.wptr state_word) ≡ word_at store (word_below b.wptr state_word))
     pub words : (d : ℕ) (y : Name) → same_name x y ≡ false → enabler_at s n d ≡ Some y → IsEnabled s n store d y
         → (use_at s' n d ≡ Engaged) × (word_at store' d ≡ word_at store d)
+    -- the inputs of links that other processes have enabled
+    pub linked : (l : ℕ) (y : Name) → same_name x y ≡ false → enabler_on s n l ≡ Some y → enabler_on s' n l ≡ Some y
+    pub linked_back : (l : ℕ) (y : Name) → same_name x y ≡ false → enabler_on s' n l ≡ Some y
+        → enabler_on s n l ≡ Some y
+    pub awaited : (l : ℕ) (y : Name) → same_name x y ≡ false → input_at s n l ≡ Awaited y
+        → input_at s' n l ≡ Awaited y
+    pub noticed : (l : ℕ) (y : Name) → same_name x y ≡ false → enabler_on s n l ≡ Some y
+        → (slice_index_or links' l quiet_end).noticed ≡ (slice_index_or links l quiet_end).noticed
     -- the process itself
     pub own_quiet : is_quiet (stand_in (s' (Standing x))) ≡ true
-    pub own_choice : (a : Alternative) → alternative_at s' n x ≡ Some a → HasChoice s' n store' x a
+    pub own_choice : (a : Alternative) → alternative_at s' n x ≡ Some a → HasChoice s' n links' store' x a
     pub own_apart : (a : Alternative) → alternative_at s' n x ≡ Some a → (y : Name) (b : Alternative)
         → same_name x y ≡ false → y.node ≡ n → alternative_at s n y ≡ Some b → a.wptr ≡ b.wptr → ⊥
     pub own_ports : (d : ℕ) → x.node ≡ n → enables s' n x d ≡ true
-        → (a : Alternative) × (alternative_at s' n x ≡ Some a) × (enabler_at s' n d ≡ Some x)
+        → (a : Alternative) × (alternative_at s' n x ≡ Some a) × HasEnabled s' n d x
     pub own_enabled : (d : ℕ) → enabler_at s' n d ≡ Some x → IsEnabled s' n store' d x
+    pub own_linked : (l : ℕ) → l < 4 → enabler_on s' n l ≡ Some x → IsEnabledLink s' n l x
 
-  module _ (k : IsChanged) (h : ShowsChoices s n store) where
+  module _ (k : IsChanged) (h : ShowsChoices s n links store) where
     enables_alike : (y : Name) (d : ℕ) → same_name x y ≡ false → y.node ≡ n → enables s' n y d ≡ enables s n y d
     enables_alike y d other home = ap (λ (v : Value). has_port d (ports_in v)) (k.ports y other home)
 
-    sent_alike : (y : Name) (d : ℕ) → same_name x y ≡ false → y.node ≡ n → enables s n y d ≡ true
-        → is_sent s' n d ≡ is_sent s n d
-    sent_alike y d other home e = k.sent d y other (h.owner y d home e).2
+    due_alike : (y : Name) (d : ℕ) → same_name x y ≡ false → y.node ≡ n → enables s n y d ≡ true
+        → is_due s' n links' d ≡ is_due s n links d
+    due_alike y d other home e = by (h.owner y d home e).2
+      where
+        by : HasEnabled s n d y → is_due s' n links' d ≡ is_due s n links d
+        by (inl (internal, f)) = rw internal (k.sent d y other f)
+        by (inr (l, b, is, f)) =
+            subst (λ z. is_due s' n links' z ≡ is_due s n links z) (sym is)
+            (rw (input_is_link l b, input_names_link l b) (k.noticed l y other f))
 
-    ready_alike : (y : Name) (skips : Bool) → same_name x y ≡ false → y.node ≡ n → IsReady s n y skips
-        → IsReady s' n y skips
-    ready_alike y skips other home (inl e) = inl e
-    ready_alike y skips other home (inr (d, e, f)) =
-        inr (d, enables_alike y d other home ∙ e, sent_alike y d other home e ∙ f)
+    ready_alike : (y : Name) (skips : Bool) → same_name x y ≡ false → y.node ≡ n → IsReady s n links y skips
+        → IsReady s' n links' y skips
+    ready_alike y skips other home =
+        ready_same s s' n links links' y (k.ports y other home) (λ d e. due_alike y d other home e) skips
 
-    unready_alike : (y : Name) (skips : Bool) → same_name x y ≡ false → y.node ≡ n → IsUnready s n y skips
-        → IsUnready s' n y skips
-    unready_alike y skips other home (e, f) = (
-      e,
-      λ d g. (let old : enables s n y d ≡ true = sym (enables_alike y d other home) ∙ g in
-          sent_alike y d other home old ∙ f d old),
-    )
+    unready_alike : (y : Name) (skips : Bool) → same_name x y ≡ false → y.node ≡ n → IsUnready s n links y skips
+        → IsUnready s' n links' y skips
+    unready_alike y skips other home =
+        unready_same s s' n links links' y (k.ports y other home) (λ d e. due_alike y d other home e) skips
 
     choice_alike : (y : Name) (b : Alternative) → same_name x y ≡ false → y.node ≡ n → alternative_at s n y ≡ Some b
-        → HasChoice s n store y b → HasChoice s' n store' y b
+        → HasChoice s n links store y b → HasChoice s' n links' store' y b
     choice_alike y b other home is c =
         record {
           small = c.small;
@@ -112,21 +145,21 @@ module _ (p : Plan) (s s' : State) (n : ℕ) (store store' : Store) (x : Name) w
             × (word_at store' address ≡ word_at store address)
         same = k.states y b other home is c
 
-        by : ((word_at store address ≡ ready) × IsReady s n y b.skips)
-            ⊎ ((word_at store address ≡ unready_word b.waits) × IsUnready s n y b.skips)
-            → ((word_at store' address ≡ ready) × IsReady s' n y b.skips)
-            ⊎ ((word_at store' address ≡ unready_word b.waits) × IsUnready s' n y b.skips)
+        by : ((word_at store address ≡ ready) × IsReady s n links y b.skips)
+            ⊎ ((word_at store address ≡ unready_word b.waits) × IsUnready s n links y b.skips)
+            → ((word_at store' address ≡ ready) × IsReady s' n links' y b.skips)
+            ⊎ ((word_at store' address ≡ unready_word b.waits) × IsUnready s' n links' y b.skips)
         by (inl (e, f)) = inl (same.1 ∙ e, ready_alike y b.skips other home f)
         by (inr (e, f)) = inr (same.1 ∙ e, unready_alike y b.skips other home f)
 
     choices_now : (y : Name) (b : Alternative) → y.node ≡ n → alternative_at s' n y ≡ Some b
-        → HasChoice s' n store' y b
+        → HasChoice s' n links' store' y b
     choices_now y b home e = by (same_name x y) refl
       where
-        by : (t : Bool) → same_name x y ≡ t → HasChoice s' n store' y b
+        by : (t : Bool) → same_name x y ≡ t → HasChoice s' n links' store' y b
         by true f =
             let same : x ≡ y = one_name p x y f in
-            subst (λ z. HasChoice s' n store' z b) same (k.own_choice b (ap (alternative_at s' n) same ∙ e))
+            subst (λ z. HasChoice s' n links' store' z b) same (k.own_choice b (ap (alternative_at s' n) same ∙ e))
         by false f =
             let old : alternative_at s n y ≡ Some b = sym (k.stands y f home) ∙ e in
             choice_alike y b f home old (h.choices y b home old)
@@ -153,11 +186,15 @@ module _ (p : Plan) (s s' : State) (n : ℕ) (store store' : Store) (x : Name) w
         by false f = k.quiet y f home (h.quiet y home)
 
     abbrev Owns : Name → ℕ → Type 0
-    Owns y d = (a : Alternative) × (alternative_at s' n y ≡ Some a) × (enabler_at s' n d ≡ Some y)
+    Owns y d = (a : Alternative) × (alternative_at s' n y ≡ Some a) × HasEnabled s' n d y
 
     owner_now : (y : Name) (d : ℕ) → y.node ≡ n → enables s' n y d ≡ true → Owns y d
     owner_now y d home e = by (same_name x y) refl
       where
+        has_enabled : same_name x y ≡ false → HasEnabled s n d y → HasEnabled s' n d y
+        has_enabled f (inl (internal, g)) = inl (internal, k.inputs d y f g)
+        has_enabled f (inr (l, b, is, g)) = inr (l, b, is, k.linked l y f g)
+
         by : (t : Bool) → same_name x y ≡ t → Owns y d
         by true f =
             let same : x ≡ y = one_name p x y f in
@@ -165,7 +202,7 @@ module _ (p : Plan) (s s' : State) (n : ℕ) (store store' : Store) (x : Name) w
             (k.own_ports d (ap (λ (z : Name). z.node) same ∙ home) (ap (λ z. enables s' n z d) same ∙ e))
         by false f =
             let o = h.owner y d home (sym (enables_alike y d f home) ∙ e) in
-            (o.0, k.stands y f home ∙ o.1, k.inputs d y f o.2)
+            (o.0, k.stands y f home ∙ o.1, has_enabled f o.2)
 
     enabled_now : (d : ℕ) (y : Name) → enabler_at s' n d ≡ Some y → IsEnabled s' n store' d y
     enabled_now d y e = by (same_name x y) refl
@@ -179,6 +216,7 @@ module _ (p : Plan) (s s' : State) (n : ℕ) (store store' : Store) (x : Name) w
             let old : IsEnabled s n store d y = h.enabled d y before in
             let now = k.words d y f before old in
             record {
+              internal = old.internal;
               home = old.home;
               port = enables_alike y d f old.home ∙ old.port;
               placed = subst (λ z. word_place_break z d ≡ None) (sym k.size) old.placed;
@@ -188,7 +226,22 @@ module _ (p : Plan) (s s' : State) (n : ℕ) (store store' : Store) (x : Name) w
               awaited = λ a i g. k.held d y f (old.awaited a (sym (k.stands y f old.home) ∙ i) g);
             }
 
-    pub choices_changed : ShowsChoices s' n store'
+    linked_now : (l : ℕ) (y : Name) → l < 4 → enabler_on s' n l ≡ Some y → IsEnabledLink s' n l y
+    linked_now l y b e = by (same_name x y) refl
+      where
+        by : (t : Bool) → same_name x y ≡ t → IsEnabledLink s' n l y
+        by true f =
+            let same : x ≡ y = one_name p x y f in
+            subst (λ z. IsEnabledLink s' n l z) same (k.own_linked l b (e ∙ ap (λ z. Some z) (sym same)))
+        by false f =
+            let old : IsEnabledLink s n l y = h.linked l y b (k.linked_back l y f e) in
+            record {
+              home = old.home;
+              port = enables_alike y (input_channel l) f old.home ∙ old.port;
+              awaited = λ a i g. k.awaited l y f (old.awaited a (sym (k.stands y f old.home) ∙ i) g);
+            }
+
+    pub choices_changed : ShowsChoices s' n links' store'
     choices_changed =
         record {
           choices = choices_now;
@@ -196,4 +249,5 @@ module _ (p : Plan) (s s' : State) (n : ℕ) (store store' : Store) (x : Name) w
           quiet = quiet_now;
           owner = owner_now;
           enabled = enabled_now;
+          linked = linked_now;
         }

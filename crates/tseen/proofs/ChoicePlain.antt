@@ -2,8 +2,9 @@
 use Rattle.tprocesses.specs.Places.{Sending}
 use Rattle.tprocesses.specs.Values.{amount_in}
 use Rattle.tseen.proofs.ChoiceShown.{is_choice_place}
-use Rattle.std.proofs.Common.{option_map}
-use Rattle.std.proofs.Common.{◌≡◌, ◌≢◌, ℕ, ◌+◌, ◌*◌, ◌/◌, ◌≤◌, refl, sym, ap, subst, ◌∙◌, Bool, true, false, true≢false}
+use Rattle.std.proofs.Common.{option_map, ◌<◌}
+use Rattle.std.proofs.Common.{◌≡◌, ◌≢◌, ℕ, ◌+◌, ◌*◌, ◌/◌, ◌≤◌, refl, sym, ap, subst, ◌∙◌, Bool, true, false}
+use Rattle.std.proofs.Common.{true≢false}
 use Rattle.std.proofs.Common.{length, arith, ◌⊎◌, inl, inr, Option, Some, None, get_or}
 use Rattle.tword.specs.Words.{most_neg, word_below}
 use Rattle.tword.specs.Stores.{Store, place, word_at}
@@ -15,28 +16,32 @@ use Rattle.tproc.specs.Machine.{Control}
 use Rattle.tproc.specs.Queues.{state_word}
 use Rattle.tplan.specs.declared.plan.Plan.{Plan}
 use Rattle.tnet.specs.Rendezvous.{Configuration}
-use Rattle.tprocesses.specs.Places.{Place, Name, WordAt, Standing, Ports, Half, same_name}
+use Rattle.tprocesses.specs.Places.{Place, Name, WordAt, Standing, Ports, Half, LinkHalf, Unfinished, same_name}
+use Rattle.tplan.specs.Wires.{end_at}
 use Rattle.tprocesses.specs.Values.{Value, Use, Free, Saved, Receiving, Engaged}
 use Rattle.tprocesses.specs.Values.{Choosing, Awaiting, Last, Spoilt, Context}
-use Rattle.tprocesses.specs.Values.{Choice, Runs, IsStand, word_in, stand_in, half_in, ports_in}
+use Rattle.tprocesses.specs.Values.{Choice, Runs, IsStand, word_in, stand_in, half_in, link_in, ports_in}
 use Rattle.tprocesses.specs.Choosing.{has_port, is_taken}
 use Rattle.tprocesses.specs.Touching.{Site, word_number}
 use Rattle.tprocesses.specs.Machine.{site_of}
 use Rattle.tseen.specs.Known.{HasRegisters}
 use Rattle.tseen.specs.Words.{use_at}
-use Rattle.tseen.specs.Choices.{Alternative, alternative, alternative_of, alternative_at, is_quiet, enabler, enabler_at}
-use Rattle.tseen.specs.Choices.{enables, is_sent, HasChoice, IsEnabled, state_use}
+use Rattle.tseen.specs.Choices.{Alternative, alternative, alternative_of, alternative_at, is_quiet, enabler}
+use Rattle.tseen.specs.Choices.{enabler_at}
+use Rattle.tseen.specs.Choices.{enables, enabler_on, link_enabler, input_at, input_channel, unfired, descriptor_at}
+use Rattle.tseen.specs.Choices.{is_sent, HasChoice, HasEnabled, IsEnabled, IsEnabledLink, state_use}
 use Rattle.tseen.specs.Shown.{ShowsNode}
 use Rattle.tseen.specs.Steps.{IsCurrent}
 use Rattle.tseen.proofs.After.{State}
 use Rattle.tseen.proofs.Cells.{use_of, Tells}
 use Rattle.tseen.proofs.Written.{is_word_of}
 use Rattle.tseen.proofs.Writing.{word_lies}
-use Rattle.tseen.proofs.Finished.{is_stand_of}
+use Rattle.tseen.proofs.Finished.{is_stand_of, one_name}
+use Rattle.tseen.proofs.InputChannels.{unfired_enabler}
 use Rattle.tseen.proofs.Saving.{below}
 use Rattle.tseen.proofs.QueueLinks.{word_alike}
 use Rattle.tseen.proofs.Running.{RunsThere}
-use Rattle.tseen.proofs.Staying.{channels_stay}
+use Rattle.tseen.proofs.Staying.{channels_stay, link_stays}
 use Rattle.tseen.proofs.ChoiceChanged.{IsChanged, choices_changed}
 use Rattle.tseen.proofs.ChoiceShown.{HasGone, gone, is_open}
 use Rattle.tseen.proofs.Stepped.{shown_node, there}
@@ -111,15 +116,9 @@ module _ (p : Plan) (c : Configuration) (s : State) (n : ℕ) (x : Name) (k : Is
   abbrev pub w : ℕ
   w = m.registers.wptr
 
-  -- the process has gone on with words that programs may use or that have the state of its alternative
-  pub record IsPlainChoice (s' : State) (after : Registers) (last : Store) (d : Context) : Type 0 where
+  -- words have changed that programs may use or that have the state of the alternative of the process
+  pub record IsChoiceWords (s' : State) (last : Store) : Type 0 where
     pub tells : Tells s' n k.plan.memory last
-    pub stands : s' (Standing x) ≡ IsStand (Runs d)
-    pub knows : HasRegisters running.level after d
-    pub same_wptr : after.wptr ≡ w
-    pub same_error : after.error ≡ m.registers.error
-    pub same_halting : after.halt_on_error ≡ m.registers.halt_on_error
-    pub others : (q : Place) → is_word_of n q ≡ false → is_stand_of x q ≡ false → s' q ≡ s q
     pub words : (j : ℕ) → (s' (WordAt n j) ≡ s (WordAt n j))
         ⊎ ((is_for_choice (use_of s n j) ≡ true) × (is_for_choice (use_of s' n j) ≡ true))
     pub only : (i : ℕ) → is_for_choice (use_of s n (i / 4)) ≡ false → get_or last i None ≡ get_or store i None
@@ -127,19 +126,13 @@ module _ (p : Plan) (c : Configuration) (s : State) (n : ℕ) (x : Name) (k : Is
     pub states : (j : ℕ) → use_of s n j ≡ Choosing → j ≢ below w 3 → s' (WordAt n j) ≡ s (WordAt n j)
     pub state_cells : (i : ℕ) → use_of s n (i / 4) ≡ Choosing → i / 4 ≢ below w 3
         → get_or last i None ≡ get_or store i None
-    -- the alternative of the process
-    pub own_choice : (a : Alternative) → alternative_at s' n x ≡ Some a → HasChoice s' n last x a
-    pub own_apart : (y : Name) (b : Alternative) → same_name x y ≡ false → y.node ≡ n → alternative_at s n y ≡ Some b
-        → b.wptr ≡ w → (a : Alternative) → alternative_at s' n x ≡ Some a → ⊥
     -- that word is of no other one
     pub own_word : (y : Name) (b : Alternative) → same_name x y ≡ false → y.node ≡ n → alternative_at s n y ≡ Some b
-        → HasChoice s n store y b → below b.wptr 3 ≢ below w 3
-    pub own_keeps : (e : ℕ) → enables s n x e ≡ true → (a : Alternative) × (alternative_at s' n x ≡ Some a)
+        → HasChoice s n m.links store y b → below b.wptr 3 ≢ below w 3
 
-  module _ (s' : State) (after : Registers) (count : ℕ) (last : Store) (d : Context)
-      (g : IsPlainChoice s' after last d) where
+  module _ (s' : State) (last : Store) (g : IsChoiceWords s' last) where
     -- what is neither free nor the state of an alternative stays
-    stays : (j : ℕ) → is_for_choice (use_of s n j) ≡ false → s' (WordAt n j) ≡ s (WordAt n j)
+    pub stays : (j : ℕ) → is_for_choice (use_of s n j) ≡ false → s' (WordAt n j) ≡ s (WordAt n j)
     stays j h = by (g.words j)
       where
         by : (s' (WordAt n j) ≡ s (WordAt n j))
@@ -148,10 +141,10 @@ module _ (p : Plan) (c : Configuration) (s : State) (n : ℕ) (x : Name) (k : Is
         by (inl e) = e
         by (inr e) = absurd (true≢false (sym e.0 ∙ h))
 
-    used : (j : ℕ) → is_for_choice (use_of s n j) ≡ false → use_of s' n j ≡ use_of s n j
+    pub used : (j : ℕ) → is_for_choice (use_of s n j) ≡ false → use_of s' n j ≡ use_of s n j
     used j h = ap (λ (v : Value). (word_in v).used) (stays j h)
 
-    engaged_back : (j : ℕ) → use_of s' n j ≡ Engaged → use_of s n j ≡ Engaged
+    pub engaged_back : (j : ℕ) → use_of s' n j ≡ Engaged → use_of s n j ≡ Engaged
     engaged_back j e = by (g.words j)
       where
         by : (s' (WordAt n j) ≡ s (WordAt n j))
@@ -160,7 +153,7 @@ module _ (p : Plan) (c : Configuration) (s : State) (n : ℕ) (x : Name) (k : Is
         by (inl f) = ap (λ (v : Value). (word_in v).used) (sym f) ∙ e
         by (inr f) = absurd (true≢false (sym f.1 ∙ ap is_for_choice e))
 
-    same_size : length last ≡ length store
+    pub same_size : length last ≡ length store
     same_size = g.tells.length ∙ sym shown.size
 
     -- a word whose cells stay
@@ -177,32 +170,14 @@ module _ (p : Plan) (c : Configuration) (s : State) (n : ℕ) (x : Name) (k : Is
           aligned = omega (arith, l.0, l.1);
         }) (λ j b. same (place a + j) (omega (arith, l.0, b)))
 
-    channel_word : (a : ℕ) → word_place_break (length store) a ≡ None → use_at s n a ≡ Engaged
+    pub channel_word : (a : ℕ) → word_place_break (length store) a ≡ None → use_at s n a ≡ Engaged
         → word_at last a ≡ word_at store a
     channel_word a h e =
         word_same a h (λ i f. g.only i (ap is_for_choice (ap (use_of s n) f ∙ e)))
 
-    halves : (a : ℕ) (side : Side) → s' (Half n a side) ≡ s (Half n a side)
-    halves a side = g.others (Half n a side) refl refl
-
-    ports_are : (y : Name) → s' (Ports y) ≡ s (Ports y)
-    ports_are y = g.others (Ports y) refl refl
-
-    enabler_is : (e : ℕ) → enabler_at s' n e ≡ enabler_at s n e
-    enabler_is e = ap (λ (v : Value). enabler (half_in v)) (halves e Input)
-
-    sent_is : (e : ℕ) → is_sent s' n e ≡ is_sent s n e
-    sent_is e = ap (λ (v : Value). is_taken (half_in v)) (halves e Output)
-
-    enables_is : (e : ℕ) → enables s' n x e ≡ enables s n x e
-    enables_is e = ap (λ (v : Value). has_port e (ports_in v)) (ports_are x)
-
-    stand_stays : (y : Name) → same_name x y ≡ false → s' (Standing y) ≡ s (Standing y)
-    stand_stays y h = g.others (Standing y) refl h
-
     -- the word of another alternative
-    state_stays : (y : Name) (b : Alternative) → same_name x y ≡ false → y.node ≡ n → alternative_at s n y ≡ Some b
-        → HasChoice s n store y b
+    pub state_stays : (y : Name) (b : Alternative) → same_name x y ≡ false → y.node ≡ n → alternative_at s n y ≡ Some b
+        → HasChoice s n m.links store y b
         → (s' (WordAt n (below b.wptr 3)) ≡ s (WordAt n (below b.wptr 3)))
         × (word_at last (word_below b.wptr state_word) ≡ word_at store (word_below b.wptr state_word))
     state_stays y b f home is it = by b.runs refl
@@ -226,28 +201,99 @@ module _ (p : Plan) (c : Configuration) (s : State) (n : ℕ) (x : Name) (k : Is
                   (λ i h. g.only i (ap (λ z. is_for_choice (use_of s n z)) h ∙ other)),
             )
 
-    -- its alternative before has the same workspace and priority
-    same_context : (a b : Alternative) → alternative_at s n x ≡ Some a → alternative_at s' n x ≡ Some b
-        → a.wptr + a.priority ≡ b.wptr + b.priority
-    same_context a b e f =
-        let old = alternative_context true false running.context a
-        (sym (ap (λ (v : Value). alternative_of (stand_in v)) running.stood) ∙ e) in
-        let new = alternative_context true false d b
-        (sym (ap (λ (v : Value). alternative_of (stand_in v)) g.stands) ∙ f) in
-        omega (
-          arith,
-          old.0,
-          old.1,
-          new.0,
-          new.1,
-          running.registers.wptr,
-          running.registers.priority,
-          g.knows.wptr,
-          g.knows.priority,
-          g.same_wptr,
-        )
+  -- an alternative of the process before and after has the same workspace and priority
+  pub same_context : (s' : State) (after : Registers) (d : Context) → s' (Standing x) ≡ IsStand (Runs d)
+      → HasRegisters running.level after d → after.wptr ≡ w → (a b : Alternative) → alternative_at s n x ≡ Some a
+      → alternative_at s' n x ≡ Some b → a.wptr + a.priority ≡ b.wptr + b.priority
+  same_context s' after d stands knows same_wptr a b e f =
+      let old = alternative_context true false running.context a
+      (sym (ap (λ (v : Value). alternative_of (stand_in v)) running.stood) ∙ e) in
+      let new = alternative_context true false d b
+      (sym (ap (λ (v : Value). alternative_of (stand_in v)) stands) ∙ f) in
+      omega (
+        arith,
+        old.0,
+        old.1,
+        new.0,
+        new.1,
+        running.registers.wptr,
+        running.registers.priority,
+        knows.wptr,
+        knows.priority,
+        same_wptr,
+      )
 
-    changed_choice : IsChanged p s s' n store last x
+  -- the process has gone on with words that programs may use or that have the state of its alternative
+  pub record IsPlainChoice (s' : State) (after : Registers) (last : Store) (d : Context) : Type 0 where
+    pub tells : Tells s' n k.plan.memory last
+    pub stands : s' (Standing x) ≡ IsStand (Runs d)
+    pub knows : HasRegisters running.level after d
+    pub same_wptr : after.wptr ≡ w
+    pub same_error : after.error ≡ m.registers.error
+    pub same_halting : after.halt_on_error ≡ m.registers.halt_on_error
+    pub others : (q : Place) → is_word_of n q ≡ false → is_stand_of x q ≡ false → s' q ≡ s q
+    pub words : (j : ℕ) → (s' (WordAt n j) ≡ s (WordAt n j))
+        ⊎ ((is_for_choice (use_of s n j) ≡ true) × (is_for_choice (use_of s' n j) ≡ true))
+    pub only : (i : ℕ) → is_for_choice (use_of s n (i / 4)) ≡ false → get_or last i None ≡ get_or store i None
+    -- the state of another alternative stays
+    pub states : (j : ℕ) → use_of s n j ≡ Choosing → j ≢ below w 3 → s' (WordAt n j) ≡ s (WordAt n j)
+    pub state_cells : (i : ℕ) → use_of s n (i / 4) ≡ Choosing → i / 4 ≢ below w 3
+        → get_or last i None ≡ get_or store i None
+    -- the alternative of the process
+    pub own_choice : (a : Alternative) → alternative_at s' n x ≡ Some a → HasChoice s' n m.links last x a
+    pub own_apart : (y : Name) (b : Alternative) → same_name x y ≡ false → y.node ≡ n → alternative_at s n y ≡ Some b
+        → b.wptr ≡ w → (a : Alternative) → alternative_at s' n x ≡ Some a → ⊥
+    -- that word is of no other one
+    pub own_word : (y : Name) (b : Alternative) → same_name x y ≡ false → y.node ≡ n → alternative_at s n y ≡ Some b
+        → HasChoice s n m.links store y b → below b.wptr 3 ≢ below w 3
+    pub own_keeps : (e : ℕ) → enables s n x e ≡ true → (a : Alternative) × (alternative_at s' n x ≡ Some a)
+
+  module _ (s' : State) (after : Registers) (count : ℕ) (last : Store) (d : Context)
+      (g : IsPlainChoice s' after last d) where
+    abbrev changes : IsChoiceWords s' last
+    changes =
+        record {
+          tells = g.tells;
+          words = g.words;
+          only = g.only;
+          states = g.states;
+          state_cells = g.state_cells;
+          own_word = g.own_word;
+        }
+
+    halves : (a : ℕ) (side : Side) → s' (Half n a side) ≡ s (Half n a side)
+    halves a side = g.others (Half n a side) refl refl
+
+    ports_are : (y : Name) → s' (Ports y) ≡ s (Ports y)
+    ports_are y = g.others (Ports y) refl refl
+
+    enabler_is : (e : ℕ) → enabler_at s' n e ≡ enabler_at s n e
+    enabler_is e = ap (λ (v : Value). enabler (half_in v)) (halves e Input)
+
+    sent_is : (e : ℕ) → is_sent s' n e ≡ is_sent s n e
+    sent_is e = ap (λ (v : Value). is_taken (half_in v)) (halves e Output)
+
+    enables_is : (e : ℕ) → enables s' n x e ≡ enables s n x e
+    enables_is e = ap (λ (v : Value). has_port e (ports_in v)) (ports_are x)
+
+    stand_stays : (y : Name) → same_name x y ≡ false → s' (Standing y) ≡ s (Standing y)
+    stand_stays y h = g.others (Standing y) refl h
+
+    context_same : (a b : Alternative) → alternative_at s n x ≡ Some a → alternative_at s' n x ≡ Some b
+        → a.wptr + a.priority ≡ b.wptr + b.priority
+    context_same = same_context s' after d g.stands g.knows g.same_wptr
+
+    input_is : (l : ℕ) → input_at s' n l ≡ input_at s n l
+    input_is l = ap link_in (g.others (LinkHalf (end_at n l) Input) refl refl)
+
+    on_is : (l : ℕ) → enabler_on s' n l ≡ enabler_on s n l
+    on_is l = ap link_enabler (input_is l)
+
+    has_enabled : (e : ℕ) → HasEnabled s n e x → HasEnabled s' n e x
+    has_enabled e (inl (internal, f)) = inl (internal, enabler_is e ∙ f)
+    has_enabled e (inr (l, b, is, f)) = inr (l, b, is, on_is l ∙ f)
+
+    changed_choice : IsChanged p s s' n m.links m.links store last x
     changed_choice =
         record {
           stands = λ y f home. ap (λ (v : Value). alternative_of (stand_in v)) (stand_stays y f);
@@ -258,19 +304,24 @@ module _ (p : Plan) (c : Configuration) (s : State) (n : ℕ) (x : Name) (k : Is
           held = λ e y f h. ap half_in (halves e Input) ∙ h;
           unsent = λ j e z. ap amount_in (g.others (Sending n j) refl refl) ∙ z;
           sent = λ e y f h. sent_is e;
-          size = same_size;
-          states = state_stays;
+          size = same_size s' last changes;
+          states = state_stays s' last changes;
           words = λ e y f h it. (
-            used (word_number e) (ap is_for_choice it.engaged) ∙ it.engaged,
-            channel_word e it.placed it.engaged,
+            used s' last changes (word_number e) (ap is_for_choice it.engaged) ∙ it.engaged,
+            channel_word s' last changes e it.placed it.engaged,
           );
           own_quiet = ap (λ (v : Value). is_quiet (stand_in v)) g.stands;
           own_choice = g.own_choice;
           own_apart = λ a e y b f home is same. g.own_apart y b f home is (sym same ∙ workspace a e) a e;
+          linked = λ l y f h. on_is l ∙ h;
+          linked_back = λ l y f h. sym (on_is l) ∙ h;
+          awaited = λ l y f h. input_is l ∙ h;
+          noticed = λ l y f h. refl;
           own_ports = λ e home h. (let old : enables s n x e ≡ true = sym (enables_is e) ∙ h in
               let keeps = g.own_keeps e old in
-              (keeps.0, keeps.1, enabler_is e ∙ (shown.choices.owner x e home old).2));
+              (keeps.0, keeps.1, has_enabled e (shown.choices.owner x e home old).2));
           own_enabled = own_enabled;
+          own_linked = own_linked;
         }
       where
         workspace : (a : Alternative) → alternative_at s' n x ≡ Some a → a.wptr ≡ w
@@ -283,18 +334,57 @@ module _ (p : Plan) (c : Configuration) (s : State) (n : ℕ) (x : Name) (k : Is
             let old : IsEnabled s n store e x = shown.choices.enabled e x (sym (enabler_is e) ∙ h) in
             let own = shown.choices.owner x e old.home old.port in
             record {
+              internal = old.internal;
               home = old.home;
               port = enables_is e ∙ old.port;
-              placed = subst (λ z. word_place_break z e ≡ None) (sym same_size) old.placed;
-              engaged = used (word_number e) (ap is_for_choice old.engaged) ∙ old.engaged;
-              names = λ f a i. channel_word e old.placed old.engaged ∙ old.names (sym (sent_is e) ∙ f) own.0 own.1
-                  ∙ same_context own.0 a own.1 i;
+              placed = subst (λ z. word_place_break z e ≡ None) (sym (same_size s' last changes)) old.placed;
+              engaged = used s' last changes (word_number e) (ap is_for_choice old.engaged) ∙ old.engaged;
+              names = λ f a i. channel_word s' last changes e old.placed old.engaged
+                  ∙ old.names (sym (sent_is e) ∙ f) own.0 own.1
+                  ∙ context_same own.0 a own.1 i;
               awaited = λ a i f. absurd (true≢false (sym f ∙ (alternative_context true false d a
                   (sym (ap (λ (v : Value). alternative_of (stand_in v)) g.stands) ∙ i)).3));
             }
 
+        own_linked : (l : ℕ) → l < 4 → enabler_on s' n l ≡ Some x → IsEnabledLink s' n l x
+        own_linked l b h =
+            let old : IsEnabledLink s n l x = shown.choices.linked l x b (sym (on_is l) ∙ h) in
+            record {
+              home = old.home;
+              port = enables_is (input_channel l) ∙ old.port;
+              awaited = λ a i f. absurd (true≢false (sym f ∙ (alternative_context true false d a
+                  (sym (ap (λ (v : Value). alternative_of (stand_in v)) g.stands) ∙ i)).3));
+            }
+
+    -- who has enabled the input of a link has the same descriptor
+    descriptor_is : (l : ℕ) → l < 4 → (y : Name) → unfired (input_at s n l) ≡ Some y
+        → descriptor_at s' n y ≡ descriptor_at s n y
+    descriptor_is l b y e = by (same_name x y) refl
+      where
+        old : IsEnabledLink s n l y
+        old = shown.choices.linked l y b (unfired_enabler (input_at s n l) y e)
+
+        own_is : x.node ≡ n → enables s n x (input_channel l) ≡ true → descriptor_at s' n x ≡ descriptor_at s n x
+        own_is home port =
+            let keeps = g.own_keeps (input_channel l) port in
+            let own = shown.choices.owner x (input_channel l) home port in
+            ap described keeps.1 ∙ ap (λ z. Some z) (sym (context_same own.0 keeps.0 own.1 keeps.1))
+            ∙ sym (ap described own.1)
+          where
+            described : Option Alternative → Option ℕ
+            described o = option_map (λ (a : Alternative). a.wptr + a.priority) o
+
+        by : (t : Bool) → same_name x y ≡ t → descriptor_at s' n y ≡ descriptor_at s n y
+        by false f = ap (λ (v : Value). option_map (λ (a : Alternative). a.wptr + a.priority)
+            (alternative_of (stand_in v))) (stand_stays y f)
+        by true f =
+            let same : x ≡ y = one_name p x y f in
+            subst (λ z. descriptor_at s' n z ≡ descriptor_at s n z) same
+            (own_is (ap (λ (z : Name). z.node) same ∙ old.home)
+            (ap (λ z. enables s n z (input_channel l)) same ∙ old.port))
+
     -- so the process has gone on
-    pub plain_gone : HasGone p c s n x k s' after count last d
+    pub plain_gone : HasGone p c s n x k s' after count m.links last d
     plain_gone =
         record {
           tells = g.tells;
@@ -307,10 +397,18 @@ module _ (p : Plan) (c : Configuration) (s : State) (n : ℕ) (x : Name) (k : Is
           words = λ j. opened j (g.words j);
           only = λ i h. g.only i (not_open_for_choice (use_of s n (i / 4)) h);
           channels = channels_stay s s' n (k.shows.named n) (k.shows.named n) k.node.machine
-              (gone p c s n x k after count last) (λ b. refl)
-              (λ j e. used j (ap is_for_choice e) ∙ e) engaged_back halves (λ b. refl) same_size channel_word
+              (gone p c s n x k after count m.links last) (λ b. refl)
+              (λ j e. used s' last changes j (ap is_for_choice e) ∙ e) (engaged_back s' last changes) halves (λ b. refl)
+              (same_size s' last changes) (channel_word s' last changes)
               shown.channels;
-          choices = choices_changed p s s' n store last x changed_choice shown.choices;
+          choices = choices_changed p s s' n m.links m.links store last x changed_choice shown.choices;
+          same_inputs = λ l. refl;
+          same_claims = refl;
+          notices = λ l e. e;
+          linked = λ l b. link_stays s s' n (k.shows.named n) (k.shows.named n) (k.shows.sent n) k.node
+              (record k.node { machine = gone p c s n x k after count m.links last }) l (λ w. refl)
+              (λ side. g.others (LinkHalf (end_at n l) side) refl refl)
+              (g.others (Unfinished (end_at n l)) refl refl) (descriptor_is l b) refl refl (shown.links l b);
         }
       where
         opened : (j : ℕ) → (s' (WordAt n j) ≡ s (WordAt n j))

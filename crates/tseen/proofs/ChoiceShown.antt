@@ -1,22 +1,23 @@
 -- A node whose current process goes on in an alternative is shown.
-use Rattle.std.specs.Prelude.{IfSome}
+use Rattle.std.specs.Prelude.{IfSome, slice_index_or}
 use Rattle.tproc.specs.Placement.{IsBuffer}
-use Rattle.tproc.specs.LinkChannels.{link_end}
+use Rattle.tproc.specs.LinkChannels.{link_end, quiet_end}
+use Rattle.tproc.specs.declared.waiter.LinkEnd.{LinkEnd}
 use Rattle.tseen.proofs.Receives.{input_receives}
 use Rattle.tprocesses.specs.Values.{IsFlag}
 use Rattle.std.proofs.Common.{cond}
 use Rattle.std.specs.Prelude.{◌==◌}
 use Rattle.std.proofs.Common.{◌≡◌, ◌≢◌, ℕ, ◌+◌, ◌/◌, ◌%◌, refl, sym, ap, subst, ◌∙◌, Bool, true, false}
-use Rattle.std.proofs.Common.{true≢false, length, Contains, Ok, arith, ◌⊎◌, inl, inr, pos, None, get_or}
+use Rattle.std.proofs.Common.{true≢false, length, Contains, Ok, arith, ◌⊎◌, inl, inr, pos, None, get_or, List, ◌<◌}
 use Rattle.std.proofs.lemmas.Bool.{eqb-true, ne_eqb}
 use Rattle.std.proofs.lemmas.List.Elements.{All-contains}
 use Rattle.std.proofs.lemmas.Option.{IfSome_then}
 use Rattle.tword.specs.Words.{most_neg, word_below}
-use Rattle.tword.specs.Stores.{Store, word_at}
-use Rattle.tword.specs.Claims.{is_input}
+use Rattle.tword.specs.Stores.{Store, word_at, hiding}
+use Rattle.tword.specs.Claims.{Claims, is_input}
 use Rattle.tword.specs.Touches.{byte_span}
 use Rattle.tcpu.specs.declared.registers.Registers.{Registers}
-use Rattle.tproc.specs.declared.channels.Side.TheVariants.{Input}
+use Rattle.tproc.specs.declared.channels.Side.TheVariants.{Input, Output}
 use Rattle.tproc.specs.declared.ran.Ran.TheVariants as ran
 use Rattle.tproc.specs.Hidden.{hidden}
 use Rattle.tproc.specs.Machine.{Control, Machine, claims_of, descheduled, workspace_of}
@@ -33,11 +34,11 @@ use Rattle.tprocesses.specs.Places.{Life, Population, HasRun, same_name}
 use Rattle.tprocesses.specs.Values.{Value, Use, Free, Saved, Receiving, Engaged}
 use Rattle.tprocesses.specs.Values.{Choosing, Awaiting, Last, Spoilt, Context}
 use Rattle.tprocesses.specs.Values.{Stand, Rests, Runs, IsStand, IsAmount, word_in}
-use Rattle.tprocesses.specs.Machine.{awaits_successor}
+use Rattle.tprocesses.specs.Machine.{awaits_successor, is_passable}
 use Rattle.tseen.specs.Known.{HasRegisters}
 use Rattle.tseen.specs.Seats.{Seat, Current, Interrupted, Queued, Waiting, is_taken}
 use Rattle.tseen.specs.Words.{AreSavedWords, is_set_aside}
-use Rattle.tseen.specs.Halves.{ShowsChannels}
+use Rattle.tseen.specs.Halves.{ShowsChannels, ShowsLink}
 use Rattle.tseen.specs.Choices.{ShowsChoices}
 use Rattle.tseen.specs.Processes.{IsSeated, IsGone, ShowsProcesses}
 use Rattle.tseen.specs.Shown.{ShowsNode}
@@ -47,7 +48,7 @@ use Rattle.tseen.proofs.Cells.{use_of, Tells, shows_from}
 use Rattle.tseen.proofs.Frames.{node_at}
 use Rattle.tseen.proofs.Finished.{one_name}
 use Rattle.tseen.proofs.Running.{RunsThere}
-use Rattle.tseen.proofs.Staying.{saved_words_stay, marks_from, link_stays}
+use Rattle.tseen.proofs.Staying.{saved_words_stay, marks_from}
 use Rattle.tseen.proofs.Counted.{count_at, settled, live_long, lives_are, waits_descheduled, queued_descheduled}
 use Rattle.tseen.proofs.Others.{interrupted_seated, other_name, queued_seated, waiting_seated, is_running}
 use Rattle.tseen.proofs.Others.{queued_not_running, waiting_not_running}
@@ -86,6 +87,7 @@ is_choice_place n x (WordAt m j) = n == m
 is_choice_place n x (Standing y) = same_name x y
 is_choice_place n x (Ports y) = same_name x y
 is_choice_place n x (Half m d Input) = n == m
+is_choice_place n x (LinkHalf e Input) = n == e.node
 is_choice_place n x _ = false
 
 module _ (p : Plan) (c : Configuration) (s : State) (n : ℕ) (x : Name) (k : IsCurrent p c s n x) where
@@ -105,11 +107,13 @@ module _ (p : Plan) (c : Configuration) (s : State) (n : ℕ) (x : Name) (k : Is
   named = k.shows.named n
 
   -- the machine where it goes on
-  abbrev pub gone : Registers → ℕ → Store → Machine
-  gone after count last = record { control = record m { registers = after; count = count }; store = last }
+  abbrev pub gone : Registers → ℕ → List LinkEnd → Store → Machine
+  gone after count links last =
+      record { control = record m { registers = after; count = count; links = links }; store = last }
 
   -- the process has gone on, and words have changed that programs may use, as channels or for alternatives
-  pub record HasGone (s' : State) (after : Registers) (count : ℕ) (last : Store) (d : Context) : Type 0 where
+  pub record HasGone (s' : State) (after : Registers) (count : ℕ) (links : List LinkEnd) (last : Store) (d : Context)
+      : Type 0 where
     pub tells : Tells s' n k.plan.memory last
     pub stands : s' (Standing x) ≡ IsStand (Runs d)
     pub knows : HasRegisters running.level after d
@@ -120,14 +124,20 @@ module _ (p : Plan) (c : Configuration) (s : State) (n : ℕ) (x : Name) (k : Is
     pub words : (j : ℕ) → (s' (WordAt n j) ≡ s (WordAt n j))
         ⊎ ((is_open (use_of s n j) ≡ true) × (is_open (use_of s' n j) ≡ true))
     pub only : (i : ℕ) → is_open (use_of s n (i / 4)) ≡ false → get_or last i None ≡ get_or store i None
-    pub channels : ShowsChannels s' n named (gone after count last)
-    pub choices : ShowsChoices s' n last
+    pub channels : ShowsChannels s' n named (gone after count links last)
+    pub choices : ShowsChoices s' n links last
+    -- no message of a link comes or goes, and no byte is noticed
+    pub same_inputs : (l : ℕ) → (slice_index_or links l quiet_end).input ≡ (link_end m l).input
+    pub same_claims : claims_of (gone after count links last).control ≡ claims_of m
+    pub notices : (l : ℕ) → (slice_index_or links l quiet_end).noticed ≡ true → (link_end m l).noticed ≡ true
+    pub linked : (l : ℕ) → l < 4
+        → ShowsLink s' n named (k.shows.sent n) (record k.node { machine = gone after count links last }) l
 
-  module _ (s' : State) (after : Registers) (count : ℕ) (last : Store) (d : Context)
-      (g : HasGone s' after count last d)
-      (stepped : step k.node.machine ≡ Ok (gone after count last, ran.Instruction)) where
+  module _ (s' : State) (after : Registers) (count : ℕ) (links : List LinkEnd) (last : Store) (d : Context)
+      (g : HasGone s' after count links last d)
+      (stepped : step k.node.machine ≡ Ok (gone after count links last, ran.Instruction)) where
     abbrev m' : Machine
-    m' = gone after count last
+    m' = gone after count links last
 
     abbrev node' : Node
     node' = record k.node { machine = m' }
@@ -277,12 +287,11 @@ module _ (p : Plan) (c : Configuration) (s : State) (n : ℕ) (x : Name) (k : Is
           marks = marks_from s s' n (k.shows.sent n) (k.shows.sent n) m m'.control
               (λ w h. saved_words_stay s s' n w (λ j e. stays j (aside_not_open (use_of s n j) e))
               (All-contains (AreSavedWords s n) (descheduled m) w shown.marks.saved h))
-              (λ l. refl)
+              g.same_inputs
               (λ j e. ap (λ (v : Value). (word_in v).used) (stays j (ap is_open e)) ∙ e)
               (λ j. g.others (Sending n j) refl ∙ shown.marks.outputs j) none_due shown.marks;
           channels = g.channels;
-          links = λ l h. link_stays s s' n named named (k.shows.sent n) k.node node' l (λ b. refl)
-              (λ side. g.others (LinkHalf (end_at n l) side) refl) refl refl (shown.links l h);
+          links = g.linked;
           processes = processes_now;
           choices = g.choices;
         }
@@ -291,7 +300,8 @@ module _ (p : Plan) (c : Configuration) (s : State) (n : ℕ) (x : Name) (k : Is
     hides : hidden m' ≡ m'
     hides =
         ap (λ (z : Store). record { control = m'.control; store = z })
-        (hidden_if m store last (λ i h. g.only i (input_shut i h)) (ap (λ (z : Machine). z.store) k.steady.hides))
+        (ap (λ (z : Claims). hiding (λ a. is_input z (byte_span a)) last) g.same_claims
+        ∙ hidden_if m store last (λ i h. g.only i (input_shut i h)) (ap (λ (z : Machine). z.store) k.steady.hides))
       where
         buffers : (j : ℕ) → IfSome (link_end m j).input (IsBuffer (length store))
         buffers j = IfSome_then (link_end m j).input (k.steady.placed.claimed.inputs j) (λ o h. h.1)
@@ -309,8 +319,16 @@ module _ (p : Plan) (c : Configuration) (s : State) (n : ℕ) (x : Name) (k : Is
         other (Standing y) h = rw (ne_eqb x.node y.node (λ f. h (sym f ∙ running.home))) refl
         other (Ports y) h = rw (ne_eqb x.node y.node (λ f. h (sym f ∙ running.home))) refl
         other (Half b e Input) h = ne_eqb n b (λ f. h (sym f))
+        other (LinkHalf e Input) h = ne_eqb n e.node (λ f. h (sym f))
         other _ h = refl
 
     -- so the node's step leads there
     pub gone_leads : LeadsTo p c n s'
-    gone_leads = leads_there p c s n x k m' s' named (k.shows.sent n) stepped hides gone_shown elsewhere
+    gone_leads =
+        leads_there p c s n x k m' s' named (k.shows.sent n) stepped hides gone_shown elsewhere (record {
+          offers = λ l. offer_stays (LinkHalf (end_at n l) Output) (g.others (LinkHalf (end_at n l) Output) refl);
+          notices = g.notices;
+        })
+      where
+        offer_stays : (q : Place) → s' q ≡ s q → is_passable q (s q) ≡ true → is_passable q (s' q) ≡ true
+        offer_stays q same h = ap (is_passable q) same ∙ h

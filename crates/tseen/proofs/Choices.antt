@@ -7,7 +7,7 @@ use Rattle.tprocesses.specs.Values.{Awaiting, Receiving, Last, Spoilt}
 use Rattle.std.proofs.lemmas.Bool.{or_cases, eqb-true}
 use Rattle.std.specs.Prelude.{◌||◌, ◌==◌}
 use Rattle.std.proofs.Common.{◌⊎◌, inl, inr, ◌≡◌, ℕ, refl, sym, ap, subst, ◌∙◌, Bool, true, false, length, Option, Some}
-use Rattle.std.proofs.Common.{None, option_map, true≢false, pos}
+use Rattle.std.proofs.Common.{None, option_map, true≢false, pos, List, ◌<◌}
 use Rattle.std.specs.Prelude.{is_none}
 use Rattle.tword.specs.Stores.{Store, word_at}
 use Rattle.tword.specs.Touches.{word_place_break}
@@ -16,6 +16,7 @@ use Rattle.tproc.specs.declared.channels.Side.{Side}
 use Rattle.tproc.specs.declared.channels.Side.TheVariants.{Input, Output}
 use Rattle.tproc.specs.Channels.{ready}
 use Rattle.tproc.specs.Queues.{state_word}
+use Rattle.tproc.specs.declared.waiter.LinkEnd.{LinkEnd}
 use Rattle.tplan.specs.declared.plan.Plan.{Plan}
 use Rattle.tprocesses.specs.Places.{Name, Standing, Half, Ports, same_name}
 use Rattle.tprocesses.specs.Values.{Value, Use, Free, Saved, Engaged}
@@ -25,11 +26,13 @@ use Rattle.tprocesses.specs.Choosing.{has_port, is_taken}
 use Rattle.tprocesses.specs.Touching.{word_number}
 use Rattle.tseen.specs.Words.{use_at}
 use Rattle.tseen.specs.Choices.{Alternative, alternative, alternative_of, alternative_at, is_quiet}
-use Rattle.tseen.specs.Choices.{enabler, enabler_at, enables, is_sent, IsReady}
+use Rattle.tseen.specs.Choices.{enabler, enabler_at, enabler_on, enables, is_sent, is_due, input_channel, IsReady}
+use Rattle.tseen.specs.Choices.{HasEnabled, IsEnabledLink}
 use Rattle.tseen.specs.Choices.{IsUnready, HasChoice, IsEnabled, ShowsChoices, unready_word}
 use Rattle.tseen.proofs.After.{State}
 use Rattle.tseen.proofs.Cells.{use_of}
 use Rattle.tseen.proofs.Finished.{one_name}
+use Rattle.tseen.proofs.InputChannels.{KeepsInputs, due_stays, enabler_stays, awaited_stays}
 
 -- the alternative of a context
 pub alternative_with : (runs waits : Bool) (c : Context) (choice : Choice) → c.choice ≡ Some choice
@@ -104,21 +107,20 @@ lasting_not_free e f = true≢false (sym e ∙ ap is_lasting f)
 pub lasting_not_saved : {used : Use} → is_lasting used ≡ true → used ≡ Saved → ⊥
 lasting_not_saved e f = true≢false (sym e ∙ ap is_lasting f)
 
--- whether an alternative need not wait, where its channels are those and the same are sent on
-module _ (s s' : State) (n : ℕ) (x : Name) (ports : s' (Ports x) ≡ s (Ports x))
-    (halves : (d : ℕ) → s' (Half n d Output) ≡ s (Half n d Output)) where
+-- whether an alternative need not wait, where its channels are those and the same are ready
+module _ (s s' : State) (n : ℕ) (links links' : List LinkEnd) (x : Name) (ports : s' (Ports x) ≡ s (Ports x))
+    (due : (d : ℕ) → enables s n x d ≡ true → is_due s' n links' d ≡ is_due s n links d) where
   pub enables_same : (d : ℕ) → enables s' n x d ≡ enables s n x d
   enables_same d = ap (λ (v : Value). has_port d (ports_in v)) ports
 
-  pub ready_same : (skips : Bool) → IsReady s n x skips → IsReady s' n x skips
+  pub ready_same : (skips : Bool) → IsReady s n links x skips → IsReady s' n links' x skips
   ready_same skips (inl e) = inl e
-  ready_same skips (inr (d, e, f)) =
-      inr (d, enables_same d ∙ e, ap (λ (v : Value). is_taken (half_in v)) (halves d) ∙ f)
+  ready_same skips (inr (d, e, f)) = inr (d, enables_same d ∙ e, due d e ∙ f)
 
-  pub unready_same : (skips : Bool) → IsUnready s n x skips → IsUnready s' n x skips
+  pub unready_same : (skips : Bool) → IsUnready s n links x skips → IsUnready s' n links' x skips
   unready_same skips (e, f) = (
     e,
-    λ d g. ap (λ (v : Value). is_taken (half_in v)) (halves d) ∙ f d (sym (enables_same d) ∙ g),
+    λ d g. (let old : enables s n x d ≡ true = sym (enables_same d) ∙ g in due d old ∙ f d old),
   )
 
 -- where one process alone stands elsewhere
@@ -164,9 +166,10 @@ module _ (p : Plan) (s s' : State) (n : ℕ) (x z : Name)
       by false e false f = ap (λ (v : Value). is_quiet (stand_in v)) (stay y e f) ∙ h
 
 -- a process has no alternative where the word is free that would have its state
-pub no_choice : (s : State) (n : ℕ) (store : Store) (x : Name) (c : Context) → ShowsChoices s n store → x.node ≡ n
+pub no_choice : (s : State) (n : ℕ) (links : List LinkEnd) (store : Store) (x : Name) (c : Context)
+    → ShowsChoices s n links store → x.node ≡ n
     → s (Standing x) ≡ IsStand (Runs c) → use_at s n (word_below c.wptr state_word) ≡ Free → c.choice ≡ None
-no_choice s n store x c h home stood free = by c.choice refl
+no_choice s n links store x c h home stood free = by c.choice refl
   where
     differ : Choosing ≡ Free → ⊥
     differ e = cc
@@ -181,18 +184,19 @@ no_choice s n store x c h home stood free = by c.choice refl
         absurd (differ (sym (h.choices x a home is).used ∙ free))
 
 -- also where it could have moved without one
-pub no_choice_moved : (s : State) (n : ℕ) (store : Store) (x : Name) (c : Context) (w : ℕ) → ShowsChoices s n store
+pub no_choice_moved : (s : State) (n : ℕ) (links : List LinkEnd) (store : Store) (x : Name) (c : Context) (w : ℕ)
+    → ShowsChoices s n links store
     → x.node ≡ n → s (Standing x) ≡ IsStand (Runs c) → (is_none c.choice || (c.wptr == w)) ≡ true
     → use_at s n (word_below w state_word) ≡ Free → c.choice ≡ None
-no_choice_moved s n store x c w h home stood still free = by (or_cases (is_none c.choice) (c.wptr == w) still)
+no_choice_moved s n links store x c w h home stood still free = by (or_cases (is_none c.choice) (c.wptr == w) still)
   where
     by : (is_none c.choice ≡ true) ⊎ ((c.wptr == w) ≡ true) → c.choice ≡ None
     by (inl e) = none_is c.choice e
     by (inr e) =
-        no_choice s n store x c h home stood
+        no_choice s n links store x c h home stood
         (subst (λ a. use_at s n (word_below a state_word) ≡ Free) (sym (eqb-true c.wptr w e)) free)
 
-module _ (s s' : State) (n : ℕ) (store store' : Store) where
+module _ (s s' : State) (n : ℕ) (links links' : List LinkEnd) (store store' : Store) where
   -- the alternatives stay, with their words and channels
   pub record AreKeptChoices : Type 0 where
     pub stands : (x : Name) → x.node ≡ n → alternative_at s' n x ≡ alternative_at s n x
@@ -202,6 +206,7 @@ module _ (s s' : State) (n : ℕ) (store store' : Store) where
     pub inputs : (d : ℕ) → enabler_at s' n d ≡ enabler_at s n d
     pub held : (d : ℕ) (x : Name) → half_in (s (Half n d Input)) ≡ AwaitedBy x
         → half_in (s' (Half n d Input)) ≡ AwaitedBy x
+    pub linked : KeepsInputs s s' n links links'
     pub sent : (d : ℕ) (x : Name) → enabler_at s n d ≡ Some x → is_sent s' n d ≡ is_sent s n d
     pub unsent : (k : ℕ) → is_state (use_of s n k) ≡ true → amount_in (s (Sending n k)) ≡ pos 0
         → amount_in (s' (Sending n k)) ≡ pos 0
@@ -213,26 +218,24 @@ module _ (s s' : State) (n : ℕ) (store store' : Store) where
     pub words : (d : ℕ) (x : Name) → enabler_at s n d ≡ Some x → word_place_break (length store) d ≡ None
         → use_at s n d ≡ Engaged → word_at store' d ≡ word_at store d
 
-  module _ (k : AreKeptChoices) (h : ShowsChoices s n store) where
+  module _ (k : AreKeptChoices) (h : ShowsChoices s n links store) where
     enables_alike : (x : Name) (d : ℕ) → x.node ≡ n → enables s' n x d ≡ enables s n x d
     enables_alike x d home = ap (λ (v : Value). has_port d (ports_in v)) (k.ports x home)
 
-    sent_alike : (x : Name) (d : ℕ) → x.node ≡ n → enables s n x d ≡ true → is_sent s' n d ≡ is_sent s n d
-    sent_alike x d home e = k.sent d x (h.owner x d home e).2
+    due_alike : (x : Name) (d : ℕ) → x.node ≡ n → enables s n x d ≡ true
+        → is_due s' n links' d ≡ is_due s n links d
+    due_alike x d home e =
+        due_stays s s' n links links' k.linked d x (h.owner x d home e).2 (λ f. k.sent d x f)
 
-    ready_alike : (x : Name) (skips : Bool) → x.node ≡ n → IsReady s n x skips → IsReady s' n x skips
-    ready_alike x skips home (inl e) = inl e
-    ready_alike x skips home (inr (d, e, f)) =
-        inr (d, enables_alike x d home ∙ e, sent_alike x d home e ∙ f)
+    ready_alike : (x : Name) (skips : Bool) → x.node ≡ n → IsReady s n links x skips → IsReady s' n links' x skips
+    ready_alike x skips home = ready_same s s' n links links' x (k.ports x home) (λ d e. due_alike x d home e) skips
 
-    unready_alike : (x : Name) (skips : Bool) → x.node ≡ n → IsUnready s n x skips → IsUnready s' n x skips
-    unready_alike x skips home (e, f) = (
-      e,
-      λ d g. (let old : enables s n x d ≡ true = sym (enables_alike x d home) ∙ g in
-          sent_alike x d home old ∙ f d old),
-    )
+    unready_alike : (x : Name) (skips : Bool) → x.node ≡ n → IsUnready s n links x skips
+        → IsUnready s' n links' x skips
+    unready_alike x skips home = unready_same s s' n links links' x (k.ports x home) (λ d e. due_alike x d home e) skips
 
-    choice_alike : (x : Name) (a : Alternative) → x.node ≡ n → HasChoice s n store x a → HasChoice s' n store' x a
+    choice_alike : (x : Name) (a : Alternative) → x.node ≡ n → HasChoice s n links store x a
+        → HasChoice s' n links' store' x a
     choice_alike x a home c =
         record {
           small = c.small;
@@ -253,29 +256,35 @@ module _ (s s' : State) (n : ℕ) (store store' : Store) where
         same_word : s' (WordAt n (word_number address)) ≡ s (WordAt n (word_number address))
         same_word = k.choosing (word_number address) is_used
 
-        by : ((word_at store address ≡ ready) × IsReady s n x a.skips)
-            ⊎ ((word_at store address ≡ unready_word a.waits) × IsUnready s n x a.skips)
-            → ((word_at store' address ≡ ready) × IsReady s' n x a.skips)
-            ⊎ ((word_at store' address ≡ unready_word a.waits) × IsUnready s' n x a.skips)
+        by : ((word_at store address ≡ ready) × IsReady s n links x a.skips)
+            ⊎ ((word_at store address ≡ unready_word a.waits) × IsUnready s n links x a.skips)
+            → ((word_at store' address ≡ ready) × IsReady s' n links' x a.skips)
+            ⊎ ((word_at store' address ≡ unready_word a.waits) × IsUnready s' n links' x a.skips)
         by (inl (e, f)) = inl (k.states address c.placed is_used ∙ e, ready_alike x a.skips home f)
         by (inr (e, f)) = inr (k.states address c.placed is_used ∙ e, unready_alike x a.skips home f)
 
-    pub choices_kept : ShowsChoices s' n store'
+    pub choices_kept : ShowsChoices s' n links' store'
     choices_kept =
         record {
           choices = λ x a home e. choice_alike x a home (h.choices x a home (sym (k.stands x home) ∙ e));
           apart = λ x y a b f g d e i. h.apart x y a b f g (sym (k.stands x f) ∙ d) (sym (k.stands y g) ∙ e) i;
           quiet = λ x home. k.quiet x home (h.quiet x home);
           owner = λ x d home e. (let o = h.owner x d home (sym (enables_alike x d home) ∙ e) in
-              (o.0, k.stands x home ∙ o.1, k.inputs d ∙ o.2));
+              (o.0, k.stands x home ∙ o.1, has_enabled d x o.2));
           enabled = enabled_now;
+          linked = linked_now;
         }
       where
+        has_enabled : (d : ℕ) (x : Name) → HasEnabled s n d x → HasEnabled s' n d x
+        has_enabled d x (inl (internal, e)) = inl (internal, k.inputs d ∙ e)
+        has_enabled d x (inr (l, b, is, e)) = inr (l, b, is, enabler_stays s s' n links links' k.linked l ∙ e)
+
         enabled_now : (d : ℕ) (x : Name) → enabler_at s' n d ≡ Some x → IsEnabled s' n store' d x
         enabled_now d x e =
             let before : enabler_at s n d ≡ Some x = sym (k.inputs d) ∙ e in
             let old : IsEnabled s n store d x = h.enabled d x before in
             record {
+              internal = old.internal;
               home = old.home;
               port = enables_alike x d old.home ∙ old.port;
               placed = subst (λ z. word_place_break z d ≡ None) (sym k.size) old.placed;
@@ -285,8 +294,19 @@ module _ (s s' : State) (n : ℕ) (store store' : Store) where
               awaited = λ a g f. k.held d x (old.awaited a (sym (k.stands x old.home) ∙ g) f);
             }
 
+        linked_now : (l : ℕ) (x : Name) → l < 4 → enabler_on s' n l ≡ Some x → IsEnabledLink s' n l x
+        linked_now l x b e =
+            let old : IsEnabledLink s n l x = h.linked l x b (sym (enabler_stays s s' n links links' k.linked l) ∙ e) in
+            record {
+              home = old.home;
+              port = enables_alike x (input_channel l) old.home ∙ old.port;
+              awaited = λ a g f. awaited_stays s s' n links links' k.linked l x
+                  (old.awaited a (sym (k.stands x old.home) ∙ g) f);
+            }
+
 -- where all halves stay
-module _ (s s' : State) (n : ℕ) (store store' : Store)
+module _ (s s' : State) (n : ℕ) (links links' : List LinkEnd) (store store' : Store)
+    (inputs : KeepsInputs s s' n links links')
     (stands : (x : Name) → x.node ≡ n → alternative_at s' n x ≡ alternative_at s n x)
     (quiet : (x : Name) → x.node ≡ n → is_quiet (stand_in (s (Standing x))) ≡ true
     → is_quiet (stand_in (s' (Standing x))) ≡ true)
@@ -298,9 +318,10 @@ module _ (s s' : State) (n : ℕ) (store store' : Store)
     (size : length store' ≡ length store)
     (words : (a : ℕ) → word_place_break (length store) a ≡ None → is_lasting (use_at s n a) ≡ true
     → word_at store' a ≡ word_at store a) where
-  pub choices_stay : ShowsChoices s n store → ShowsChoices s' n store'
+  pub choices_stay : ShowsChoices s n links store → ShowsChoices s' n links' store'
   choices_stay =
-      choices_kept s s' n store store' (record {
+      choices_kept s s' n links links' store store' (record {
+        linked = inputs;
         stands = stands;
         quiet = quiet;
         ports = ports;

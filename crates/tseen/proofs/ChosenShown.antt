@@ -2,7 +2,7 @@
 use Rattle.std.proofs.Common.{◌≡◌, ◌≢◌, ℕ, ◌+◌, ◌≤◌, refl, sym, ap, subst, ◌∙◌, Bool, true, false, true≢false, ◌&&◌}
 use Rattle.std.proofs.Common.{List, arith, length, length-append, Contains, AllPairs, Option}
 use Rattle.std.proofs.Common.{Some, None, ◌⊎◌, inl, inr, pos, cond}
-use Rattle.std.specs.Prelude.{◌==◌, is_some}
+use Rattle.std.specs.Prelude.{◌==◌, is_some, option_map}
 use Rattle.std.proofs.lemmas.Bool.{eq-eqb, ne_eqb, cases_eq}
 use Rattle.std.proofs.lemmas.List.Elements.{All-contains}
 use Rattle.std.proofs.lemmas.List.Sums.{sum_by-append}
@@ -22,9 +22,10 @@ use Rattle.tplan.specs.declared.plan.Plan.{Plan}
 use Rattle.tplan.specs.Wires.{end_at}
 use Rattle.tnet.specs.Rendezvous.{Node}
 use Rattle.tprocesses.specs.Places.{Place, Name, WordAt, Sending, Standing, Half, LinkHalf, Error, HaltOnError, Life}
-use Rattle.tprocesses.specs.Places.{Population, HasRun, FlagChanged, same_name, same_place}
+use Rattle.tprocesses.specs.Places.{Population, HasRun, FlagChanged, same_name, same_place, Unfinished}
 use Rattle.tprocesses.specs.Values.{Value, Engaged, Context, Stand, Rests, Chooses, Chosen, Holder, TakenBy, EnabledBy}
 use Rattle.tprocesses.specs.Values.{AwaitedBy, Request, IsStand, IsFlag, IsAmount, IsHalf, word_in, half_in, flag_in}
+use Rattle.tprocesses.specs.Values.{Choice, stand_in}
 use Rattle.tprocesses.specs.Touching.{word_number}
 use Rattle.tprocesses.specs.Choosing.{with_choice}
 use Rattle.tprocesses.specs.Machine.{awaits_successor}
@@ -33,7 +34,7 @@ use Rattle.tseen.specs.Seats.{Seat, Current, Interrupted, Queued, Waiting, is_ta
 use Rattle.tseen.specs.Outputs.{Pending}
 use Rattle.tseen.specs.Words.{AreMarked, AreSavedWords, use_at}
 use Rattle.tseen.specs.Halves.{ShowsChannels, ShowsLink, IsTakenHalf, HasHolder, reason_at}
-use Rattle.tseen.specs.Choices.{enabler}
+use Rattle.tseen.specs.Choices.{enabler, Alternative, alternative_of, descriptor_at}
 use Rattle.tseen.specs.Processes.{Fits, IsSeated, IsGone, KeepsFlags, ShowsProcesses}
 use Rattle.tseen.proofs.After.{State}
 use Rattle.tseen.proofs.Cells.{use_of}
@@ -47,6 +48,7 @@ use Rattle.tseen.proofs.Released.{were_there, other_reason, no_reason}
 use Rattle.tseen.proofs.Renamed.{one_half}
 use Rattle.tseen.proofs.Staying.{saved_words_stay, marks_from, link_stays}
 use Rattle.tseen.proofs.YieldShown.{renamed}
+use Rattle.tseen.proofs.Choices.{alternative_with}
 
 module _ (p : Plan) (n : ℕ) (v t : State) (named : Seat → Name) (sent : ℕ → Option Pending) (node : Node) (y : Name)
     (other channel : ℕ) (d : Context) (last : Store) where
@@ -383,10 +385,30 @@ module _ (p : Plan) (n : ℕ) (v t : State) (named : Seat → Name) (sent : ℕ 
                       Input f).0) ∙ g.input),
                 )
 
-    pub link_chosen : (l : ℕ) → ShowsLink v n named sent node l → ShowsLink t n named' sent node' l
-    link_chosen l shown =
+    -- the descriptors of those that have alternatives stay
+    descriptors_stay : is_some d.choice ≡ true → (b : Name) → descriptor_at t n b ≡ descriptor_at v n b
+    descriptors_stay under_way b = by (same_name y b) refl
+      where
+        descriptor : Value → Option ℕ
+        descriptor z = option_map (λ (a : Alternative). a.wptr + a.priority) (alternative_of (stand_in z))
+
+        same : (o : Option Choice) → d.choice ≡ o → is_some o ≡ true
+            → descriptor (IsStand (Chosen (with_choice true d))) ≡ descriptor (IsStand (Chooses d))
+        same (Some choice) e f =
+            sym (ap (option_map (λ (a : Alternative). a.wptr + a.priority)) (alternative_with false true d choice e))
+        same None e f = absurd (true≢false (sym f))
+
+        by : (e : Bool) → same_name y b ≡ e → descriptor_at t n b ≡ descriptor_at v n b
+        by true e =
+            subst (λ a. descriptor_at t n a ≡ descriptor_at v n a) (one_name p y b e)
+            (ap descriptor g.stands ∙ same d.choice refl under_way ∙ sym (ap descriptor g.stood))
+        by false e = ap descriptor (stand_stays b e)
+
+    pub link_chosen : is_some d.choice ≡ true → (l : ℕ) → ShowsLink v n named sent node l
+        → ShowsLink t n named' sent node' l
+    link_chosen under_way l shown =
         link_stays v t n named named' sent node node' l (λ b. refl) (λ sd. g.rest (LinkHalf (end_at n l) sd) refl refl)
-        refl refl shown
+        (g.rest (Unfinished (end_at n l)) refl refl) (λ b e. descriptors_stay under_way b) refl refl shown
 
     pub marks_chosen : AreMarked v n sent m → AreMarked t n sent now.control
     marks_chosen marks =

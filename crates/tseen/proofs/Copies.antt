@@ -3,6 +3,7 @@ use Rattle.std.proofs.Common.{◌≡◌, ℕ, zero, suc, ◌+◌, ◌<◌, refl,
 use Rattle.std.proofs.Common.{true, false, Option, Some, None, arith, ◌⊎◌, inl, inr}
 use Rattle.std.specs.Prelude.{slice_get, slice_set}
 use Rattle.std.proofs.lemmas.Bool.{cases_eq}
+use Rattle.std.proofs.lemmas.Option.{slice_get_within}
 use Rattle.tword.specs.Stores.{Store, HoldsBytes, cells, with_cells}
 use Rattle.tlink.specs.Roles.{Role as LinkRole, Sink, role_filled, filled}
 use Rattle.tplan.specs.declared.plan.End.{End}
@@ -32,10 +33,14 @@ use Rattle.tseen.specs.Linked.{CopiesAreSeen}
 use Rattle.tseen.proofs.After.{State, After, after_bind, after_agent_step}
 use Rattle.tseen.proofs.Nets.{net_shown}
 use Rattle.tseen.proofs.NetScripts.{net_source, net_sink}
-use Rattle.tseen.proofs.EndRoles.{back, sender_found, by_role}
+use Rattle.tseen.proofs.CopyNotices.{sent_notices, source_offers, sink_offers}
+use Rattle.tseen.proofs.EndRoles.{back, sender_found, by_role, sink_role}
+use Rattle.tseen.proofs.NoticedOffers.{NoticesSent, KeepsOffers, own_notices, offers_stay, script_notices}
+use Rattle.tseen.proofs.WireAsks.{passes_then, asking_awaits}
 use Rattle.tseen.proofs.Receiving.{node_receives_then, received_shown, received_elsewhere}
-use Rattle.tseen.proofs.Receiving.{renamed_to, filled_is}
-use Rattle.tseen.proofs.Sending.{node_sends_then, sent_shown, sent_elsewhere, message_known, message_length, sent'}
+use Rattle.tseen.proofs.Receiving.{renamed_to, filled_is, received_keeps}
+use Rattle.tseen.proofs.Sending.{node_sends_then, sent_shown, sent_elsewhere, sent_others, message_known}
+use Rattle.tseen.proofs.Sending.{message_length, sent'}
 use Rattle.tseen.proofs.SinkReceives.{sink_receives_then}
 use Rattle.tseen.proofs.SourceSends.{source_sends_then}
 use Rattle.tseen.proofs.SteadySteps.{marks_keep, cells_hold}
@@ -104,7 +109,11 @@ module _ (p : Plan) (c c' : Configuration) (s : State) (f e : End) (none : fault
               (sent_shown p s f.node plan (shows.named f.node) (shows.sent f.node) l.sender shown ready f.link l.out
               l.offers.output fresh four message t k)
               (sent_elsewhere p s f.node plan (shows.named f.node) (shows.sent f.node) l.sender shown ready f.link
-              l.out l.offers.output fresh four message t k));
+              l.out l.offers.output fresh four message t k)
+              (sent_notices p none c s f e shows wired l.receiver l.inp l.asks l.sender l.offers.node t
+              (λ g d joined other.
+              offers_stay p s t g (sent_others p s f.node plan (shows.named f.node) (shows.sent f.node) l.sender shown
+              ready f.link l.out l.offers.output fresh four message t k (role_at p g.node) g other))));
           knows = message_known p s f.node plan (shows.named f.node) (shows.sent f.node) l.sender shown ready f.link
               l.out l.offers.output fresh four message t k;
           long = λ h. message_length p s f.node plan (shows.named f.node) (shows.sent f.node) l.sender shown ready
@@ -130,8 +139,10 @@ module _ (p : Plan) (c c' : Configuration) (s : State) (f e : End) (none : fault
         go message t (record {
           shown = subst (λ (w : Configuration). Shows p w t)
               (ap (λ i. put_node f.node (marked i true l.sender) c) (sym zero_link) ∙ sym mid_is)
-              (net_source p c s t shows f.node l.sender l.offers.node (marked 0 true l.sender) k.others j source there
-              at k.shows);
+              (net_source p c s t shows f.node l.sender l.offers.node (marked 0 true l.sender) k.others
+              (subst (λ i. NoticesSent p (put_node f.node (marked i true l.sender) c) t) zero_link
+              (sent_notices p none c s f e shows wired l.receiver l.inp l.asks l.sender l.offers.node t
+              (source_offers p none s t f (omega (arith, at)) zero_link k.others))) j source there at k.shows);
           knows = k.knows;
           long = λ h. absurd (omega (arith, h, at));
         })))
@@ -233,7 +244,15 @@ module _ (p : Plan) (c c' : Configuration) (s : State) (f e : End) (none : fault
         (received_shown p t e.node plan (k.shown.named e.node) (k.shown.sent e.node) r.node shown ready e.link l.inp
         asks_mid message message_there k.knows bytes_there z q))
         (received_elsewhere p t e.node plan (k.shown.named e.node) (k.shown.sent e.node) r.node shown ready e.link
-        l.inp asks_mid message message_there k.knows bytes_there z q))))
+        l.inp asks_mid message message_there k.knows bytes_there z q)
+        (own_notices p mid t z e.node plan r.node (full r.node) planned r.here k.shown.noticed
+        (subst (KeepsOffers t z e.node r.node)
+        (sym (filled_is p t e.node plan (k.shown.named e.node) (k.shown.sent e.node) r.node shown ready e.link l.inp
+        asks_mid message message_there k.knows bytes_there z q l.out.length))
+        (received_keeps p t e.node plan (k.shown.named e.node) (k.shown.sent e.node) r.node shown ready e.link l.inp
+        asks_mid message message_there k.knows bytes_there z q))
+        (received_elsewhere p t e.node plan (k.shown.named e.node) (k.shown.sent e.node) r.node shown ready e.link
+        l.inp asks_mid message message_there k.knows bytes_there z q)))))
       where
         shown : ShowsNode t e.node plan (k.shown.named e.node) (k.shown.sent e.node) r.node
         shown =
@@ -254,8 +273,13 @@ module _ (p : Plan) (c c' : Configuration) (s : State) (f e : End) (none : fault
         l.out.length k.knows (k.long sender) Seen (λ z q.
         subst (λ (w : Configuration). Shows p w z)
         (ap (λ (x : Node). put_node e.node x mid) (kept_is shown.kept shown.role) ∙ sym r.after)
-        (net_sink p mid t z k.shown e.node r.node r.here _ q.others j sink there at q.shows)))
+        (net_sink p mid t z k.shown e.node r.node r.here _ q.others
+        (script_notices p mid t z e.node _ (omega (arith, at)) k.shown.noticed (sink_offers p t z e.node role q.others))
+        j sink there at q.shows)))
       where
+        role : role_at p e.node ≡ SinkRole
+        role = sink_role p e.node (omega (arith, at)) (omega (arith, at, slice_get_within p.sinks j sink there))
+
         shown : ShowsSink t (end_at e.node 0) r.node
         shown =
             let old = k.shown.sinks j sink there in
@@ -271,13 +295,13 @@ module _ (p : Plan) (c c' : Configuration) (s : State) (f e : End) (none : fault
           }));
         }
             ≡ full r.node
-        kept_is kept role =
+        kept_is kept is =
             ap (λ (x : LinkRole). record r.node {
               role = role_filled l.out.length x;
               machine = hidden (filled x 0 l.out.length (record r.node.machine {
                 store = with_cells r.node.machine.store l.inp.buffer message_there;
               }));
-            }) (sym role)
+            }) (sym is)
             ∙ ap (λ i. given l.out l.sender i l.inp r.node) (sym zero_link)
 
     -- whoever receives
@@ -290,9 +314,11 @@ module _ (p : Plan) (c c' : Configuration) (s : State) (f e : End) (none : fault
   pub wire_then : After (step_of p (Wire e)) s (λ _ z. Shows p c' z)
   wire_then =
       subst (λ (o : Option End). After (passes p o e) s (λ _ z. Shows p c' z)) (sym (sender_found p none e f wired))
+      (passes_then p e f s (λ _ z. Shows p c' z)
+      (asking_awaits p none c s e f shows wired l.receiver l.inp l.asks)
       (after_bind (sends p (role_at p f.node) f) _ s (λ _ z. Shows p c' z)
       (sends_then _ (λ message t k.
-      after_bind (receives p (role_at p e.node) e message) _ t (λ _ z. Shows p c' z) (receives_then message t k))))
+      after_bind (receives p (role_at p e.node) e message) _ t (λ _ z. Shows p c' z) (receives_then message t k)))))
 
 -- copies
 pub copies_are_seen : CopiesAreSeen

@@ -26,24 +26,26 @@ use Rattle.tproc.specs.Queues.{not_process}
 use Rattle.tproc.specs.Scheduler.{operation_step}
 use Rattle.tplan.specs.declared.plan.Plan.{Plan}
 use Rattle.tnet.specs.Rendezvous.{Configuration}
-use Rattle.tprocesses.specs.Places.{Name, WordAt, Sending, Half, same_name}
+use Rattle.tprocesses.specs.Places.{Name, WordAt, Sending, Standing, Half, same_name}
 use Rattle.tprocesses.specs.Values.{Value, Use, Free, Receiving, Engaged, Choice}
 use Rattle.tprocesses.specs.Values.{Context, Holder, Nobody, TakenBy, EnabledBy}
-use Rattle.tprocesses.specs.Values.{AwaitedBy, IsHalf, Request, half_in, word_in, amount_in}
-use Rattle.tprocesses.specs.Parts.{require, unless, WordInUse, HasAlternatives, SeveralReady, Breaks, ◌>>=◌}
+use Rattle.tprocesses.specs.Values.{AwaitedBy, IsHalf, Request, half_in, stand_in, word_in, amount_in}
+use Rattle.tprocesses.specs.Parts.{require, unless, WordInUse, SeveralReady, Breaks, ◌>>=◌}
 use Rattle.tprocesses.specs.Standing.{known}
 use Rattle.tprocesses.specs.Touching.{Site, word_number, word_for, same_use, unsent}
-use Rattle.tprocesses.specs.Choosing.{choice_of, disables_channel, disables_port, disables}
+use Rattle.tprocesses.specs.Choosing.{choice_of, disables_channel, disables_port, disables, disables_link}
+use Rattle.tprocesses.specs.Choosing.{disables_internal}
 use Rattle.tprocesses.specs.Choosing.{readiness, is_taken, frees_word}
 use Rattle.tprocesses.specs.Choosing.{selects}
 use Rattle.tprocesses.specs.Machine.{site_of}
-use Rattle.tseen.specs.Alternatives.{IsSeenAtOnce}
+use Rattle.tseen.specs.Alternatives.{DisabledChannelsAreSeen, LeadsOrListens}
 use Rattle.tseen.specs.Choices.{enabler, enabler_at, is_sent, IsEnabled}
 use Rattle.tseen.specs.Halves.{IsTakenHalf}
 use Rattle.tseen.specs.Shown.{ShowsNode}
 use Rattle.tseen.specs.Words.{use_at, is_set_aside}
-use Rattle.tseen.specs.Steps.{IsCurrent, LeadsTo}
+use Rattle.tseen.specs.Steps.{IsCurrent}
 use Rattle.tseen.proofs.After.{State, After, after_bind, after_require, after_unless, after_step}
+use Rattle.tseen.proofs.Disabling.{runs_on, disables_link_then}
 use Rattle.tseen.proofs.AtOperation.{IsAtOperation, registers_at, context_at, control_at, operation_then}
 use Rattle.tseen.proofs.Cells.{use_of}
 use Rattle.tseen.proofs.ChannelFound.{sender_waits, sender_names, own_runs, own_names}
@@ -106,7 +108,7 @@ module _ (p : Plan) (c : Configuration) (s : State) (n : ℕ) (x : Name) (k : Is
     context = context_at p c s n x k a.size
 
     abbrev L : Unit {0} → State → Type 0
-    L _ z = LeadsTo p c n z
+    L _ z = LeadsOrListens (stand_in (z (Standing x))) p c n x z
 
     abbrev Selects : Bool → State → Type 0
     Selects b z = After (selects site x context b) z L
@@ -124,7 +126,8 @@ module _ (p : Plan) (c : Configuration) (s : State) (n : ℕ) (x : Name) (k : Is
     unfolding operation_step
     none_then e =
         selects_then p site running.whole x context u store a.on.tells m.registers.a running.registers.a L false
-        (λ t s' now. selecting_leads p c s n x k u Disc a false choice is t s' now (λ may. runs may))
+        (λ t s' now.
+        runs_on p c n x s' now.is (selecting_leads p c s n x k u Disc a false choice is t s' now (λ may. runs may)))
       where
         runs : word_break (length store) (claims_of m) Writes w ≡ None
             → Runs (record m { registers = all_to 0 (registers_at p c s n x k a.size); count = control.count }) store
@@ -260,18 +263,18 @@ module _ (p : Plan) (c : Configuration) (s : State) (n : ℕ) (x : Name) (k : Is
       dropped_then true e =
           selects_then p site running.whole x context (dropped p c s n x k true u) (dropped_store p c s n x k true)
           (tells_dropped p c s n x k u a enabled true) m.registers.a running.registers.a L true (λ t s' now.
-          disc_leads p c s n x k u a enabled choice is skips true e t s' now
+          runs_on p c n x s' now.is (disc_leads p c s n x k u a enabled choice is skips true e t s' now
           (a.steps (record m {
             registers = all_to (flag (is_chosen true store w)) (registers_at p c s n x k a.size);
             count = control.count;
           }) (if is_chosen true store w then with_word store w m.registers.a else store)
-          (sent_runs (sender e).0 (sender e).1 (may_own true t))))
+          (sent_runs (sender e).0 (sender e).1 (may_own true t)))))
       dropped_then false e =
           selects_then p site running.whole x context (dropped p c s n x k false u) (dropped_store p c s n x k false)
           (tells_dropped p c s n x k u a enabled false) m.registers.a running.registers.a L false (λ t s' now.
-          disc_leads p c s n x k u a enabled choice is skips false e t s' now
+          runs_on p c n x s' now.is (disc_leads p c s n x k u a enabled choice is skips false e t s' now
           (a.steps (record m { registers = all_to 0 (registers_at p c s n x k a.size); count = control.count })
-          (with_word store channel not_process) (unsent_runs e (may_own false t))))
+          (with_word store channel not_process) (unsent_runs e (may_own false t)))))
 
     -- the parts of `disc` after both halves were seen
     abbrev rest : (b : Bool) → Part Bool
@@ -348,41 +351,46 @@ module _ (p : Plan) (c : Configuration) (s : State) (n : ℕ) (x : Name) (k : Is
     ready_then guard skips internal Nobody e = tt
     ready_then guard skips internal (TakenBy q) e = tt
 
-    -- a channel is disabled that this process has enabled
+    -- an internal channel is disabled that this process has enabled
+    internal_then : (m.registers.b == 0) ≡ false → choice.skips ≡ true → is_link channel ≡ false
+        → After (disables_internal site x context channel) u L
+    internal_then guard skips internal =
+        after_bind (disables site x channel) _ u L
+        (after_bind (unless (word_place_break site.size channel)) _ u _
+        (after_unless (word_place_break site.size channel) u _ (λ placed.
+        ready_then guard skips internal (half_in (u (Half n channel Input))) refl)))
+
     port_then : (m.registers.b == 0) ≡ false → After (disables_port site x context choice) u L
     port_then guard =
         after_bind (require choice.skips WordInUse) _ u L (after_require choice.skips WordInUse u _ (λ skips.
         after_bind (known context.c) _ u L (known_then context.c channel u _ running.registers.c
-        (after_bind (require (not (is_link channel)) HasAlternatives) _ u L
-        (after_require (not (is_link channel)) HasAlternatives u _ (λ internal.
-        after_bind (disables site x channel) _ u L
-        (after_bind (unless (word_place_break site.size channel)) _ u _
-        (after_unless (word_place_break site.size channel) u _ (λ placed.
-        ready_then guard skips (is_internal (is_link channel) internal)
-        (half_in (u (Half n channel Input))) refl)))))))))
+        (by skips (is_link channel) refl))))
       where
-        is_internal : (b : Bool) → not b ≡ true → b ≡ false
-        is_internal false e = refl
-        is_internal true e = absurd (true≢false (sym e))
+        by : choice.skips ≡ true → (b : Bool) → is_link channel ≡ b
+            → After (if b then disables_link site x context channel else disables_internal site x context channel) u L
+        by skips true e = disables_link_then p c s n x k u a choice is skips guard e
+        by skips false e = internal_then guard skips e
+
+  abbrev Disabled : Unit {0} → State → Type 0
+  Disabled _ z = LeadsOrListens (stand_in (z (Standing x))) p c n x z
 
   disc_then : (u : State) (a : IsAtOperation p c s n x k Disc u)
-      → After (disables_channel site x (context_at p c s n x k a.size)) u (λ _ z. LeadsTo p c n z)
+      → After (disables_channel site x (context_at p c s n x k a.size)) u Disabled
   disc_then u a =
-      after_bind (choice_of context.choice) _ u (λ _ z. LeadsTo p c n z)
+      after_bind (choice_of context.choice) _ u Disabled
       (choice_then context.choice u _ (λ choice is.
-      after_bind (known context.b) _ u (λ _ z. LeadsTo p c n z) (known_then context.b m.registers.b u _
+      after_bind (known context.b) _ u Disabled (known_then context.b m.registers.b u _
       running.registers.b (by choice is (m.registers.b == 0) refl))))
     where
       context : Context
       context = context_at p c s n x k a.size
 
       by : (choice : Choice) → context.choice ≡ Some choice → (b : Bool) → (m.registers.b == 0) ≡ b
-          → After (if b then selects site x context false else disables_port site x context choice) u
-          (λ _ z. LeadsTo p c n z)
+          → After (if b then selects site x context false else disables_port site x context choice) u Disabled
       by choice is true e = none_then u a choice is e
       by choice is false e = port_then u a choice is e
 
-pub disc_is_seen : IsSeenAtOnce Disc
-disc_is_seen p c s s' n x k next makes none =
-    after_step p x s s' (λ _ z. LeadsTo p c n z) makes
-    (operation_then p c s n x k Disc (λ _ z. LeadsTo p c n z) next (λ u a. disc_then p c s n x k u a))
+pub disc_is_seen : DisabledChannelsAreSeen
+disc_is_seen p c s s' n x k next makes =
+    after_step p x s s' (Disabled p c s n x k) makes
+    (operation_then p c s n x k Disc (Disabled p c s n x k) next (λ u a. disc_then p c s n x k u a))

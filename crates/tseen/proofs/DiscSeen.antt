@@ -144,7 +144,7 @@ module _ (p : Plan) (c : Configuration) (s : State) (n : ℕ) (x : Name) (k : Is
       abbrev old : Alternative
       old = own p c s n x k choice is
 
-      it : HasChoice s n store x old
+      it : HasChoice s n m.links store x old
       it = has p c s n x k choice is
 
       engaged_free : Engaged ≡ Free → ⊥
@@ -333,7 +333,7 @@ module _ (p : Plan) (c : Configuration) (s : State) (n : ℕ) (x : Name) (k : Is
             one_is : {b b' : Alternative} → Some b ≡ Some b' → b ≡ b'
             one_is g = cc
 
-        new_choice : HasChoice s' n last x old
+        new_choice : HasChoice s' n m.links last x old
         new_choice =
             record {
               small = it.small;
@@ -351,10 +351,10 @@ module _ (p : Plan) (c : Configuration) (s : State) (n : ℕ) (x : Name) (k : Is
                 word_same address (state_lies p c s n x k choice is)
                 (λ i h. other_cell i (λ e. state_apart (e ∙ h)) (λ e. own_state_apart (e ∙ h)))
 
-            told : ((word_at store address ≡ ready) × IsReady s n x choice.skips)
-                ⊎ ((word_at store address ≡ unready_word false) × IsUnready s n x choice.skips)
-                → ((word_at last address ≡ ready) × IsReady s' n x choice.skips)
-                ⊎ ((word_at last address ≡ unready_word false) × IsUnready s' n x choice.skips)
+            told : ((word_at store address ≡ ready) × IsReady s n m.links x choice.skips)
+                ⊎ ((word_at store address ≡ unready_word false) × IsUnready s n m.links x choice.skips)
+                → ((word_at last address ≡ ready) × IsReady s' n m.links x choice.skips)
+                ⊎ ((word_at last address ≡ unready_word false) × IsUnready s' n m.links x choice.skips)
             told (inl e) = inl (same ∙ e.0, inl skips)
             told (inr e) = absurd (true≢false (sym skips ∙ e.1.0))
 
@@ -379,6 +379,7 @@ module _ (p : Plan) (c : Configuration) (s : State) (n : ℕ) (x : Name) (k : Is
               same_wptr = refl;
               same_error = refl;
               same_halting = refl;
+              internal = port.internal;
               placed = port.placed;
               others = other_place;
               open_before = ap is_open port.engaged;
@@ -402,7 +403,7 @@ module _ (p : Plan) (c : Configuration) (s : State) (n : ℕ) (x : Name) (k : Is
               sent_stays = sent_stays sent refl;
               engaged_after = λ e. engaged_after sent refl e;
               engaged_before = λ e. port.engaged;
-              own_choice = λ b e. subst (HasChoice s' n last x) (sym (is_new b e)) new_choice;
+              own_choice = λ b e. subst (HasChoice s' n m.links last x) (sym (is_new b e)) new_choice;
               own_apart = λ y b f home e same b' g. no_other p c s n x k choice is y b f home e same;
               own_word = other_state p c s n x k choice is;
               own_keeps = (
@@ -469,8 +470,8 @@ module _ (p : Plan) (c : Configuration) (s : State) (n : ℕ) (x : Name) (k : Is
             engaged_after false e h =
                 absurd (engaged_free (sym h ∙ used_channel ∙ used_sent sent ∙ ap (λ b. if b then Engaged else Free) e))
 
-        pub disc_leads : step k.node.machine ≡ Ok (gone p c s n x k after count last, ran.Instruction)
+        pub disc_leads : step k.node.machine ≡ Ok (gone p c s n x k after count m.links last, ran.Instruction)
             → LeadsTo p c n s'
         disc_leads stepped =
-            gone_leads p c s n x k s' after count last d
+            gone_leads p c s n x k s' after count m.links last d
             (port_gone p c s n x k channel s' after count last d change) stepped

@@ -9,11 +9,12 @@ use Rattle.tprocesses.specs.Touching.{word_number}
 use Rattle.tword.specs.Touches.{word_place_break}
 use Rattle.tproc.specs.Queues.{state_word}
 use Rattle.tproc.specs.Channels.{ready}
-use Rattle.tprocesses.specs.Values.{Choice, half_in, ports_in}
-use Rattle.tseen.proofs.ChoiceChanged.{one_workspace}
+use Rattle.tprocesses.specs.Values.{Choice, half_in, ports_in, link_in}
+use Rattle.tseen.proofs.ChoiceChanged.{one_workspace, due_same}
 use Rattle.tseen.proofs.Choices.{state_lasts, is_state, state_use_is, alternative_with}
 use Rattle.tseen.specs.Choices.{Alternative, HasChoice, IsEnabled, IsReady, IsUnready}
-use Rattle.tseen.specs.Choices.{enabler, enabler_at, enables, is_sent, unready_word}
+use Rattle.tseen.specs.Choices.{enabler, enabler_at, enabler_on, enables, is_sent, is_due, unready_word, HasEnabled}
+use Rattle.tseen.specs.Choices.{IsEnabledLink, link_enabler, input_at, input_channel, descriptor_at}
 use Rattle.tprocesses.specs.Choosing.{is_taken as is_taken_half, has_port}
 use Rattle.tprocesses.specs.Values.{IsWord as a_word}
 use Rattle.tprocesses.specs.Changes.{used_word}
@@ -27,9 +28,9 @@ use Rattle.tseen.proofs.After.{After}
 use Rattle.tplan.specs.declared.plan.NodePlan.{NodePlan}
 use Rattle.std.specs.Prelude.{slice_get}
 use Rattle.tprocesses.specs.Choosing.{goes_on_chosen}
-use Rattle.tprocesses.specs.Machine.{process_step, at_site, step_of, Process}
+use Rattle.tprocesses.specs.Machine.{stepped as stepped_by, at_site, step_of, Process}
 use Rattle.tprocesses.specs.Values.{stand_in, Chosen}
-use Rattle.tprocesses.specs.Places.{Ports}
+use Rattle.tprocesses.specs.Places.{Ports, Unfinished}
 use Rattle.tseen.specs.Choices.{alternative_of, alternative_at, is_quiet}
 use Rattle.tseen.proofs.Choices.{lasting_not_saved, none_is, alternative_none}
 use Rattle.std.proofs.Common.{◌≡◌, ◌≢◌, ℕ, zero, suc, ◌+◌, ◌<◌, ◌≤◌, ◌%◌, refl, sym, ap, subst, ◌∙◌, List, [], ◌∷◌}
@@ -62,14 +63,14 @@ use Rattle.tnet.specs.Rendezvous.{Node, Configuration, was_copied}
 use Rattle.tprocesses.specs.Places.{Place, Name, WordAt, Sending, Standing, Half, LinkHalf, Error, HaltOnError, Life}
 use Rattle.tprocesses.specs.Places.{Population, HasRun, same_name}
 use Rattle.tprocesses.specs.Values.{Value, Use, Free, Saved, Receiving, Engaged, Context, Lent, Stand, Rests, Runs}
-use Rattle.tprocesses.specs.Values.{Empty, IsStand, IsFlag, IsAmount, IsLink, word_in}
+use Rattle.tprocesses.specs.Values.{IsStand, IsFlag, IsAmount, IsLink, word_in}
 use Rattle.tprocesses.specs.Touching.{Site}
 use Rattle.tprocesses.specs.Machine.{site_of, awaits_successor}
 use Rattle.tseen.specs.Known.{HasSaved}
 use Rattle.tseen.specs.Seats.{Seat, Current, Interrupted, Queued, Waiting, is_taken}
-use Rattle.tseen.specs.Outputs.{Pending, is_sending, sendings, half_with}
+use Rattle.tseen.specs.Outputs.{Pending, is_sending, sendings, half_with, has_passed}
 use Rattle.tseen.specs.Words.{AreMarked, AreSavedWords}
-use Rattle.tseen.specs.Halves.{ShowsLink, half_asking, request_of}
+use Rattle.tseen.specs.Halves.{ShowsLink, IsInput, request_of}
 use Rattle.tseen.specs.Processes.{Fits, IsSeated, IsGone, HasFlags, HasPassed, ShowsProcesses}
 use Rattle.tseen.specs.Shown.{ShowsNode}
 use Rattle.tseen.specs.Steps.{IsNext, LeadsTo, DispatchesAreSeen}
@@ -83,9 +84,9 @@ use Rattle.tseen.proofs.Nets.{chosen, leads_by}
 use Rattle.tseen.proofs.Running.{whole_memory, told}
 use Rattle.tseen.proofs.Counted.{count_at, beside, live_beside, live_idle, waits_descheduled, queued_descheduled}
 use Rattle.tseen.proofs.Saving.{below, other_number, no_word, IsUnsaved, unsave_then}
-use Rattle.tseen.proofs.Staying.{saved_words_alike, marks_from, channels_stay, half_asking_stays, used_one, used_two}
+use Rattle.tseen.proofs.Staying.{saved_words_alike, marks_from, channels_stay, input_renamed, used_one, used_two}
 use Rattle.tseen.proofs.Others.{queued_seated, waiting_seated, interrupted_seated}
-use Rattle.tseen.proofs.TakenBack.{is_sending_of, is_output_of, sent_back, emptied, without_output}
+use Rattle.tseen.proofs.TakenBack.{is_sending_of, is_flag_of, sent_back, settled, without_output}
 use Rattle.tseen.proofs.TakenBack.{taken_back_sendings}
 use Rattle.tseen.proofs.Written.{is_word_of}
 use Rattle.tseen.proofs.Freed.{IsFreed, WordFreed, is_plain, all_freed}
@@ -93,20 +94,22 @@ use Rattle.tseen.proofs.Freed.{unsaved_stays, used_then, tells_then, unsave_chos
 use Rattle.tseen.proofs.Dispatching.{shown_next, pop, still_there, other_workspace, other_below, own_words, IsResting}
 use Rattle.tseen.proofs.Dispatching.{rests_there, now, stepped, hidden_now, AreResumed, stays, not_lent, word_then}
 use Rattle.tseen.proofs.Dispatching.{others_stay, same_workspace, same_priority, aligned, w, w_space, w_small}
+use Rattle.tseen.proofs.InputChannels.{remembered_stays}
+use Rattle.tseen.proofs.NoticedOffers.{outputs_stay}
 
 -- names where a process runs now
 abbrev pub running_named : Name → (Seat → Name) → Seat → Name
 running_named x named Current = x
 running_named x named q = named q
 
--- what stands at the output of a link where one was taken back
-emptied_is : (site : Site) (lent : Option Lent) (sent : ℕ → Option Pending) (l : ℕ)
-    → emptied site lent l (IsLink (half_with (sent l))) ≡ IsLink (half_with (without_output lent sent l))
-emptied_is site None sent l = refl
-emptied_is site (Some t) sent l = by (t.link == l)
+-- whether the process of the last output of a link has still to go on, where one was taken back
+settled_is : (site : Site) (lent : Option Lent) (sent : ℕ → Option Pending) (l : ℕ)
+    → settled site lent l (IsFlag (has_passed (sent l))) ≡ IsFlag (has_passed (without_output lent sent l))
+settled_is site None sent l = refl
+settled_is site (Some t) sent l = by (t.link == l)
   where
-    by : (b : Bool) → chosen b (IsLink Empty) (IsLink (half_with (sent l)))
-        ≡ IsLink (half_with (chosen b None (sent l)))
+    by : (b : Bool) → chosen b (IsFlag false) (IsFlag (has_passed (sent l)))
+        ≡ IsFlag (has_passed (chosen b None (sent l)))
     by true = refl
     by false = refl
 
@@ -185,7 +188,7 @@ module _ (p : Plan) (c : Configuration) (s : State) (n : ℕ) (x : Name) (k : Is
   abbrev shown : ShowsNode s n k.plan named sent k.node
   shown = shown_next p c s n x k
 
-  stay : (q : Place) → is_word_of n q ≡ false → is_sending_of n q ≡ false → ((j : ℕ) → is_output_of n j q ≡ false)
+  stay : (q : Place) → is_word_of n q ≡ false → is_sending_of n q ≡ false → ((j : ℕ) → is_flag_of n j q ≡ false)
       → is_stand_of x q ≡ false → s' q ≡ s q
   stay q e f g h = stays p c s n x k d v v2 s' a q e f (not_lent p c s n x k d v v2 s' a d.lent q g) h
 
@@ -337,25 +340,119 @@ module _ (p : Plan) (c : Configuration) (s : State) (n : ℕ) (x : Name) (k : Is
       by false e = e
       by true e = absurd (h (sym (one_name p x y e)))
 
+  half_stays : (l : ℕ) (side : Side) → s' (LinkHalf (end_at n l) side) ≡ s (LinkHalf (end_at n l) side)
+  half_stays l side = stay (LinkHalf (end_at n l) side) refl refl (λ j. refl) refl
+
+  stand_stays : (y : Name) → same_name x y ≡ false → s' (Standing y) ≡ s (Standing y)
+  stand_stays y h = stay (Standing y) refl refl (λ j. refl) h
+
+  wptr_is : d.wptr ≡ own_w
+  wptr_is = rested.saved.wptr ∙ same_workspace p c s n x k
+
+  -- its alternative before and after
+  abbrev Third : Type 0
+  Third =
+      ((rested.stand ≡ Rests d) × (use_of s n (below own_w 3) ≡ Saved))
+      ⊎ ((rested.stand ≡ Chosen d) × (use_of s n (below own_w 3) ≡ Awaiting)
+      × (v (WordAt n (below own_w 3)) ≡ a_word (used_word Choosing)))
+
+  none_then : rested.stand ≡ Rests d → alternative_at s' n x ≡ None
+  none_then e =
+      ap (λ (z : Value). alternative_of (stand_in z)) a.runs.is
+      ∙ alternative_none true false (record d { lent = None }) (none_is d.choice
+      (sym (ap (λ (z : Value). is_quiet (stand_in z)) (rested.stood ∙ ap IsStand e))
+      ∙ shown.choices.quiet x rested.home))
+
+  none_before : rested.stand ≡ Rests d → alternative_at s n x ≡ None
+  none_before e = ap (λ (z : Value). alternative_of (stand_in z)) (rested.stood ∙ ap IsStand e)
+
+  differ : {b : Alternative} → None ≡ Some b → ⊥
+  differ e = cc
+
+  one_is : {b b' : Alternative} → Some b ≡ Some b' → b ≡ b'
+  one_is e = cc
+
+  -- where it was made to go on
+  chosen_choice : rested.stand ≡ Chosen d → (choice : Choice) × (d.choice ≡ Some choice)
+  chosen_choice e =
+      by d.choice refl (sym (ap (λ (z : Value). is_quiet (stand_in z)) (rested.stood ∙ ap IsStand e))
+      ∙ shown.choices.quiet x rested.home)
+    where
+      by : (o : Option Choice) → d.choice ≡ o → is_some o ≡ true → (choice : Choice) × (d.choice ≡ Some choice)
+      by (Some choice) f g = (choice, f)
+      by None f g = absurd (true≢false (sym g))
+
+  abbrev own_one : (runs : Bool) → Choice → Alternative
+  own_one runs choice =
+      record { skips = choice.skips; wptr = d.wptr; priority = d.priority; runs = runs; waits = false }
+
+  chosen_before : (e : rested.stand ≡ Chosen d)
+      → alternative_at s n x ≡ Some (own_one false (chosen_choice e).0)
+  chosen_before e =
+      ap (λ (z : Value). alternative_of (stand_in z)) (rested.stood ∙ ap IsStand e)
+      ∙ alternative_with false false d (chosen_choice e).0 (chosen_choice e).1
+
+  chosen_now : (e : rested.stand ≡ Chosen d) → alternative_at s' n x ≡ Some (own_one true (chosen_choice e).0)
+  chosen_now e =
+      ap (λ (z : Value). alternative_of (stand_in z)) a.runs.is
+      ∙ alternative_with true false (record d { lent = None }) (chosen_choice e).0 (chosen_choice e).1
+
+  -- the descriptor of a process that has an alternative
+  abbrev descriptor : Option Alternative → Option ℕ
+  descriptor o = option_map (λ b. b.wptr + b.priority) o
+
+  own_descriptor : descriptor_at s' n x ≡ descriptor_at s n x
+  own_descriptor = by a.third
+    where
+      by : Third → descriptor_at s' n x ≡ descriptor_at s n x
+      by (inl g) = ap descriptor (none_then g.0) ∙ sym (ap descriptor (none_before g.0))
+      by (inr g) = ap descriptor (chosen_now g.0) ∙ sym (ap descriptor (chosen_before g.0))
+
+  descriptor_stays : (y : Name) → descriptor_at s' n y ≡ descriptor_at s n y
+  descriptor_stays y = by (same_name x y) refl
+    where
+      by : (b : Bool) → same_name x y ≡ b → descriptor_at s' n y ≡ descriptor_at s n y
+      by true e = subst (λ z. descriptor_at s' n z ≡ descriptor_at s n z) (one_name p x y e) own_descriptor
+      by false e = ap (λ (v : Value). descriptor (alternative_of (stand_in v))) (stand_stays y e)
+
   links_after : (l : ℕ) → l < 4 → ShowsLink s' n named' sent' node' l
   links_after l h =
       record {
-        input = stay (LinkHalf (end_at n l) Input) refl refl (λ j. refl) refl ∙ old.input
-            ∙ ap (λ (e : LinkEnd). IsLink (half_asking named e.input)) (sym (same_link l))
-            ∙ ap IsLink (sym (half_asking_stays named named' (link_end after.control l).input (λ b. refl)));
-        output = a.runs.others (LinkHalf (end_at n l) Output) refl ∙ a.back.half l
-            ∙ ap (emptied site d.lent l) (a.freed.rest (LinkHalf (end_at n l) Output)
-            (no_word n (w p c s n x k) (LinkHalf (end_at n l) Output) refl) ∙ old.output)
-            ∙ emptied_is site d.lent sent l;
+        input = subst (λ (e : LinkEnd). IsInput named' e.input (s' (LinkHalf (end_at n l) Input))) (sym (same_link l))
+            (input_renamed named named' (link_end m l).input _ _ (λ e f. refl) (half_stays l Input) old.input);
+        output = half_stays l Output ∙ old.output ∙ passed_empty d.lent refl;
+        unfinished = a.runs.others (Unfinished (end_at n l)) refl ∙ a.back.unfinished l
+            ∙ ap (settled site d.lent l) (a.freed.rest (Unfinished (end_at n l))
+            (no_word n (w p c s n x k) (Unfinished (end_at n l)) refl) ∙ old.unfinished)
+            ∙ settled_is site d.lent sent l;
         offered = λ o e. offered o (sym (ap (λ (e : LinkEnd). e.output) (same_link l)) ∙ e);
         fresh = λ e. old.fresh (sym (ap (λ (e : LinkEnd). e.output) (same_link l)) ∙ e);
-        forgotten = ap (λ (e : LinkEnd). e.remembered) (same_link l) ∙ old.forgotten;
+        unnoticed = λ o e. ap (λ (e : LinkEnd). e.noticed) (same_link l)
+            ∙ old.unnoticed o (sym (ap (λ (e : LinkEnd). e.input) (same_link l)) ∙ e);
+        remembered = λ e. ap (λ (e : LinkEnd). e.remembered) (same_link l)
+            ∙ old.remembered (sym (ap (λ (e : LinkEnd). e.noticed) (same_link l)) ∙ e)
+            ∙ sym (remembered_stays s s' n l (ap link_in (half_stays l Input)) (λ y f. descriptor_stays y));
+        forgotten = λ e. ap (λ (e : LinkEnd). e.remembered) (same_link l)
+            ∙ old.forgotten (sym (ap (λ (e : LinkEnd). e.noticed) (same_link l)) ∙ e);
+        fired = λ y e. ap (λ (e : LinkEnd). e.noticed) (same_link l) ∙ old.fired y (sym (half_stays l Input) ∙ e);
         pending = λ q e f. (let o = old.pending q (still_sent d.lent sent l q e).0 f in
             (o.0, ap (λ (e : LinkEnd). e.output) (same_link l) ∙ o.1));
       }
     where
       old : ShowsLink s n named sent k.node l
       old = shown.links l h
+
+      -- an output that was taken back had gone over
+      passed_empty : (lent : Option Lent) → d.lent ≡ lent
+          → IsLink (half_with (sent l)) ≡ IsLink (half_with (without_output lent sent l))
+      passed_empty None f = refl
+      passed_empty (Some t) f = by (t.link == l) refl
+        where
+          by : (b : Bool) → (t.link == l) ≡ b
+              → IsLink (half_with (sent l)) ≡ IsLink (half_with (chosen b None (sent l)))
+          by false g = refl
+          by true g =
+              ap (λ o. IsLink (half_with o)) (ap sent (sym (eqb-true _ _ g)) ∙ (lent_sent t f).1)
 
       waits_there : (o : Offer) → (link_end m l).output ≡ Some o → is_some (reason_of m o.wdesc) ≡ true
       waits_there o e =
@@ -389,9 +486,6 @@ module _ (p : Plan) (c : Configuration) (s : State) (n : ℕ) (x : Name) (k : Is
                       same e = cc
 
   -- who has a seat
-  stand_stays : (y : Name) → same_name x y ≡ false → s' (Standing y) ≡ s (Standing y)
-  stand_stays y h = stay (Standing y) refl refl (λ j. refl) h
-
   run_stays : (q : ℕ) → s' (HasRun n q) ≡ s (HasRun n q)
   run_stays q = stay (HasRun n q) refl refl (λ j. refl) refl
 
@@ -437,8 +531,8 @@ module _ (p : Plan) (c : Configuration) (s : State) (n : ℕ) (x : Name) (k : Is
   was_waiting : (b : ℕ) → is_some (reason_of after.control b) ≡ true → is_some (reason_of m b) ≡ true
   was_waiting b h = subst (λ (o : Option Reason). is_some o ≡ true) (same_reason b) h
 
-  has_passed : (b : ℕ) → HasPassed k.node b → HasPassed node' b
-  has_passed b h = (h.0, same_reason b ∙ h.1, h.2)
+  passed_still : (b : ℕ) → HasPassed k.node b → HasPassed node' b
+  passed_still b h = (h.0, same_reason b ∙ h.1, h.2)
 
   seated : (q : Seat) → is_taken after.control q ≡ true → IsSeated s' n node' q (named' q)
   seated Current h = current_seated
@@ -452,7 +546,7 @@ module _ (p : Plan) (c : Configuration) (s : State) (n : ℕ) (x : Name) (k : Is
       (shown.processes.seated (Queued b) (was_queued b h))
   seated (Waiting b) h =
       waiting_seated n x s s' stand_stays run_stays k.node node' b (named (Waiting b))
-      (other_name (named (Waiting b)) (not_waiting b (was_waiting b h))) (has_passed b) (λ f. same_reason b ∙ f) refl
+      (other_name (named (Waiting b)) (not_waiting b (was_waiting b h))) (passed_still b) (λ f. same_reason b ∙ f) refl
       (shown.processes.seated (Waiting b) (was_waiting b h))
 
   abbrev HasPlace : Name → Type 0
@@ -645,7 +739,7 @@ module _ (p : Plan) (c : Configuration) (s : State) (n : ℕ) (x : Name) (k : Is
             (λ b side. stay (Half n b side) refl refl (λ j. refl) refl) same_reason refl (λ b h e. refl) shown.channels;
         links = links_after;
         processes = processes_after;
-        choices = choices_changed p s s' n store store x changed_choice shown.choices;
+        choices = choices_changed p s s' n m.links after.control.links store store x changed_choice shown.choices;
       }
     where
       -- a word in use as a channel or for an alternative is as it was, but for the one of the process
@@ -683,64 +777,25 @@ module _ (p : Plan) (c : Configuration) (s : State) (n : ℕ) (x : Name) (k : Is
       sent_is : (e : ℕ) → is_sent s' n e ≡ is_sent s n e
       sent_is e = ap (λ (z : Value). is_taken_half (half_in z)) (halves e Output)
 
+      input_is : (l : ℕ) → input_at s' n l ≡ input_at s n l
+      input_is l = ap link_in (half_stays l Input)
+
+      due_is : (e : ℕ) → is_due s' n after.control.links e ≡ is_due s n m.links e
+      due_is e =
+          ap (λ (ls : List LinkEnd). is_due s' n ls e) (pop p c s n x k).links
+          ∙ due_same s s' n m.links (λ b. halves b Output) e
+
+      has_enabled : (e : ℕ) (y : Name) → HasEnabled s n e y → HasEnabled s' n e y
+      has_enabled e y (inl (internal, f)) = inl (internal, enabler_is e ∙ f)
+      has_enabled e y (inr (l, h, is, f)) = inr (l, h, is, ap link_enabler (input_is l) ∙ f)
+
       ports_are : (y : Name) → s' (Ports y) ≡ s (Ports y)
       ports_are y = stay (Ports y) refl refl (λ j. refl) refl
 
       enables_is : (y : Name) (e : ℕ) → enables s' n y e ≡ enables s n y e
       enables_is y e = ap (λ (z : Value). has_port e (ports_in z)) (ports_are y)
 
-      wptr_is : d.wptr ≡ own_w
-      wptr_is = rested.saved.wptr ∙ same_workspace p c s n x k
-
-      -- its alternative before and after
-      Third : Type 0
-      Third =
-          ((rested.stand ≡ Rests d) × (use_of s n (below own_w 3) ≡ Saved))
-          ⊎ ((rested.stand ≡ Chosen d) × (use_of s n (below own_w 3) ≡ Awaiting)
-          × (v (WordAt n (below own_w 3)) ≡ a_word (used_word Choosing)))
-
-      none_then : rested.stand ≡ Rests d → alternative_at s' n x ≡ None
-      none_then e =
-          ap (λ (z : Value). alternative_of (stand_in z)) a.runs.is
-          ∙ alternative_none true false (record d { lent = None }) (none_is d.choice
-          (sym (ap (λ (z : Value). is_quiet (stand_in z)) (rested.stood ∙ ap IsStand e))
-          ∙ shown.choices.quiet x rested.home))
-
-      none_before : rested.stand ≡ Rests d → alternative_at s n x ≡ None
-      none_before e = ap (λ (z : Value). alternative_of (stand_in z)) (rested.stood ∙ ap IsStand e)
-
-      differ : {b : Alternative} → None ≡ Some b → ⊥
-      differ e = cc
-
-      one_is : {b b' : Alternative} → Some b ≡ Some b' → b ≡ b'
-      one_is e = cc
-
-      -- where it was made to go on
-      chosen_choice : rested.stand ≡ Chosen d → (choice : Choice) × (d.choice ≡ Some choice)
-      chosen_choice e =
-          by d.choice refl (sym (ap (λ (z : Value). is_quiet (stand_in z)) (rested.stood ∙ ap IsStand e))
-          ∙ shown.choices.quiet x rested.home)
-        where
-          by : (o : Option Choice) → d.choice ≡ o → is_some o ≡ true → (choice : Choice) × (d.choice ≡ Some choice)
-          by (Some choice) f g = (choice, f)
-          by None f g = absurd (true≢false (sym g))
-
-      own_one : (runs : Bool) → Choice → Alternative
-      own_one runs choice =
-          record { skips = choice.skips; wptr = d.wptr; priority = d.priority; runs = runs; waits = false }
-
-      chosen_before : (e : rested.stand ≡ Chosen d)
-          → alternative_at s n x ≡ Some (own_one false (chosen_choice e).0)
-      chosen_before e =
-          ap (λ (z : Value). alternative_of (stand_in z)) (rested.stood ∙ ap IsStand e)
-          ∙ alternative_with false false d (chosen_choice e).0 (chosen_choice e).1
-
-      chosen_now : (e : rested.stand ≡ Chosen d) → alternative_at s' n x ≡ Some (own_one true (chosen_choice e).0)
-      chosen_now e =
-          ap (λ (z : Value). alternative_of (stand_in z)) a.runs.is
-          ∙ alternative_with true false (record d { lent = None }) (chosen_choice e).0 (chosen_choice e).1
-
-      old_choice : (e : rested.stand ≡ Chosen d) → HasChoice s n store x (own_one false (chosen_choice e).0)
+      old_choice : (e : rested.stand ≡ Chosen d) → HasChoice s n m.links store x (own_one false (chosen_choice e).0)
       old_choice e = shown.choices.choices x (own_one false (chosen_choice e).0) rested.home (chosen_before e)
 
       not_same : (y : Name) → same_name x y ≡ false → x ≡ y → ⊥
@@ -748,7 +803,7 @@ module _ (p : Plan) (c : Configuration) (s : State) (n : ℕ) (x : Name) (k : Is
 
       -- the word of another alternative is another one
       other_state : (y : Name) (b : Alternative) → same_name x y ≡ false → y.node ≡ n → alternative_at s n y ≡ Some b
-          → HasChoice s n store y b → below b.wptr 3 ≡ below own_w 3 → ⊥
+          → HasChoice s n m.links store y b → below b.wptr 3 ≡ below own_w 3 → ⊥
       other_state y b f home is it e = by a.third
         where
           by : Third → ⊥
@@ -763,15 +818,15 @@ module _ (p : Plan) (c : Configuration) (s : State) (n : ℕ) (x : Name) (k : Is
               (subst (λ z. word_place_break z (word_below b.wptr 3) ≡ None) shown.size it.placed)
               (ap (λ z. below z 3) wptr_is ∙ sym e)))
 
-      ready_then : (skips : Bool) → IsReady s n x skips → IsReady s' n x skips
+      ready_then : (skips : Bool) → IsReady s n m.links x skips → IsReady s' n after.control.links x skips
       ready_then skips (inl e) = inl e
-      ready_then skips (inr (e, f, g)) = inr (e, enables_is x e ∙ f, sent_is e ∙ g)
+      ready_then skips (inr (e, f, g)) = inr (e, enables_is x e ∙ f, due_is e ∙ g)
 
-      unready_then : (skips : Bool) → IsUnready s n x skips → IsUnready s' n x skips
-      unready_then skips (e, f) = (e, λ b g. sent_is b ∙ f b (sym (enables_is x b) ∙ g))
+      unready_then : (skips : Bool) → IsUnready s n m.links x skips → IsUnready s' n after.control.links x skips
+      unready_then skips (e, f) = (e, λ b g. due_is b ∙ f b (sym (enables_is x b) ∙ g))
 
       new_choice : (e : rested.stand ≡ Chosen d) → v (WordAt n (below own_w 3)) ≡ a_word (used_word Choosing)
-          → HasChoice s' n store x (own_one true (chosen_choice e).0)
+          → HasChoice s' n after.control.links store x (own_one true (chosen_choice e).0)
       new_choice e put =
           record {
             small = (old_choice e).small;
@@ -792,19 +847,21 @@ module _ (p : Plan) (c : Configuration) (s : State) (n : ℕ) (x : Name) (k : Is
           skips : Bool
           skips = (chosen_choice e).0.skips
 
-          by : ((word_at store address ≡ ready) × IsReady s n x skips)
-              ⊎ ((word_at store address ≡ unready_word false) × IsUnready s n x skips)
-              → ((word_at store address ≡ ready) × IsReady s' n x skips)
-              ⊎ ((word_at store address ≡ unready_word false) × IsUnready s' n x skips)
+          by : ((word_at store address ≡ ready) × IsReady s n m.links x skips)
+              ⊎ ((word_at store address ≡ unready_word false) × IsUnready s n m.links x skips)
+              → ((word_at store address ≡ ready) × IsReady s' n after.control.links x skips)
+              ⊎ ((word_at store address ≡ unready_word false) × IsUnready s' n after.control.links x skips)
           by (inl (f, g)) = inl (f, ready_then skips g)
           by (inr (f, g)) = inr (f, unready_then skips g)
 
-      own_choice : (b : Alternative) → alternative_at s' n x ≡ Some b → HasChoice s' n store x b
+      own_choice : (b : Alternative) → alternative_at s' n x ≡ Some b → HasChoice s' n after.control.links store x b
       own_choice b e = by a.third
         where
-          by : Third → HasChoice s' n store x b
+          by : Third → HasChoice s' n after.control.links store x b
           by (inl g) = absurd (differ (sym (none_then g.0) ∙ e))
-          by (inr g) = subst (HasChoice s' n store x) (one_is (sym (chosen_now g.0) ∙ e)) (new_choice g.0 g.2)
+          by (inr g) =
+              subst (HasChoice s' n after.control.links store x) (one_is (sym (chosen_now g.0) ∙ e))
+              (new_choice g.0 g.2)
 
       own_apart : (b : Alternative) → alternative_at s' n x ≡ Some b → (y : Name) (b' : Alternative)
           → same_name x y ≡ false → y.node ≡ n → alternative_at s n y ≡ Some b' → b.wptr ≡ b'.wptr → ⊥
@@ -817,19 +874,20 @@ module _ (p : Plan) (c : Configuration) (s : State) (n : ℕ) (x : Name) (k : Is
               (chosen_before g.0) is (ap (λ (z : Alternative). z.wptr) (one_is (sym (chosen_now g.0) ∙ e)) ∙ same))
 
       own_ports : (e : ℕ) → x.node ≡ n → enables s' n x e ≡ true
-          → (b : Alternative) × (alternative_at s' n x ≡ Some b) × (enabler_at s' n e ≡ Some x)
+          → (b : Alternative) × (alternative_at s' n x ≡ Some b) × HasEnabled s' n e x
       own_ports e home f = by a.third
         where
-          own : (b : Alternative) × (alternative_at s n x ≡ Some b) × (enabler_at s n e ≡ Some x)
+          own : (b : Alternative) × (alternative_at s n x ≡ Some b) × HasEnabled s n e x
           own = shown.choices.owner x e home (sym (enables_is x e) ∙ f)
 
-          by : Third → (b : Alternative) × (alternative_at s' n x ≡ Some b) × (enabler_at s' n e ≡ Some x)
+          by : Third → (b : Alternative) × (alternative_at s' n x ≡ Some b) × HasEnabled s' n e x
           by (inl g) = absurd (differ (sym (none_before g.0) ∙ own.1))
-          by (inr g) = (own_one true (chosen_choice g.0).0, chosen_now g.0, enabler_is e ∙ own.2)
+          by (inr g) = (own_one true (chosen_choice g.0).0, chosen_now g.0, has_enabled e x own.2)
 
       own_enabled : (e : ℕ) → enabler_at s' n e ≡ Some x → IsEnabled s' n store e x
       own_enabled e f =
           record {
+            internal = old.internal;
             home = old.home;
             port = enables_is x e ∙ old.port;
             placed = old.placed;
@@ -850,7 +908,17 @@ module _ (p : Plan) (c : Configuration) (s : State) (n : ℕ) (x : Name) (k : Is
               old.names (sym (sent_is e) ∙ g) (own_one false (chosen_choice h.0).0) (chosen_before h.0)
               ∙ ap (λ (z : Alternative). z.wptr + z.priority) (one_is (sym (chosen_now h.0) ∙ i))
 
-      changed_choice : IsChanged p s s' n store store x
+      own_linked : (l : ℕ) → l < 4 → enabler_on s' n l ≡ Some x → IsEnabledLink s' n l x
+      own_linked l h e =
+          let old : IsEnabledLink s n l x = shown.choices.linked l x h (sym (ap link_enabler (input_is l)) ∙ e) in
+          record {
+            home = old.home;
+            port = enables_is x (input_channel l) ∙ old.port;
+            awaited = λ b i g. absurd (true≢false (sym g ∙ (alternative_context true false (record d { lent = None }) b
+                (sym (ap (λ (z : Value). alternative_of (stand_in z)) a.runs.is) ∙ i)).3));
+          }
+
+      changed_choice : IsChanged p s s' n m.links after.control.links store store x
       changed_choice =
           record {
             stands = λ y f home. ap (λ (z : Value). alternative_of (stand_in z)) (stand_stays y f);
@@ -873,11 +941,16 @@ module _ (p : Plan) (c : Configuration) (s : State) (n : ℕ) (x : Name) (k : Is
                   (not_engaged (word_number e) it.engaged)) ∙ it.engaged,
               refl,
             );
+            linked = λ l y f e. ap link_enabler (input_is l) ∙ e;
+            linked_back = λ l y f e. sym (ap link_enabler (input_is l)) ∙ e;
+            awaited = λ l y f e. input_is l ∙ e;
+            noticed = λ l y f e. ap (λ (z : LinkEnd). z.noticed) (same_link l);
             own_quiet = ap (λ (z : Value). is_quiet (stand_in z)) a.runs.is;
             own_choice = own_choice;
             own_apart = own_apart;
             own_ports = own_ports;
             own_enabled = own_enabled;
+            own_linked = own_linked;
           }
 
   pub dispatch_leads : LeadsTo p c n s'
@@ -885,6 +958,7 @@ module _ (p : Plan) (c : Configuration) (s : State) (n : ℕ) (x : Name) (k : Is
       leads_by p c s s' k.shows n k.plan k.planned k.node k.here shown.works after ran.Dispatch
       ((λ e. cc), (λ e. cc)) (stepped p c s n x k) (hidden_now p c s n x k) named' sent' node_after
       (others_stay p c s n x k d v v2 s' a rested.home)
+      (outputs_stay s s' n k.node node' (λ l. half_stays l Output) same_link)
 
 abbrev memory_whole : (p : Plan) (c : Configuration) (s : State) (n : ℕ) (x : Name) (k : IsNext p c s n x)
     → k.plan.memory % 4 ≡ 0
@@ -897,10 +971,10 @@ pub chosen_then : (p : Plan) (plan : NodePlan) (n : ℕ) (s : State) (x : Name) 
     → s (Standing x) ≡ IsStand (Chosen d) → After (goes_on_chosen (site_of n plan) x d) s Q
     → After (step_of p (Process x)) s Q
 chosen_then p plan n s x d Q home planned stood h =
-    subst (λ (v : Value). After (at_site p x.node (process_step x (stand_in v))) s Q) (sym stood)
-    (subst (λ j. After (at_site p j (process_step x (Chosen d))) s Q) (sym home) at_node)
+    subst (λ (v : Value). After (at_site p x.node (stepped_by p x (stand_in v))) s Q) (sym stood)
+    (subst (λ j. After (at_site p j (stepped_by p x (Chosen d))) s Q) (sym home) at_node)
   where
-    at_node : After (at_site p n (process_step x (Chosen d))) s Q
+    at_node : After (at_site p n (stepped_by p x (Chosen d))) s Q
     at_node = rw (planned, After) h
 
 -- dispatches are seen

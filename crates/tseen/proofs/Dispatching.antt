@@ -14,7 +14,6 @@ use Rattle.tword.specs.Words.{word_below}
 use Rattle.tword.specs.Stores.{Store, word_at, hiding}
 use Rattle.tword.specs.Claims.{is_input, overlap, saved_words}
 use Rattle.tword.specs.Touches.{byte_span}
-use Rattle.tproc.specs.declared.channels.Side.TheVariants.{Input, Output}
 use Rattle.tproc.specs.declared.ran.Ran.TheVariants as ran
 use Rattle.tproc.specs.declared.waiter.LinkEnd.{LinkEnd}
 use Rattle.tproc.specs.Machine.{Control, Machine, claims_of, descheduled, workspace_of, priority_of, buffer_of}
@@ -24,8 +23,9 @@ use Rattle.tproc.specs.Placement.{IsWord, IsWorkspace, IsPlaced}
 use Rattle.tproc.specs.Steps.{step}
 use Rattle.tplan.specs.declared.plan.Plan.{Plan}
 use Rattle.tnet.specs.Rendezvous.{Node, Configuration}
-use Rattle.tprocesses.specs.Places.{Place, Name, WordAt, Sending, Standing, LinkHalf, HasRun}
-use Rattle.tprocesses.specs.Values.{Chosen, Chooses, Context, Lent, Stand, Absent, Rests, Runs, Waits, Ended, IsStand}
+use Rattle.tprocesses.specs.Places.{Place, Name, WordAt, Sending, Standing, Unfinished, HasRun}
+use Rattle.tprocesses.specs.Values.{Chosen, Listens, Chooses, Context, Lent, Stand, Absent, Rests, Runs, Waits, Ended}
+use Rattle.tprocesses.specs.Values.{IsStand}
 use Rattle.tprocesses.specs.Values.{IsFlag}
 use Rattle.tprocesses.specs.Touching.{Site}
 use Rattle.tprocesses.specs.Machine.{site_of}
@@ -43,7 +43,7 @@ use Rattle.tseen.proofs.Saving.{below, no_word}
 use Rattle.tseen.proofs.Freed.{IsFreed}
 use Rattle.tseen.proofs.Adding.{among}
 use Rattle.tseen.proofs.Dispatched.{IsPopped, popped, begun}
-use Rattle.tseen.proofs.TakenBack.{IsTakenBack, is_sending_of, is_lent, is_output_of}
+use Rattle.tseen.proofs.TakenBack.{IsTakenBack, is_sending_of, is_lent, is_flag_of}
 use Rattle.tseen.proofs.Resumed.{first_other, other_words}
 
 module _ (p : Plan) (c : Configuration) (s : State) (n : ℕ) (x : Name) (k : IsNext p c s n x) where
@@ -170,6 +170,7 @@ module _ (p : Plan) (c : Configuration) (s : State) (n : ℕ) (x : Name) (k : Is
       by_stand q (Waits d) e f r = absurd f
       by_stand q Ended e f r = absurd f
       by_stand q (Chooses d) e f r = absurd f
+      by_stand q (Listens channel d) e f r = absurd f
 
       with_seat : IsSeated s n k.node (Queued k.process) (k.shows.named n (Queued k.process)) → IsResting
       with_seat q = by_stand q q.stand q.stands q.fits q.has_run
@@ -208,7 +209,7 @@ module _ (p : Plan) (c : Configuration) (s : State) (n : ℕ) (x : Name) (k : Is
         a.runs.others q stand ∙ a.back.others q sending lent ∙ a.freed.rest q (no_word n w q word)
 
     -- one where nothing is lent by what it is
-    pub not_lent : (l : Option Lent) (q : Place) → ((j : ℕ) → is_output_of n j q ≡ false) → is_lent site l q ≡ false
+    pub not_lent : (l : Option Lent) (q : Place) → ((j : ℕ) → is_flag_of n j q ≡ false) → is_lent site l q ≡ false
     not_lent None q h = refl
     not_lent (Some l) q h = h l.link
 
@@ -221,7 +222,7 @@ module _ (p : Plan) (c : Configuration) (s : State) (n : ℕ) (x : Name) (k : Is
     -- the places of other nodes stay
     pub others_stay : x.node ≡ n → (q : Place) → node_at q ≢ n → s' q ≡ s q
     others_stay home q h =
-        stays q (word q h) (sending q h) (not_lent d.lent q (λ l. output l q h)) (stand q h)
+        stays q (word q h) (sending q h) (not_lent d.lent q (λ l. flag l q h)) (stand q h)
       where
         not_n : (b : ℕ) → b ≢ n → (n == b) ≡ false
         not_n b h = ne_eqb n b (λ e. h (sym e))
@@ -234,10 +235,9 @@ module _ (p : Plan) (c : Configuration) (s : State) (n : ℕ) (x : Name) (k : Is
         sending (Sending b j) h = not_n b h
         sending _ h = refl
 
-        output : (l : ℕ) (q : Place) → node_at q ≢ n → is_output_of n l q ≡ false
-        output l (LinkHalf e Output) h = rw (not_n e.node h) refl
-        output l (LinkHalf e Input) h = refl
-        output l _ h = refl
+        flag : (l : ℕ) (q : Place) → node_at q ≢ n → is_flag_of n l q ≡ false
+        flag l (Unfinished e) h = rw (not_n e.node h) refl
+        flag l _ h = refl
 
         stand : (q : Place) → node_at q ≢ n → is_stand_of x q ≡ false
         stand (Standing y) h = rw (ne_eqb x.node y.node (λ e. h (sym e ∙ home))) refl

@@ -4,6 +4,7 @@ use Rattle.tprocesses.specs.Values.{amount_in}
 use Rattle.tcode.specs.declared.instruction.Operation.{Operation}
 use Rattle.tprocesses.specs.Values.{IsWord}
 use Rattle.tprocesses.specs.Changes.{Put, free_word}
+use Rattle.tseen.proofs.ChoiceChanged.{due_same}
 use Rattle.tseen.proofs.Written.{changed_there, changed_word, changed_else}
 use Rattle.tseen.proofs.Stored.{permits_on}
 use Rattle.tseen.proofs.Performed.{word_passes}
@@ -39,7 +40,8 @@ use Rattle.tprocesses.specs.Choosing.{disables_skip, choice_of, answers}
 use Rattle.tprocesses.specs.Machine.{site_of}
 use Rattle.tproc.specs.declared.channels.Side.TheVariants.{Output}
 use Rattle.tseen.specs.Alternatives.{IsSeenAtOnce}
-use Rattle.tseen.specs.Choices.{Alternative, alternative_of, alternative_at, HasChoice, IsReady, IsUnready}
+use Rattle.tseen.specs.Choices.{enables, is_due, Alternative, alternative_of, alternative_at, HasChoice, IsReady}
+use Rattle.tseen.specs.Choices.{IsUnready}
 use Rattle.tseen.specs.Choices.{unready_word}
 use Rattle.tseen.specs.Shown.{ShowsNode}
 use Rattle.tseen.specs.Steps.{IsCurrent, LeadsTo}
@@ -106,7 +108,7 @@ module _ (p : Plan) (c : Configuration) (s : State) (n : ℕ) (x : Name) (k : Is
     abbrev old : Alternative
     old = own p c s n x k choice is
 
-    it : HasChoice s n store x old
+    it : HasChoice s n m.links store x old
     it = has p c s n x k choice is
 
     lies_own : LiesWord (length store) w
@@ -189,8 +191,8 @@ module _ (p : Plan) (c : Configuration) (s : State) (n : ℕ) (x : Name) (k : Is
               (λ e. apart_word (below w 3) it.used (ap word_number e))
           by false = refl
 
-      told : ((word_at last address ≡ ready) × IsReady s' n x choice.skips)
-          ⊎ ((word_at last address ≡ enabling) × IsUnready s' n x choice.skips)
+      told : ((word_at last address ≡ ready) × IsReady s' n m.links x choice.skips)
+          ⊎ ((word_at last address ≡ enabling) × IsUnready s' n m.links x choice.skips)
       told = of it.state
         where
           ports : s' (Ports x) ≡ s (Ports x)
@@ -199,14 +201,17 @@ module _ (p : Plan) (c : Configuration) (s : State) (n : ℕ) (x : Name) (k : Is
           halves : (e : ℕ) → s' (Half n e Output) ≡ s (Half n e Output)
           halves e = other_place (Half n e Output) refl refl
 
-          of : ((word_at store address ≡ ready) × IsReady s n x choice.skips)
-              ⊎ ((word_at store address ≡ unready_word false) × IsUnready s n x choice.skips)
-              → ((word_at last address ≡ ready) × IsReady s' n x choice.skips)
-              ⊎ ((word_at last address ≡ enabling) × IsUnready s' n x choice.skips)
-          of (inl (e, f)) = inl (state_word_stays ∙ e, ready_same s s' n x ports halves choice.skips f)
-          of (inr (e, f)) = inr (state_word_stays ∙ e, unready_same s s' n x ports halves choice.skips f)
+          due : (e : ℕ) → enables s n x e ≡ true → is_due s' n m.links e ≡ is_due s n m.links e
+          due e g = due_same s s' n m.links halves e
 
-      new_choice : HasChoice s' n last x old
+          of : ((word_at store address ≡ ready) × IsReady s n m.links x choice.skips)
+              ⊎ ((word_at store address ≡ unready_word false) × IsUnready s n m.links x choice.skips)
+              → ((word_at last address ≡ ready) × IsReady s' n m.links x choice.skips)
+              ⊎ ((word_at last address ≡ enabling) × IsUnready s' n m.links x choice.skips)
+          of (inl (e, f)) = inl (state_word_stays ∙ e, ready_same s s' n m.links m.links x ports due choice.skips f)
+          of (inr (e, f)) = inr (state_word_stays ∙ e, unready_same s s' n m.links m.links x ports due choice.skips f)
+
+      new_choice : HasChoice s' n m.links last x old
       new_choice =
           record {
             small = it.small;
@@ -240,7 +245,7 @@ module _ (p : Plan) (c : Configuration) (s : State) (n : ℕ) (x : Name) (k : Is
             only = λ i h. other_cell i (λ e. true≢false (sym (ap is_for_choice (ap (use_of s n) e ∙ was_free)) ∙ h));
             states = λ j e f. word_now j (apart_word j e) ∙ a.on.keeps.kept j (λ h. choosing_free (sym e ∙ h));
             state_cells = λ i e f. other_cell i (λ h. apart_word (i / 4) e (sym h));
-            own_choice = λ b e. subst (HasChoice s' n last x) (sym (is_new b e)) new_choice;
+            own_choice = λ b e. subst (HasChoice s' n m.links last x) (sym (is_new b e)) new_choice;
             own_apart = λ y b f home e same b' g. no_other p c s n x k choice is y b f home e same;
             own_word = other_word_than p c s n x k choice is;
             own_keeps = λ e h. (
@@ -278,7 +283,7 @@ module _ (p : Plan) (c : Configuration) (s : State) (n : ℕ) (x : Name) (k : Is
           → run_from (operation_step o (rank running.level) (control_at p c s n x k o a.size)) store (claims_of m) store
           ≡ Ok ((record m { registers = after; count = count }, ran.Instruction), last)) → LeadsTo p c n s'
       selecting_leads runs =
-          gone_leads p c s n x k s' after count last d (plain_gone p c s n x k s' after count last d plain)
+          gone_leads p c s n x k s' after count m.links last d (plain_gone p c s n x k s' after count last d plain)
           (a.steps (record m { registers = after; count = count }) last (runs may))
 
   -- `diss`

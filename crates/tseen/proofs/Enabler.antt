@@ -21,7 +21,7 @@ use Rattle.tplan.specs.declared.plan.Plan.{Plan}
 use Rattle.tnet.specs.Rendezvous.{Configuration}
 use Rattle.tprocesses.specs.Places.{Name, Standing, Half, same_name}
 use Rattle.tprocesses.specs.Values.{Value, Use, Free, Engaged, Choosing, Awaiting, Context, Stand, Absent, Rests, Runs}
-use Rattle.tprocesses.specs.Values.{Waits, Chooses, Chosen, Ended, Nobody, IsStand, stand_in, half_in}
+use Rattle.tprocesses.specs.Values.{Waits, Chooses, Chosen, Listens, Ended, Nobody, IsStand, stand_in, half_in}
 use Rattle.tprocesses.specs.Choosing.{is_taken as is_taken_half}
 use Rattle.tprocesses.specs.Touching.{Site, word_number}
 use Rattle.tprocesses.specs.Machine.{site_of}
@@ -29,7 +29,7 @@ use Rattle.tseen.specs.Known.{HasSaved}
 use Rattle.tseen.specs.Seats.{Seat, Current, Interrupted, Queued, Waiting, is_taken}
 use Rattle.tseen.specs.Words.{is_set_aside}
 use Rattle.tseen.specs.Choices.{Alternative, alternative, alternative_of, alternative_at, enabler, enabler_at, is_sent}
-use Rattle.tseen.specs.Choices.{HasChoice, IsEnabled, IsReady, IsUnready, state_use, unready_word}
+use Rattle.tseen.specs.Choices.{HasChoice, IsEnabled, IsReady, IsUnready, state_use, unready_word, HasEnabled}
 use Rattle.tseen.specs.Processes.{Fits, IsSeated, IsGone}
 use Rattle.tseen.specs.Shown.{ShowsNode}
 use Rattle.tseen.specs.Steps.{IsCurrent}
@@ -95,7 +95,7 @@ module _ (p : Plan) (c : Configuration) (s : State) (n : ℕ) (x : Name) (k : Is
   pub it : IsEnabled s n store channel y
   it = shown.choices.enabled channel y enables
 
-  own : (a : Alternative) × (alternative_at s n y ≡ Some a) × (enabler_at s n channel ≡ Some y)
+  own : (a : Alternative) × (alternative_at s n y ≡ Some a) × HasEnabled s n channel y
   own = shown.choices.owner y channel it.home it.port
 
   -- its alternative
@@ -106,7 +106,7 @@ module _ (p : Plan) (c : Configuration) (s : State) (n : ℕ) (x : Name) (k : Is
   unfolding theirs
   theirs_is = own.1
 
-  pub has : HasChoice s n store y theirs
+  pub has : HasChoice s n m.links store y theirs
   has = shown.choices.choices y theirs it.home theirs_is
 
   -- its descriptor, which the channel word is
@@ -325,6 +325,7 @@ module _ (p : Plan) (c : Configuration) (s : State) (n : ℕ) (x : Name) (k : Is
       by Ended e f = absurd f
       by (Chooses d) e f = absurd f
       by (Chosen d) e f = absurd f
+      by (Listens channel d) e f = absurd f
   at_seat (Queued b) taken name seat = by seat.stand seat.stands seat.fits
     where
       by : (stand : Stand) → s (Standing y) ≡ IsStand stand → Fits k.node (Queued b) stand → Stands
@@ -337,6 +338,7 @@ module _ (p : Plan) (c : Configuration) (s : State) (n : ℕ) (x : Name) (k : Is
       by (Waits d) e f = absurd f
       by Ended e f = absurd f
       by (Chooses d) e f = absurd f
+      by (Listens channel d) e f = absurd f
   at_seat (Waiting b) taken name seat = by seat.stand seat.stands seat.fits
     where
       by : (stand : Stand) → s (Standing y) ≡ IsStand stand → Fits k.node (Waiting b) stand → Stands
@@ -347,6 +349,7 @@ module _ (p : Plan) (c : Configuration) (s : State) (n : ℕ) (x : Name) (k : Is
       by (Runs d) e f = absurd f
       by Ended e f = absurd f
       by (Chosen d) e f = absurd f
+      by (Listens channel d) e f = absurd f
 
   pub found : Stands
   found = by (shown.processes.there y it.home)
@@ -361,8 +364,8 @@ module _ (p : Plan) (c : Configuration) (s : State) (n : ℕ) (x : Name) (k : Is
   pub state_choosing : theirs.waits ≡ false → is_choosing (word_at store address) ≡ true
   state_choosing waits = by has.state
     where
-      by : ((word_at store address ≡ ready) × IsReady s n y theirs.skips)
-          ⊎ ((word_at store address ≡ unready_word theirs.waits) × IsUnready s n y theirs.skips)
+      by : ((word_at store address ≡ ready) × IsReady s n m.links y theirs.skips)
+          ⊎ ((word_at store address ≡ unready_word theirs.waits) × IsUnready s n m.links y theirs.skips)
           → is_choosing (word_at store address) ≡ true
       by (inl e) = ap is_choosing e.0
       by (inr e) = ap is_choosing (e.0 ∙ ap unready_word waits)

@@ -1,5 +1,6 @@
 -- `enbc` is seen.
 use Rattle.tcpu.specs.declared.registers.Registers.{Registers}
+use Rattle.tseen.proofs.ChoiceChanged.{due_same}
 use Rattle.tseen.proofs.ChoiceShown.{gone_leads}
 use Rattle.tseen.proofs.ChoicePlain.{IsPlainChoice, is_for_choice, plain_gone}
 use Rattle.tseen.proofs.Choices.{alternative_with, ready_same, unready_same}
@@ -45,7 +46,7 @@ use Rattle.tprocesses.specs.Choosing.{changes_ports}
 use Rattle.tprocesses.specs.Parts.{change}
 use Rattle.treduction.specs.Plain.{rank}
 use Rattle.std.proofs.Common.{◌≡◌, ℕ, ◌+◌, ◌*◌, ◌/◌, ◌<◌, ◌≤◌, refl, sym, ap, subst, ◌∙◌, Bool, true, false}
-use Rattle.std.proofs.Common.{true≢false, length, Ok, arith, ◌⊎◌, inl, inr, Some, None, not, pos}
+use Rattle.std.proofs.Common.{true≢false, length, Ok, arith, ◌⊎◌, inl, inr, Some, None, pos}
 use Rattle.std.specs.Prelude.{◌==◌, if◌then◌else◌}
 use Rattle.std.proofs.lemmas.Bool.{eqb-true, cases_eq, ne_eqb, eq-eqb}
 use Rattle.tword.specs.declared.breaks.Break.TheVariants.{ChannelMisuse}
@@ -67,14 +68,14 @@ use Rattle.tprocesses.specs.Places.{Name, WordAt, Sending, Standing, Ports, Half
 use Rattle.tprocesses.specs.Values.{Value, Free, Receiving, Engaged, Choice}
 use Rattle.tprocesses.specs.Values.{Context, Holder, Nobody, TakenBy, EnabledBy}
 use Rattle.tprocesses.specs.Values.{AwaitedBy, IsHalf, Request, half_in, word_in, amount_in}
-use Rattle.tprocesses.specs.Parts.{require, unless, HasAlternatives, Breaks, ◌>>=◌}
+use Rattle.tprocesses.specs.Parts.{require, unless, Breaks, ◌>>=◌}
 use Rattle.tprocesses.specs.Standing.{known}
 use Rattle.tprocesses.specs.Touching.{Site, word_number, unsent}
-use Rattle.tprocesses.specs.Choosing.{enables_channel, enables_port, enables, enables_held}
+use Rattle.tprocesses.specs.Choosing.{enables_channel, enables_port, enables, enables_held, enables_link}
 use Rattle.tprocesses.specs.Choosing.{drop_channel, is_taken, has_port}
 use Rattle.tprocesses.specs.Machine.{site_of}
 use Rattle.tseen.specs.Alternatives.{IsSeenAtOnce}
-use Rattle.tseen.specs.Choices.{enabler, enabler_at, is_sent, IsEnabled}
+use Rattle.tseen.specs.Choices.{enabler, enabler_at, enables as has_enabled, is_sent, is_due, IsEnabled}
 use Rattle.tseen.specs.Halves.{IsTakenHalf}
 use Rattle.tseen.specs.Shown.{ShowsNode}
 use Rattle.tseen.specs.Words.{is_set_aside}
@@ -84,6 +85,7 @@ use Rattle.tseen.proofs.AtOperation.{IsAtOperation, registers_at, context_at, co
 use Rattle.tseen.proofs.Cells.{use_of}
 use Rattle.tseen.proofs.ChannelFound.{same_rank, sender_waits, sender_names, own_runs, own_names}
 use Rattle.tseen.proofs.DiscLaw.{may_write}
+use Rattle.tseen.proofs.Enabling.{link_then}
 use Rattle.tseen.proofs.EnbcSeen.{HasEnabled, enbc_leads}
 use Rattle.tseen.proofs.Ends.{unsent_then}
 use Rattle.tseen.proofs.Finished.{one_name}
@@ -153,7 +155,7 @@ module _ (p : Plan) (c : Configuration) (s : State) (n : ℕ) (x : Name) (k : Is
           last,
         )
 
-    it : HasChoice s n store x (own p c s n x k choice is)
+    it : HasChoice s n m.links store x (own p c s n x k choice is)
     it = has p c s n x k choice is
 
     may_state : word_break (length store) (claims_of m) Writes address ≡ None
@@ -165,8 +167,8 @@ module _ (p : Plan) (c : Configuration) (s : State) (n : ℕ) (x : Name) (k : Is
         → Runs' last
     with_state last h = of it.state
       where
-        of : ((word_at store address ≡ ready) × IsReady s n x choice.skips)
-            ⊎ ((word_at store address ≡ unready_word false) × IsUnready s n x choice.skips) → Runs' last
+        of : ((word_at store address ≡ ready) × IsReady s n m.links x choice.skips)
+            ⊎ ((word_at store address ≡ unready_word false) × IsUnready s n m.links x choice.skips) → Runs' last
         of (inl (e, f)) = h ready e refl
         of (inr (e, f)) = h enabling e refl
 
@@ -272,24 +274,28 @@ module _ (p : Plan) (c : Configuration) (s : State) (n : ℕ) (x : Name) (k : Is
         sent_still : is_sent s' n channel ≡ is_sent s n channel
         sent_still = ap (λ (v : Value). is_taken (half_in v)) (others (Half n channel Output) refl refl refl)
 
-        sent_other : (e : ℕ) → is_sent s' n e ≡ is_sent s n e
-        sent_other e = ap (λ (v : Value). is_taken (half_in v)) (others (Half n e Output) refl refl refl)
+        due_other : (e : ℕ) → is_due s' n m.links e ≡ is_due s n m.links e
+        due_other e = due_same s s' n m.links (λ i. others (Half n i Output) refl refl refl) e
 
-        ready_then : (skips : Bool) → IsReady s n x skips → IsReady s' n x skips
+        due_there : is_due s' n m.links channel ≡ is_sent s' n channel
+        due_there = rw internal refl
+
+        ready_then : (skips : Bool) → IsReady s n m.links x skips → IsReady s' n m.links x skips
         ready_then skips (inl e) = inl e
         ready_then skips (inr (e, f, h)) =
-            inr (e, ap (has_port e) ports ∙ has_with e channel (ports_in (s (Ports x))) (inr f), sent_other e ∙ h)
+            inr (e, ap (has_port e) ports ∙ has_with e channel (ports_in (s (Ports x))) (inr f), due_other e ∙ h)
 
-        unready_then : (skips : Bool) → is_sent s n channel ≡ false → IsUnready s n x skips → IsUnready s' n x skips
+        unready_then : (skips : Bool) → is_sent s n channel ≡ false → IsUnready s n m.links x skips
+            → IsUnready s' n m.links x skips
         unready_then skips silent (e, f) = (
           e,
           λ b h. of b (with_has b channel (ports_in (s (Ports x)))
               (sym (ap (has_port b) ports) ∙ h)),
         )
           where
-            of : (b : ℕ) → (channel ≡ b) ⊎ (has_port b (ports_in (s (Ports x))) ≡ true) → is_sent s' n b ≡ false
-            of b (inl g) = ap (is_sent s' n) (sym g) ∙ sent_still ∙ silent
-            of b (inr g) = sent_other b ∙ f b g
+            of : (b : ℕ) → (channel ≡ b) ⊎ (has_port b (ports_in (s (Ports x))) ≡ true) → is_due s' n m.links b ≡ false
+            of b (inl g) = ap (is_due s' n m.links) (sym g) ∙ due_there ∙ sent_still ∙ silent
+            of b (inr g) = due_other b ∙ f b g
 
         -- a message is sent: the alternative is ready
         with_sender : is_sent s n channel ≡ true
@@ -297,6 +303,7 @@ module _ (p : Plan) (c : Configuration) (s : State) (n : ℕ) (x : Name) (k : Is
         with_sender sent =
             record {
               stands = stands;
+              internal = internal;
               placed = placed;
               word_other = word_other;
               used_now = used_now;
@@ -315,7 +322,7 @@ module _ (p : Plan) (c : Configuration) (s : State) (n : ℕ) (x : Name) (k : Is
                 inr (
                   channel,
                   ap (has_port channel) ports ∙ has_with channel channel (ports_in (s (Ports x))) (inl refl),
-                  sent_still ∙ sent,
+                  due_there ∙ sent_still ∙ sent,
                 ),
               );
               names = λ e. absurd (true≢false (sym sent ∙ e));
@@ -334,6 +341,7 @@ module _ (p : Plan) (c : Configuration) (s : State) (n : ℕ) (x : Name) (k : Is
         without_sender last silent tells_last cells same names =
             record {
               stands = stands;
+              internal = internal;
               placed = placed;
               word_other = word_other;
               used_now = used_now;
@@ -351,10 +359,10 @@ module _ (p : Plan) (c : Configuration) (s : State) (n : ℕ) (x : Name) (k : Is
               before_free = before_free;
             }
           where
-            of : ((word_at store address ≡ ready) × IsReady s n x choice.skips)
-                ⊎ ((word_at store address ≡ unready_word false) × IsUnready s n x choice.skips)
-                → ((word_at last address ≡ ready) × IsReady s' n x choice.skips)
-                ⊎ ((word_at last address ≡ enabling) × IsUnready s' n x choice.skips)
+            of : ((word_at store address ≡ ready) × IsReady s n m.links x choice.skips)
+                ⊎ ((word_at store address ≡ unready_word false) × IsUnready s n m.links x choice.skips)
+                → ((word_at last address ≡ ready) × IsReady s' n m.links x choice.skips)
+                ⊎ ((word_at last address ≡ enabling) × IsUnready s' n m.links x choice.skips)
             of (inl (e, f)) = inl (same ∙ e, ready_then choice.skips f)
             of (inr (e, f)) = inr (same ∙ e, unready_then choice.skips silent f)
 
@@ -674,21 +682,24 @@ module _ (p : Plan) (c : Configuration) (s : State) (n : ℕ) (x : Name) (k : Is
     held_then guard internal placed (TakenBy q) e = tt
     held_then guard internal placed (AwaitedBy y) e = tt
 
+    -- a channel is enabled
+    channel_then : (m.registers.a == 0) ≡ false → is_link channel ≡ false → After (enables site x channel) u Goes
+    channel_then guard internal =
+        after_bind (unless (word_place_break site.size channel)) _ u Goes
+        (after_unless (word_place_break site.size channel) u _ (λ placed.
+        held_then guard internal (subst (λ z. word_place_break z channel ≡ None) (sym shown.size) placed)
+        (half_in (u (Half n channel Input))) refl))
+
     port_then : (m.registers.a == 0) ≡ false → After (enables_port site x context) u L
     port_then guard =
         after_bind (known context.b) _ u L (known_then context.b channel u _ running.registers.b
-        (after_bind (require (not (is_link channel)) HasAlternatives) _ u L
-        (after_require (not (is_link channel)) HasAlternatives u _ (λ internal.
-        after_bind (enables site x channel) _ u L
-        (after_bind (unless (word_place_break site.size channel)) _ u _
-        (after_unless (word_place_break site.size channel) u _ (λ placed.
-        held_then guard (is_internal (is_link channel) internal)
-        (subst (λ z. word_place_break z channel ≡ None) (sym shown.size) placed) (half_in (u (Half n channel Input)))
-        refl)))))))
+        (after_bind (if is_link channel then enables_link site x channel else enables site x channel) _ u L
+        (by (is_link channel) refl)))
       where
-        is_internal : (b : Bool) → not b ≡ true → b ≡ false
-        is_internal false e = refl
-        is_internal true e = absurd (true≢false (sym e))
+        by : (b : Bool) → is_link channel ≡ b
+            → After (if b then enables_link site x channel else enables site x channel) u Goes
+        by true link = link_then p c s n x k u a choice is clear guard link
+        by false internal = channel_then guard internal
 
     -- with a guard that is false
     module _ (guard : (m.registers.a == 0) ≡ true) (s' : State) (now : StandsNow site x (Runs d) u s') where
@@ -714,7 +725,10 @@ module _ (p : Plan) (c : Configuration) (s : State) (n : ℕ) (x : Name) (k : Is
       halves : (e : ℕ) → s' (Half n e Output) ≡ s (Half n e Output)
       halves e = now.others (Half n e Output) refl ∙ a.on.keeps.others (Half n e Output) refl
 
-      new_choice : HasChoice s' n store x old
+      due : (e : ℕ) → has_enabled s n x e ≡ true → is_due s' n m.links e ≡ is_due s n m.links e
+      due e g = due_same s s' n m.links halves e
+
+      new_choice : HasChoice s' n m.links store x old
       new_choice =
           record {
             small = it.small;
@@ -727,12 +741,12 @@ module _ (p : Plan) (c : Configuration) (s : State) (n : ℕ) (x : Name) (k : Is
             unready = λ e. absurd (true≢false (sym e));
           }
         where
-          of : ((word_at store address ≡ ready) × IsReady s n x choice.skips)
-              ⊎ ((word_at store address ≡ unready_word false) × IsUnready s n x choice.skips)
-              → ((word_at store address ≡ ready) × IsReady s' n x choice.skips)
-              ⊎ ((word_at store address ≡ unready_word false) × IsUnready s' n x choice.skips)
-          of (inl (e, f)) = inl (e, ready_same s s' n x ports halves choice.skips f)
-          of (inr (e, f)) = inr (e, unready_same s s' n x ports halves choice.skips f)
+          of : ((word_at store address ≡ ready) × IsReady s n m.links x choice.skips)
+              ⊎ ((word_at store address ≡ unready_word false) × IsUnready s n m.links x choice.skips)
+              → ((word_at store address ≡ ready) × IsReady s' n m.links x choice.skips)
+              ⊎ ((word_at store address ≡ unready_word false) × IsUnready s' n m.links x choice.skips)
+          of (inl (e, f)) = inl (e, ready_same s s' n m.links m.links x ports due choice.skips f)
+          of (inr (e, f)) = inr (e, unready_same s s' n m.links m.links x ports due choice.skips f)
 
       abbrev after' : Registers
       after' = all_to m.registers.a (registers_at p c s n x k a.size)
@@ -759,7 +773,7 @@ module _ (p : Plan) (c : Configuration) (s : State) (n : ℕ) (x : Name) (k : Is
             only = λ i h. refl;
             states = λ i e f. word_stays i ∙ a.on.keeps.kept i (λ h. state_not_free (sym e ∙ h));
             state_cells = λ i e f. refl;
-            own_choice = λ b e. subst (HasChoice s' n store x) (one_is (sym alternative_now ∙ e)) new_choice;
+            own_choice = λ b e. subst (HasChoice s' n m.links store x) (one_is (sym alternative_now ∙ e)) new_choice;
             own_apart = λ y b f home e same b' g. no_other p c s n x k choice is y b f home e same;
             own_word = other_state p c s n x k choice is;
             own_keeps = λ e h. (old, alternative_now);
@@ -781,7 +795,7 @@ module _ (p : Plan) (c : Configuration) (s : State) (n : ℕ) (x : Name) (k : Is
 
       guard_leads : LeadsTo p c n s'
       guard_leads =
-          gone_leads p c s n x k s' after' control.count store d
+          gone_leads p c s n x k s' after' control.count m.links store d
           (plain_gone p c s n x k s' after' control.count store d plain)
           (a.steps (record m { registers = after'; count = control.count }) store runs)
 

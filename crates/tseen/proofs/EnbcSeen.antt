@@ -14,6 +14,7 @@ use Rattle.tproc.specs.declared.channels.Side.TheVariants.{Input, Output}
 use Rattle.tproc.specs.declared.ran.Ran.TheVariants as ran
 use Rattle.tproc.specs.Channels.{enabling, ready}
 use Rattle.tproc.specs.Machine.{Control}
+use Rattle.tproc.specs.LinkChannels.{is_link}
 use Rattle.tplan.specs.declared.plan.Plan.{Plan}
 use Rattle.tnet.specs.Rendezvous.{Configuration}
 use Rattle.tprocesses.specs.Places.{Place, Name, WordAt, Standing, Ports, Half}
@@ -86,12 +87,13 @@ module _ (p : Plan) (c : Configuration) (s : State) (n : ℕ) (x : Name) (k : Is
     abbrev old : Alternative
     old = own p c s n x k choice is
 
-    it : HasChoice s n store x old
+    it : HasChoice s n m.links store x old
     it = has p c s n x k choice is
 
     -- the channel is enabled afterwards
     pub record HasEnabled (s' : State) (last : Store) : Type 0 where
       pub stands : s' (Standing x) ≡ IsStand (Runs d)
+      pub internal : is_link channel ≡ false
       pub placed : word_place_break (length store) channel ≡ None
       pub word_other : (i : ℕ) → (j ≡ i → ⊥) → s' (WordAt n i) ≡ u (WordAt n i)
       pub used_now : use_of s' n j ≡ Engaged
@@ -102,8 +104,8 @@ module _ (p : Plan) (c : Configuration) (s : State) (n : ℕ) (x : Name) (k : Is
       pub half : s' (Half n channel Input) ≡ IsHalf (EnabledBy x)
       pub ports : ports_in (s' (Ports x)) ≡ with_port channel (ports_in (s (Ports x)))
       pub cells : (i : ℕ) → (j ≡ i / 4 → ⊥) → (below w 3 ≡ i / 4 → ⊥) → get_or last i None ≡ get_or store i None
-      pub told : ((word_at last address ≡ ready) × IsReady s' n x choice.skips)
-          ⊎ ((word_at last address ≡ enabling) × IsUnready s' n x choice.skips)
+      pub told : ((word_at last address ≡ ready) × IsReady s' n m.links x choice.skips)
+          ⊎ ((word_at last address ≡ enabling) × IsUnready s' n m.links x choice.skips)
       pub names : is_sent s n channel ≡ false → word_at last channel ≡ w + running.level
       pub sent_names : is_sent s n channel ≡ true → word_at last channel ≡ word_at store channel
       pub sent_engaged : is_sent s n channel ≡ true → use_of s n j ≡ Engaged
@@ -147,7 +149,7 @@ module _ (p : Plan) (c : Configuration) (s : State) (n : ℕ) (x : Name) (k : Is
           one_is : {b b' : Alternative} → Some b ≡ Some b' → b ≡ b'
           one_is h = cc
 
-      new_choice : HasChoice s' n last x old
+      new_choice : HasChoice s' n m.links last x old
       new_choice =
           record {
             small = it.small;
@@ -165,6 +167,7 @@ module _ (p : Plan) (c : Configuration) (s : State) (n : ℕ) (x : Name) (k : Is
       here : IsEnabled s' n last channel x
       here =
           record {
+            internal = g.internal;
             home = running.home;
             port = ap (has_port channel) g.ports ∙ has_with channel channel (ports_in (s (Ports x))) (inl refl);
             placed = subst (λ z. word_place_break z channel ≡ None) (sym (g.tells.length ∙ sym shown.size)) g.placed;
@@ -191,6 +194,7 @@ module _ (p : Plan) (c : Configuration) (s : State) (n : ℕ) (x : Name) (k : Is
             same_wptr = refl;
             same_error = refl;
             same_halting = refl;
+            internal = g.internal;
             placed = g.placed;
             others = g.others;
             open_before = open_before;
@@ -209,7 +213,7 @@ module _ (p : Plan) (c : Configuration) (s : State) (n : ℕ) (x : Name) (k : Is
             sent_stays = λ e. (g.used_now, g.sent_names e);
             engaged_after = λ e. inr refl;
             engaged_before = g.sent_engaged;
-            own_choice = λ b e. subst (HasChoice s' n last x) (sym (is_new b e)) new_choice;
+            own_choice = λ b e. subst (HasChoice s' n m.links last x) (sym (is_new b e)) new_choice;
             own_apart = λ y b f home e same b' h. no_other p c s n x k choice is y b f home e same;
             own_word = other_state p c s n x k choice is;
             own_keeps = (old, alternative_now);
@@ -240,7 +244,8 @@ module _ (p : Plan) (c : Configuration) (s : State) (n : ℕ) (x : Name) (k : Is
           words i h false f =
               inl (g.word_other i h ∙ a.on.keeps.kept i (λ l. true≢false (sym (ap is_for_choice l) ∙ f)))
 
-      pub enbc_leads : step k.node.machine ≡ Ok (gone p c s n x k after count last, ran.Instruction) → LeadsTo p c n s'
+      pub enbc_leads : step k.node.machine ≡ Ok (gone p c s n x k after count m.links last, ran.Instruction)
+          → LeadsTo p c n s'
       enbc_leads stepped =
-          gone_leads p c s n x k s' after count last d
+          gone_leads p c s n x k s' after count m.links last d
           (port_gone p c s n x k channel s' after count last d change) stepped

@@ -1,7 +1,7 @@
 -- Who stands at an end of a wire: a processor, a source or a sink.
 use Rattle.std.proofs.Common.{◌≡◌, ℕ, zero, suc, ◌+◌, ◌-◌, ◌<◌, ◌≤◌, refl, sym, ap, subst, ◌∙◌, List, [], ◌∷◌, length}
-use Rattle.std.proofs.Common.{true, cond, Some, None, arith, ◌⊎◌, inl, inr}
-use Rattle.std.specs.Prelude.{is_some, slice_get}
+use Rattle.std.proofs.Common.{true, false, cond, Bool, Option, Some, None, arith, ◌⊎◌, inl, inr}
+use Rattle.std.specs.Prelude.{is_some, slice_get, if◌then◌else◌}
 use Rattle.std.proofs.lemmas.Bool.{eq-eqb, cases_lt, lt-ltb, le-ltb, and_from}
 use Rattle.tplan.specs.declared.plan.End.{End}
 use Rattle.tplan.specs.declared.plan.NodePlan.{NodePlan}
@@ -11,7 +11,7 @@ use Rattle.tplan.specs.declared.plan.Plan.{Plan}
 use Rattle.tplan.specs.Wires.{all_wires}
 use Rattle.tnet.specs.Building.{fault_of, node_count}
 use Rattle.tnet.specs.Sound.{AreWires}
-use Rattle.tplan.specs.Wires.{far_end}
+use Rattle.tplan.specs.Wires.{far_end, same_end}
 use Rattle.tnet.proofs.OpenedPlans.{faultless}
 use Rattle.tnet.proofs.OpenedWires.{wired_ends}
 use Rattle.tnet.proofs.ScriptWires.{all_are_wires}
@@ -26,6 +26,22 @@ pub found_at : {X : Type 0} (xs : List X) (i : ℕ) → i < length xs → (x : X
 found_at [] i h = absurd (omega arith)
 found_at (x ∷ xs) zero h = (x, refl)
 found_at (x ∷ xs) (suc i) h = found_at xs i (omega arith)
+
+-- the sender of a wire is the far end of its receiver
+pub sender_is_far : (p : Plan) (e f : End) → sender_to p e ≡ Some f → far_end (all_wires p) e ≡ Some f
+sender_is_far p e f h = by (far_end (all_wires p) e) h
+  where
+    joined : (g : End) (o : Option End) → if_joined e g o ≡ Some f → Some g ≡ Some f
+    joined g None k = cc
+    joined g (Some back) k = of (same_end back e) k
+      where
+        of : (b : Bool) → (if b then Some g else None) ≡ Some f → Some g ≡ Some f
+        of true k = k
+        of false k = cc
+
+    by : (o : Option End) → joined_to p e o ≡ Some f → o ≡ Some f
+    by None k = cc
+    by (Some g) k = joined g (far_end (all_wires p) g) k
 
 -- by the number of a node
 pub node_role : (p : Plan) (n : ℕ) → n < length p.nodes → role_at p n ≡ Processor

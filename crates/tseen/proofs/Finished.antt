@@ -4,7 +4,7 @@ use Rattle.std.specs.Prelude.{◌==◌, pos, negsuc, if◌then◌else◌}
 use Rattle.std.proofs.lemmas.Bool.{eq-eqb}
 use Rattle.tplan.specs.declared.plan.Plan.{Plan}
 use Rattle.tprocesses.specs.Places.{Place, Name, WordAt, Sending, Standing, Ports}
-use Rattle.tprocesses.specs.Places.{Half, LinkHalf, Error, HaltOnError, Life}
+use Rattle.tprocesses.specs.Places.{Half, LinkHalf, Unfinished, Error, HaltOnError, Life}
 use Rattle.tprocesses.specs.Places.{Successions, Messages, Kept, Population, HasRun, FlagChanged, same_name}
 use Rattle.tprocesses.specs.Places.{same_place}
 use Rattle.tprocesses.specs.Values.{Value, Context, Stand, Runs, IsStand, IsFlag, flag_in}
@@ -95,6 +95,7 @@ module _ (site : Site) where
       others (Ports x) e = f.others (Ports x) e
       others (Half m c side) e = f.others (Half m c side) e
       others (LinkHalf m side) e = f.others (LinkHalf m side) e
+      others (Unfinished m) e = f.others (Unfinished m) e
       others (HaltOnError m) e = f.others (HaltOnError m) e
       others (Life m w) e = f.others (Life m w) e
       others (Successions m w) e = f.others (Successions m w) e
@@ -137,6 +138,7 @@ module _ (site : Site) where
       others (Ports x) e = f.others (Ports x) e
       others (Half m c side) e = f.others (Half m c side) e
       others (LinkHalf m side) e = f.others (LinkHalf m side) e
+      others (Unfinished m) e = f.others (Unfinished m) e
       others (Error m) e = f.others (Error m) e
       others (Life m w) e = f.others (Life m w) e
       others (Successions m w) e = f.others (Successions m w) e
@@ -234,6 +236,7 @@ module _ (site : Site) where
       others (Ports x) e = f.others (Ports x) e
       others (Half m c side) e = f.others (Half m c side) e
       others (LinkHalf m side) e = f.others (LinkHalf m side) e
+      others (Unfinished m) e = f.others (Unfinished m) e
       others (HaltOnError m) e = f.others (HaltOnError m) e
       others (Life m w) e = f.others (Life m w) e
       others (Successions m w) e = f.others (Successions m w) e

@@ -1,6 +1,6 @@
 -- What the first of two processes at an internal channel leads to is shown after its step.
 use Rattle.tseen.specs.Choices.{enabler}
-use Rattle.tprocesses.specs.Places.{Sending}
+use Rattle.tprocesses.specs.Places.{Sending, LinkHalf}
 use Rattle.tprocesses.specs.Values.{amount_in}
 use Rattle.tseen.proofs.Choices.{state_lasts}
 use Rattle.tseen.specs.Words.{use_at}
@@ -10,7 +10,7 @@ use Rattle.tseen.proofs.Taken.{was_free}
 use Rattle.tprocesses.specs.Places.{Ports}
 use Rattle.tseen.specs.Choices.{enabler_at}
 use Rattle.tseen.proofs.Choices.{is_lasting, lasting_not_free, stands_alike, quiet_alike, choices_kept, AreKeptChoices}
-use Rattle.std.proofs.Common.{◌*◌, ◌≡◌, ◌≢◌, ℕ, ◌+◌, ◌≤◌, refl, sym, ap, subst, ◌∙◌, Bool, true, false}
+use Rattle.std.proofs.Common.{◌*◌, ◌≡◌, ◌≢◌, ℕ, ◌+◌, ◌≤◌, refl, sym, ap, subst, ◌∙◌, Bool, true, false, List}
 use Rattle.std.proofs.Common.{length, Some, None, arith}
 use Rattle.std.proofs.lemmas.Bool.{eqb-true}
 use Rattle.tword.specs.Words.{most_neg}
@@ -42,6 +42,10 @@ use Rattle.tseen.proofs.Asked.{side_of}
 use Rattle.tseen.proofs.Taken.{HasTaken}
 use Rattle.tseen.proofs.HalfShown.{named', node_now, stay, enabler_stays, elsewhere}
 use Rattle.tseen.proofs.TakenWords.{alternative_now, alternative_before, quiet_now}
+use Rattle.tseen.proofs.InputChannels.{inputs_stay}
+use Rattle.tseen.proofs.NoticedOffers.{outputs_stay}
+use Rattle.tproc.specs.declared.waiter.LinkEnd.{LinkEnd}
+use Rattle.tplan.specs.Wires.{end_at}
 
 module _ (p : Plan) (c : Configuration) (s : State) (n : ℕ) (x : Name) (k : IsCurrent p c s n x) (v : State)
     (h : HasTaken p c s n x k v)
@@ -51,6 +55,9 @@ module _ (p : Plan) (c : Configuration) (s : State) (n : ℕ) (x : Name) (k : Is
 
   abbrev site : Site
   site = site_of n k.plan
+
+  abbrev links : List LinkEnd
+  links = k.node.machine.control.links
 
   abbrev running : RunsThere s n k.plan k.node x
   running = there p c s n x k
@@ -104,13 +111,15 @@ module _ (p : Plan) (c : Configuration) (s : State) (n : ℕ) (x : Name) (k : Is
         aligned = eqb-true _ _ (word_placed (length store) a there).0;
       }) (lasting_not_free e) (lasting_other (word_number a) e)
 
-  kept : AreKeptChoices s v n store last
+  kept : AreKeptChoices s v n links links store last
   kept =
       record {
         stands = λ y e. stands_alike p s v n x stand_stays (alternative_now p c s n x k v h
             ∙ sym (alternative_before p c s n x k v h)) y;
         quiet = λ y e f. quiet_alike p s v n x stand_stays (quiet_now p c s n x k v h) y f;
         ports = λ y e. stay p c s n x k v h last laid alone (Ports y) refl refl refl;
+        linked = inputs_stay s v n links links
+            (λ l. stay p c s n x k v h last laid alone (LinkHalf (end_at n l) Input) refl refl refl) refl;
         inputs = enabler_stays p c s n x k v h last laid alone;
         held = λ a y e. ap half_in (enabled_half a y Input (ap enabler e)) ∙ e;
         unsent = λ i e z. ap amount_in (stay p c s n x k v h last laid alone (Sending n i) refl refl refl) ∙ z;
@@ -132,5 +141,7 @@ module _ (p : Plan) (c : Configuration) (s : State) (n : ℕ) (x : Name) (k : Is
   first_leads =
       leads_there p c s n x k (made p c s n x k v h) v (named' p c s n x k v h last laid alone) (k.shows.sent n)
       (stepped p c s n x k v h finds) (hidden_still p c s n x k v h)
-      (node_now p c s n x k v h last laid alone (choices_kept s v n store last kept shown.choices))
+      (node_now p c s n x k v h last laid alone (choices_kept s v n links links store last kept shown.choices))
       (elsewhere p c s n x k v h last laid alone)
+      (outputs_stay s v n k.node (record k.node { machine = made p c s n x k v h })
+      (λ l. stay p c s n x k v h last laid alone (LinkHalf (end_at n l) Output) refl refl refl) (λ l. refl))

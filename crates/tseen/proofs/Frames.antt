@@ -7,10 +7,11 @@ use Rattle.tplan.specs.declared.plan.NodePlan.{NodePlan}
 use Rattle.tplan.specs.Wires.{end_at}
 use Rattle.tnet.specs.Rendezvous.{Node}
 use Rattle.tprocesses.specs.Places.{Place, Name, WordAt, Sending, Standing, Ports}
-use Rattle.tprocesses.specs.Places.{Half, LinkHalf, Error, HaltOnError, Life}
+use Rattle.tprocesses.specs.Places.{Half, LinkHalf, Unfinished, Error, HaltOnError, Life}
 use Rattle.tprocesses.specs.Places.{Successions, Messages, Kept, Population, HasRun, FlagChanged}
 use Rattle.tprocesses.specs.Values.{Value, word_in, stand_in}
-use Rattle.tseen.specs.Choices.{alternative_of, is_quiet}
+use Rattle.tproc.specs.declared.channels.Side.TheVariants.{Input}
+use Rattle.tseen.specs.Choices.{alternative_of, alternative_at, is_quiet}
 use Rattle.tseen.specs.Seats.{Seat, is_taken}
 use Rattle.tseen.specs.Outputs.{Pending}
 use Rattle.std.proofs.lemmas.List.Elements.{All-contains}
@@ -23,6 +24,7 @@ use Rattle.tseen.proofs.After.{State}
 use Rattle.tseen.proofs.Cells.{use_of}
 use Rattle.tseen.proofs.Staying.{saved_words_stay, marks_from, channels_stay, link_stays}
 use Rattle.tseen.proofs.Choices.{choices_stay}
+use Rattle.tseen.proofs.InputChannels.{descriptors_stay, inputs_stay}
 
 -- the node of a place
 abbrev pub node_at : Place → ℕ
@@ -32,6 +34,7 @@ node_at (Standing x) = x.node
 node_at (Ports x) = x.node
 node_at (Half n c side) = n
 node_at (LinkHalf e side) = e.node
+node_at (Unfinished e) = e.node
 node_at (Error n) = n
 node_at (HaltOnError n) = n
 node_at (Life n w) = n
@@ -113,15 +116,21 @@ module _ (n : ℕ) (s s' : State) (same : (q : Place) → node_at q ≡ n → s'
             (λ j e. sym (uses j) ∙ e) (λ c side. same (Half n c side) refl)
             (λ q. refl) refl (λ c h e. refl) k.channels;
         links = λ l h. link_stays s s' n named named sent node node l (λ w. refl)
-            (λ side. same (LinkHalf (end_at n l) side) refl) refl refl (k.links l h);
+            (λ side. same (LinkHalf (end_at n l) side) refl) (same (Unfinished (end_at n l)) refl)
+            (descriptors_stay s s' n node.machine.control.links node.machine.store k.choices alternatives l h) refl refl
+            (k.links l h);
         processes = processes_stay named sent node k.processes;
-        choices = choices_stay s s' n node.machine.store node.machine.store
-            (λ x h. ap (λ (v : Value). alternative_of (stand_in v)) (same (Standing x) h))
+        choices = choices_stay s s' n node.machine.control.links node.machine.control.links node.machine.store
+            node.machine.store (inputs_stay s s' n node.machine.control.links node.machine.control.links
+            (λ l. same (LinkHalf (end_at n l) Input) refl) refl) alternatives
             (λ x h e. ap (λ (v : Value). is_quiet (stand_in v)) (same (Standing x) h) ∙ e)
             (λ x h. same (Ports x) h) (λ c side. same (Half n c side) refl)
             (λ j e z. ap amount_in (same (Sending n j) refl) ∙ z) (λ j e. same (WordAt n j) refl) refl (λ a e f. refl)
             k.choices;
       }
     where
+      alternatives : (x : Name) → x.node ≡ n → alternative_at s' n x ≡ alternative_at s n x
+      alternatives x h = ap (λ (v : Value). alternative_of (stand_in v)) (same (Standing x) h)
+
       uses : (j : ℕ) → use_of s' n j ≡ use_of s n j
       uses j = ap (λ (v : Value). (word_in v).used) (same (WordAt n j) refl)

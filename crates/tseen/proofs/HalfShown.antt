@@ -1,7 +1,7 @@
 -- A process that has taken its half of an internal channel is shown, whatever else its step did to the words of
 -- alternatives.
 use Rattle.tseen.specs.Words.{is_set_aside}
-use Rattle.tseen.specs.Choices.{ShowsChoices}
+use Rattle.tseen.specs.Choices.{ShowsChoices, alternative_at}
 use Rattle.tproc.proofs.WordsApart.{LiesWord}
 use Rattle.tproc.specs.Placement.{IsWorkspace, IsWord as IsMachineWord}
 use Rattle.tseen.proofs.Built.{lies_below}
@@ -40,7 +40,7 @@ use Rattle.tplan.specs.declared.plan.Plan.{Plan}
 use Rattle.tplan.specs.Wires.{end_at}
 use Rattle.tnet.specs.Rendezvous.{Node, Configuration}
 use Rattle.tprocesses.specs.Places.{Place, Name, WordAt, Standing, Half, LinkHalf, Error, HaltOnError, Life}
-use Rattle.tprocesses.specs.Places.{Population}
+use Rattle.tprocesses.specs.Places.{Population, Unfinished}
 use Rattle.tprocesses.specs.Places.{HasRun, same_name, same_place}
 use Rattle.tprocesses.specs.Values.{Holder, Nobody, TakenBy, Value, Saved, Engaged, Context, Stand, Rests, Runs, Waits}
 use Rattle.tprocesses.specs.Values.{Request, IsStand}
@@ -56,7 +56,7 @@ use Rattle.tseen.specs.Steps.{IsCurrent}
 use Rattle.tseen.proofs.FirstWords.{made, desch_now, marks_now}
 use Rattle.tseen.proofs.FirstWords.{engaged_was, engaged_stays, IsLaid, is_firm}
 use Rattle.tseen.proofs.TakenWords.{process, request, aligned, small, own_workspace, rank_is, at, channel_is}
-use Rattle.tseen.proofs.TakenWords.{own_half, lies_here}
+use Rattle.tseen.proofs.TakenWords.{own_half, lies_here, alternative_now, alternative_before}
 use Rattle.tseen.proofs.HalfTaken.{is_half_of}
 use Rattle.tseen.proofs.Spans.{word_placed}
 use Rattle.tseen.proofs.After.{State}
@@ -78,6 +78,8 @@ use Rattle.tseen.proofs.Staying.{link_renamed}
 use Rattle.tseen.proofs.AtOperation.{context_at}
 use Rattle.tseen.proofs.Asked.{side_of, buffer_for}
 use Rattle.tseen.proofs.Taken.{HasTaken, is_new, own_empty}
+use Rattle.tseen.proofs.InputChannels.{descriptors_stay}
+use Rattle.tseen.proofs.Choices.{stands_alike}
 
 module _ (p : Plan) (c : Configuration) (s : State) (n : ℕ) (x : Name) (k : IsCurrent p c s n x) (v : State)
     (h : HasTaken p c s n x k v) (last : Store) (g : IsLaid p c s n x k v h last)
@@ -498,8 +500,14 @@ module _ (p : Plan) (c : Configuration) (s : State) (n : ℕ) (x : Name) (k : Is
     pub links_now : (l : ℕ) → l < 4 → ShowsLink v n named' (k.shows.sent n) node' l
     links_now l g =
         link_renamed s v n named named' (k.shows.sent n) k.node node' l waits_there
-        (λ t. stay (LinkHalf (end_at n l) t) refl refl refl) refl refl (shown.links l g)
+        (λ t. stay (LinkHalf (end_at n l) t) refl refl refl) (stay (Unfinished (end_at n l)) refl refl refl)
+        (descriptors_stay s v n m.links store shown.choices (λ y e. alternatives y) l g) refl refl (shown.links l g)
       where
+        alternatives : (y : Name) → alternative_at v n y ≡ alternative_at s n y
+        alternatives y =
+            stands_alike p s v n x (λ z other. stay (Standing z) refl refl other)
+            (alternative_now p c s n x k v h ∙ sym (alternative_before p c s n x k v h)) y
+
         waits_there : (e : Offer) → ((link_end m l).input ≡ Some e) ⊎ ((link_end m l).output ≡ Some e)
             → named' (Waiting e.wdesc) ≡ named (Waiting e.wdesc)
         waits_there e (inl f) =
@@ -514,7 +522,7 @@ module _ (p : Plan) (c : Configuration) (s : State) (n : ℕ) (x : Name) (k : Is
             (k.steady.placed.claimed.outputs l)).0))
 
     -- so the node is shown, if its alternatives are
-    pub node_now : ShowsChoices v n last → ShowsNode v n k.plan named' (k.shows.sent n) node'
+    pub node_now : ShowsChoices v n m.links last → ShowsNode v n k.plan named' (k.shows.sent n) node'
     node_now choices =
         record {
           role = shown.role;

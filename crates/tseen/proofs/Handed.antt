@@ -1,6 +1,6 @@
 -- What the step of a wire hands over is known to be the message that goes over.
 use Rattle.std.proofs.Common.{◌≡◌, ◌∷◌, ◌++◌, [], sym, ap, subst, ◌∙◌, ℕ, ◌+◌, length, Bool, true, false, true≢false}
-use Rattle.std.proofs.Common.{Option, Some, None}
+use Rattle.std.proofs.Common.{Option, Some, None, refl}
 use Rattle.std.specs.Prelude.{is_some, slice_get}
 use Rattle.tword.specs.Stores.{Store, cells}
 use Rattle.tplan.specs.declared.plan.End.{End}
@@ -19,7 +19,8 @@ use Rattle.tprocesses.specs.Parts.{Part, gives, stopping, seeing, changing, tell
 use Rattle.tprocesses.specs.Parts.{◌>>=◌}
 use Rattle.tprocesses.specs.LinkMessages.{node_sends, source_sends}
 use Rattle.tprocesses.specs.Machine.{Agent, Wire, Role, Processor, Source, process_machine, step_of, role_at, sends}
-use Rattle.tprocesses.specs.Machine.{receives, passes}
+use Rattle.tprocesses.specs.Machine.{Sink, Nothing, receives, asks, crosses, passes}
+use Rattle.tprocesses.specs.Places.{Name}
 use Rattle.tprocesses.specs.Certified.{ProcessStep}
 use Rattle.tseen.specs.Known.{KnowsCells}
 use Rattle.tseen.specs.Scripts.{ShowsSource}
@@ -29,11 +30,12 @@ use Rattle.tseen.specs.AgentSteps.{AgentMakes}
 use Rattle.tseen.proofs.After.{State, changed, After, after_all, after_weaken, so_far-more, so_far, deed_at, if_open}
 use Rattle.tseen.proofs.Copies.{some_is, at_site_then}
 use Rattle.tseen.proofs.EndRoles.{back, sender_found, by_role}
+use Rattle.tseen.proofs.WireAsks.{AwaitsNone, asking_awaits}
 use Rattle.tseen.proofs.Sending.{node_sends_then, message_known}
 use Rattle.tseen.proofs.SourceSends.{source_sends_then}
 
 -- what holds of the message that a step hands over, if it goes through
-abbrev Tells : Doing → State → Option Store → (Option Store → Type 0) → Type 0
+abbrev pub Tells : Doing → State → Option Store → (Option Store → Type 0) → Type 0
 Tells (gives x) s o Q = Q o
 Tells (stopping why) s o Q = Unit {0}
 Tells (seeing p next) s o Q = Tells (next (s p)) s o Q
@@ -60,7 +62,7 @@ told_bind (changing p c next) f s o Q h = told_bind next f (changed p c s) o Q h
 told_bind (telling m next) f s o Q h = told_bind next f s (Some m) Q h
 
 -- the same holds for a step that an agent makes
-agent_told : (p : Plan) (a : Agent) (s s' : State) (Q : Option Store → Type 0) → (m : AgentMakes p a s s')
+pub agent_told : (p : Plan) (a : Agent) (s s' : State) (Q : Option Store → Type 0) → (m : AgentMakes p a s s')
     → Tells (step_of p a) s None Q → Q m.label.deed.message
 agent_told p a s s' Q m h =
     by (are_open (process_machine p) a s)
@@ -146,12 +148,22 @@ module _ (p : Plan) (c c' : Configuration) (s s' : State) (f e : End) (none : fa
       by_role p none f e back_there Sends node_sends_known source_sends_known
       (λ j sink there at zero_link a. absurd (sink_sends_not j sink there at zero_link))
 
+  -- no process waits at the receiver for its input and for others
+  asks_told : (r : Role) → AwaitsNone p s e r → Tells (crosses p f e None) s None IsKnown
+      → Tells (asks r e >>= crosses p f e) s None IsKnown
+  asks_told Processor nobody h =
+      subst (λ (o : Option Name). Tells (crosses p f e o) s None IsKnown) (sym (nobody refl)) h
+  asks_told Source nobody h = h
+  asks_told Sink nobody h = h
+  asks_told Nothing nobody h = h
+
   pub handed_known : IsKnown makes.label.deed.message
   handed_known =
       agent_told p (Wire e) s s' IsKnown makes
       (subst (λ (o : Option End). Tells (passes p o e) s None IsKnown) (sym (sender_found p none e f wired))
+      (asks_told (role_at p e.node) (asking_awaits p none c s e f shows wired k.receiver k.inp k.asks)
       (told_bind (sends p (role_at p f.node) f) _ s None IsKnown
       (after_weaken (sends p (role_at p f.node) f) s (λ message t. KnowsCells message gone) _ sends_known
       (λ message t known o.
       told_bind (receives p (role_at p e.node) e message) (λ _. telling message done) t o IsKnown
-      (after_all (receives p (role_at p e.node) e message) t _ (λ x u o'. known))))))
+      (after_all (receives p (role_at p e.node) e message) t _ (λ x u o'. known)))))))

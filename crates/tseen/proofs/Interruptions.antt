@@ -15,7 +15,7 @@ use Rattle.tplan.specs.declared.plan.Plan.{Plan}
 use Rattle.tnet.specs.Rendezvous.{Node, Configuration, put_node}
 use Rattle.tnet.proofs.Puts.{put-same}
 use Rattle.tprocesses.specs.Places.{Name}
-use Rattle.tprocesses.specs.Values.{Chosen, Chooses, Stand, Absent, Rests, Runs, Waits, Ended}
+use Rattle.tprocesses.specs.Values.{Chosen, Listens, Chooses, Stand, Absent, Rests, Runs, Waits, Ended}
 use Rattle.tseen.specs.Known.{HasRegisters}
 use Rattle.tseen.specs.Seats.{Seat, Current, Interrupted, Queued, Waiting, is_taken}
 use Rattle.tseen.specs.Processes.{Fits, IsSeated, IsGone, ShowsProcesses}
@@ -27,6 +27,7 @@ use Rattle.tseen.proofs.Nets.{net_shown, net_named}
 use Rattle.tseen.proofs.Running.{high_has_run, low_alone}
 use Rattle.tseen.proofs.Staying.{channels_stay, link_stays}
 use Rattle.tseen.proofs.DispatchShown.{dispatches_are_seen}
+use Rattle.tseen.proofs.NoticedOffers.{NoticesSent, own_notices, outputs_stay}
 
 -- a control whose current process has stepped aside
 abbrev aside : Control → Control
@@ -126,6 +127,7 @@ module _ (p : Plan) (c : Configuration) (s : State) (n : ℕ) (x : Name) (k : Is
       by Ended f = absurd f
       by (Chooses d) f = absurd f
       by (Chosen d) f = absurd f
+      by (Listens channel d) f = absurd f
 
   seated : (q : Seat) → is_taken (aside m) q ≡ true → IsSeated s n beside q (named' q)
   seated Current h = absurd (true≢false (sym h))
@@ -202,7 +204,7 @@ module _ (p : Plan) (c : Configuration) (s : State) (n : ℕ) (x : Name) (k : Is
         channels = channels_stay s s n named named' k.node.machine beside.machine (λ w. refl) (λ j e. e) (λ j e. e)
             (λ a side. refl) (λ q. refl) refl (λ a h e. refl) shown.channels;
         links = λ l h. link_stays s s n named named' (k.shows.sent n) k.node beside l (λ w. refl) (λ side. refl)
-            refl refl (shown.links l h);
+            refl (λ y e. refl) refl refl (shown.links l h);
         processes = processes;
         choices = shown.choices;
       }
@@ -211,16 +213,22 @@ module _ (p : Plan) (c : Configuration) (s : State) (n : ℕ) (x : Name) (k : Is
   abbrev pub stepped_aside : Configuration
   stepped_aside = put_node n beside c
 
+  -- what it noticed before still comes from somebody who sends
+  noticed : NoticesSent p stepped_aside s
+  noticed =
+      own_notices p c s s n k.plan k.node beside k.planned k.here k.shows.noticed
+      (outputs_stay s s n k.node beside (λ l. refl) (λ l. refl)) (λ q h. refl)
+
   shows_beside : Shows p stepped_aside s
   shows_beside =
       net_shown p c s s k.shows n k.plan k.planned k.node k.here beside named' (k.shows.sent n) shown_beside
-      (λ q h. refl)
+      (λ q h. refl) noticed
 
   named_there : shows_beside.named n ≡ named'
   unfolding shows_beside
   named_there =
       net_named p c s s k.shows n k.plan k.planned k.node k.here beside named' (k.shows.sent n) shown_beside
-      (λ q h. refl)
+      (λ q h. refl) noticed
 
   pub is_next : IsNext p stepped_aside s n x
   is_next =

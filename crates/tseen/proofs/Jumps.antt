@@ -33,7 +33,7 @@ use Rattle.tprocesses.specs.Touching.{Site, save, kept}
 use Rattle.tprocesses.specs.Performing.{Performed}
 use Rattle.tprocesses.specs.Standing.{forget, unsave, takes_back, resumes, goes_on}
 use Rattle.tprocesses.specs.Instructions.{jumped}
-use Rattle.tprocesses.specs.Machine.{Process, site_of, step_of, at_site, process_step}
+use Rattle.tprocesses.specs.Machine.{Process, site_of, step_of, at_site, stepped}
 use Rattle.tseen.specs.Steps.{IsCurrent, Makes, LeadsTo, next_of, yields, InstructionsAreDone, HighJumpsAreSeen}
 use Rattle.tseen.specs.Steps.{LowJumpsAreSeen}
 use Rattle.tseen.proofs.After.{State, After, after_bind, after_all, after_step}
@@ -144,10 +144,10 @@ pub resting_then : (p : Plan) (plan : NodePlan) (n : ℕ) (s : State) (x : Name)
     → x.node ≡ n → slice_get p.nodes n ≡ Some plan → s (Standing x) ≡ IsStand (Rests d)
     → After (resumes (site_of n plan) x d) s Q → After (step_of p (Process x)) s Q
 resting_then p plan n s x d Q home planned stood h =
-    subst (λ (v : Value). After (at_site p x.node (process_step x (stand_in v))) s Q) (sym stood)
-    (subst (λ j. After (at_site p j (process_step x (Rests d))) s Q) (sym home) at_node)
+    subst (λ (v : Value). After (at_site p x.node (stepped p x (stand_in v))) s Q) (sym stood)
+    (subst (λ j. After (at_site p j (stepped p x (Rests d))) s Q) (sym home) at_node)
   where
-    at_node : After (at_site p n (process_step x (Rests d))) s Q
+    at_node : After (at_site p n (stepped p x (Rests d))) s Q
     at_node = rw (planned, After) h
 
 module _ (p : Plan) (c : Configuration) (s : State) (n : ℕ) (x : Name) (k : IsCurrent p c s n x) (i : Instruction)

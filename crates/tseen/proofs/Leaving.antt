@@ -4,7 +4,7 @@ use Rattle.tprocesses.specs.Values.{stand_in}
 use Rattle.tseen.proofs.Unclaimed.{aside_not_free}
 use Rattle.tseen.proofs.Choices.{is_lasting, lasting_not_free, stands_alike}
 use Rattle.tseen.proofs.Choices.{quiet_alike, alternative_none, choices_stay}
-use Rattle.tprocesses.specs.Places.{Ports}
+use Rattle.tprocesses.specs.Places.{Ports, Unfinished}
 use Rattle.tseen.specs.Choices.{alternative_of, alternative_at, is_quiet}
 use Rattle.std.proofs.Common.{◌≡◌, ◌≢◌, ℕ, ◌+◌, ◌*◌, ◌≤◌, ◌/◌, ◌%◌, refl, sym, ap, subst, ◌∙◌, Bool, true, false}
 use Rattle.std.proofs.Common.{true≢false, length, Contains, Ok, arith, ◌⊎◌, inl, inr, pos, None, cond, get_or}
@@ -55,6 +55,9 @@ use Rattle.tseen.proofs.TakenBack.{one_less}
 use Rattle.tseen.proofs.Others.{interrupted_seated, other_name, queued_seated, waiting_seated, is_running}
 use Rattle.tseen.proofs.Others.{queued_not_running, waiting_not_running}
 use Rattle.tseen.proofs.Stepped.{apart, shown_node, there, leads_there, elsewhere_if, still_hidden}
+use Rattle.tseen.proofs.InputChannels.{descriptors_stay, inputs_stay}
+use Rattle.tproc.specs.declared.channels.Side.TheVariants.{Input, Output}
+use Rattle.tseen.proofs.NoticedOffers.{outputs_stay}
 
 -- a process whose workspace does not change moves nothing
 pub nothing_moved : (site : Site) (w v : ℕ) (s t : State) → w ≡ v → HasMoved site w v s t → t ≡ s
@@ -309,10 +312,12 @@ module _ (p : Plan) (c : Configuration) (s : State) (n : ℕ) (x : Name) (k : Is
                 (λ a side. stay (Half n a side) refl refl) (λ q. refl) (left.on.tells.length ∙ sym shown.size)
                 (λ a h e. lasting_word a h (ap is_lasting e)) shown.channels;
             links = λ l h. link_stays s s' n named named (k.shows.sent n) k.node node' l (λ b. refl)
-                (λ side. stay (LinkHalf (end_at n l) side) refl refl) refl refl (shown.links l h);
+                (λ side. stay (LinkHalf (end_at n l) side) refl refl) (stay (Unfinished (end_at n l)) refl refl)
+                (descriptors_stay s s' n m.links store shown.choices alternatives l h) refl refl (shown.links l h);
             processes = processes_left;
-            choices = choices_stay s s' n store last
-                (λ y h. stands_alike p s s' n x stand_stays (alternative_now ∙ sym alternative_before) y)
+            choices = choices_stay s s' n m.links m.links store last
+                (inputs_stay s s' n m.links m.links (λ l. stay (LinkHalf (end_at n l) Input) refl refl) refl)
+                alternatives
                 (λ y h e. quiet_alike p s s' n x stand_stays quiet_now y e) (λ y h. stay (Ports y) refl refl)
                 (λ a side. stay (Half n a side) refl refl) (λ j e z. ap amount_in (stay (Sending n j) refl refl) ∙ z)
                 (λ j e. unfree_stays j (lasting_not_free e)) (left.on.tells.length ∙ sym shown.size)
@@ -330,9 +335,14 @@ module _ (p : Plan) (c : Configuration) (s : State) (n : ℕ) (x : Name) (k : Is
           quiet_now : is_quiet (stand_in (s' (Standing x))) ≡ true
           quiet_now = ap (λ (v : Value). is_quiet (stand_in v)) left.ended.is
 
+          alternatives : (y : Name) → y.node ≡ n → alternative_at s' n y ≡ alternative_at s n y
+          alternatives y h = stands_alike p s s' n x stand_stays (alternative_now ∙ sym alternative_before) y
+
     -- where the node's step leaves no process running, it leads there
     pub left_leads : step k.node.machine ≡ Ok (rested last, ran.Instruction) → LeadsTo p c n s'
     left_leads stepped =
         leads_there p c s n x k (rested last) s' named (k.shows.sent n) stepped
         (ap (λ (z : Store). record { control = at_rest m; store = z }) left_hides)
         (left_shown (iptrs_stay (rested last) stepped)) left_elsewhere
+        (outputs_stay s s' n k.node (record k.node { machine = rested last })
+        (λ l. left_stays (LinkHalf (end_at n l) Output) refl refl refl) (λ l. refl))

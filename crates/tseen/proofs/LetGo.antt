@@ -1,6 +1,7 @@
 -- A channel makes the process go on that waits for it and for others: what its step tells.
 use Rattle.std.proofs.Common.{◌≡◌, ℕ, refl, sym, subst, ◌∙◌, Bool, true, false, List, [], ◌∷◌}
-use Rattle.std.specs.Prelude.{◌==◌, not, if◌then◌else◌}
+use Rattle.std.specs.Prelude.{◌==◌, ◌||◌, not, if◌then◌else◌}
+use Rattle.tproc.specs.LinkChannels.{is_link}
 use Rattle.tproc.specs.declared.channels.Side.TheVariants.{Input, Output}
 use Rattle.tplan.specs.declared.plan.Plan.{Plan}
 use Rattle.tprocesses.specs.Places.{Place, Name, Standing, Ports, Half}
@@ -31,8 +32,8 @@ module _ (site : Site) (p : Plan) (channel : ℕ) (y : Name) (d : Context) (v : 
       → After (requires_no_other site channel ports) v Q
   no_other_then [] Q q = q
   no_other_then (e ∷ rest) Q q =
-      after_bind (if e == channel then done else requires_silence site e) _ v Q
-      (by (e == channel) (no_other_then rest Q q))
+      after_bind (if (e == channel) || is_link e then done else requires_silence site e) _ v Q
+      (by ((e == channel) || is_link e) (no_other_then rest Q q))
     where
       by : (b : Bool) → After (requires_no_other site channel rest) v Q
           → After (if b then done else requires_silence site e) v

@@ -2,7 +2,7 @@
 use Rattle.std.proofs.Common.{◌≡◌, ◌≢◌, ℕ, ◌+◌, ◌*◌, ◌≤◌, ◌/◌, refl, sym, ap, subst, ◌∙◌, true, false}
 use Rattle.std.proofs.Common.{true≢false, length, get_or, Contains, AllPairs, List, [], ◌∷◌, ◌++◌, Option, Some, None}
 use Rattle.std.proofs.Common.{arith, ◌⊎◌, inl, inr}
-use Rattle.std.specs.Prelude.{IfSome}
+use Rattle.std.specs.Prelude.{IfSome, is_some}
 use Rattle.std.proofs.lemmas.Bool.{eqb-true, ne_eqb, cases_eq}
 use Rattle.std.proofs.Common.{◌<◌}
 use Rattle.std.proofs.lemmas.List.Elements.{All-contains, Contains-push_cases}
@@ -22,7 +22,7 @@ use Rattle.tproc.proofs.SavedWords.{saved_words_stand}
 use Rattle.tproc.proofs.WordsApart.{LiesWord, length-with_word, other_word}
 use Rattle.tplan.specs.declared.plan.Plan.{Plan}
 use Rattle.tnet.specs.Rendezvous.{Node, Configuration}
-use Rattle.tprocesses.specs.Places.{Place, Name, WordAt, Standing, Half, HasRun}
+use Rattle.tprocesses.specs.Places.{Place, Name, WordAt, Standing, Half, HasRun, LinkHalf}
 use Rattle.tprocesses.specs.Values.{Value, Use, Free, Saved, Receiving, Engaged, Context, Stand, Chooses}
 use Rattle.tprocesses.specs.Values.{AwaitedBy, IsStand, IsFlag, word_in, stand_in, half_in}
 use Rattle.tprocesses.specs.Touching.{Site, word_number}
@@ -66,6 +66,8 @@ use Rattle.tseen.proofs.Taken.{HasTaken, saved_of, first_free, is_new, not_aside
 use Rattle.tseen.proofs.TakenWords.{at, lies_one}
 use Rattle.tseen.proofs.Writing.{word_lies}
 use Rattle.tseen.proofs.Yielding.{other_cell_stays}
+use Rattle.tplan.specs.Wires.{end_at}
+use Rattle.tseen.proofs.NoticedOffers.{outputs_stay}
 
 module _ (p : Plan) (c : Configuration) (s : State) (n : ℕ) (x : Name) (k : IsCurrent p c s n x) (v : State)
     (h : HasTaken p c s n x k v) (y : Name) (enabled : enabler_at s n k.node.machine.control.registers.b ≡ Some y)
@@ -347,6 +349,11 @@ module _ (p : Plan) (c : Configuration) (s : State) (n : ℕ) (x : Name) (k : Is
             (ap (λ (z : Value). (word_in z).cells) (kept b inside)
             ∙ unknown_two s n b (saved_of p c s n x k v h b inside))
 
+    under_way : is_some d.choice ≡ true
+    under_way =
+        sym (ap (λ (z : Value). is_quiet (stand_in z)) q.stood)
+        ∙ shown.choices.quiet y (it p c s n x k v h y enabled).home
+
     shown_now : ShowsNode t n k.plan (renamed_to p n v t named_then (k.shows.sent n) middle y waiter channel d after
         let_go)
         (k.shows.sent n) (record k.node { machine = now })
@@ -363,8 +370,8 @@ module _ (p : Plan) (c : Configuration) (s : State) (n : ℕ) (x : Name) (k : Is
           channels = channels_chosen p n v t named_then (k.shows.sent n) middle y waiter channel d after let_go
               (channels_now p c s n x k v h before (readied_laid p c s n x k v h y enabled)
               (alone p c s n x k v h y enabled));
-          links = λ l e. link_chosen p n v t named_then (k.shows.sent n) middle y waiter channel d after let_go l
-              (links_now p c s n x k v h before (readied_laid p c s n x k v h y enabled)
+          links = λ l e. link_chosen p n v t named_then (k.shows.sent n) middle y waiter channel d after let_go
+              under_way l (links_now p c s n x k v h before (readied_laid p c s n x k v h y enabled)
               (alone p c s n x k v h y enabled) l e);
           processes = processes_chosen p n v t named_then (k.shows.sent n) middle y waiter channel d after let_go
               (processes_now p c s n x k v h before (readied_laid p c s n x k v h y enabled)
@@ -389,6 +396,9 @@ module _ (p : Plan) (c : Configuration) (s : State) (n : ℕ) (x : Name) (k : Is
         (λ r e. g.rest r (stand r e) (half r e)
         ∙ elsewhere p c s n x k v h before (readied_laid p c s n x k v h y enabled)
         (alone p c s n x k v h y enabled) r e)
+        (outputs_stay s t n k.node (record k.node { machine = now })
+        (λ l. g.rest (LinkHalf (end_at n l) Output) refl refl
+        ∙ at p c s n x k v h (LinkHalf (end_at n l) Output) refl refl refl) (λ l. refl))
       where
         stand : (r : Place) → node_at r ≢ n → is_stand_of y r ≡ false
         stand (Standing z) e =

@@ -41,11 +41,15 @@ mod Ordered
 mod Effected
 mod Executed
 mod Finished
+-- who has enabled the inputs of links
+mod InputChannels
 mod Completed
 mod Staying
 mod Frames
 mod Counted
 mod Own
+-- who sends where a byte was noticed
+mod NoticedOffers
 mod Nets
 mod Running
 mod Stepped
@@ -91,11 +95,23 @@ mod Grown
 mod SteadySteps
 mod SteadyOpening
 mod SteadyRuns
+-- a process that has enabled a link
+mod SetLinks
+mod LinkEnabler
+mod NoticedLinks
+mod ReadiedWord
+mod ReadiedChoices
+mod NoticedNode
+mod NoticeWakes
+mod FiredShown
+mod QuietNotices
+mod ToldNotices
 mod Notices
 mod WireEnds
 mod SourceWakes
 -- nets at rest
 mod Resting
+mod RestAwaits
 mod RestLinks
 mod Certified
 -- how many live
@@ -147,6 +163,17 @@ mod OwnChoice
 mod SkipsSeen
 mod Selecting
 mod DissSeen
+mod LinkPort
+mod OwnLink
+mod EnbcLink
+mod Enabling
+mod DiscLink
+mod Disabling
+mod FiringWires
+mod AltwtFires
+mod AltwtChannels
+mod AwaitedLinks
+mod AwaitingChoices
 mod AltendSeen
 mod ChannelFound
 mod Ported
@@ -169,16 +196,22 @@ mod SavedThen
 mod Missing
 mod Wakes
 mod Sending
+mod Silent
 mod Receiving
 mod NetScripts
 mod SourceSends
 mod SinkReceives
+-- who waits where a wire ends
+mod WireAsks
+-- what was noticed when a message goes over
+mod CopyNotices
 mod Copies
 mod Mismatches
 -- all runs
 mod Due
 mod Reached
 mod DueNext
+mod Offering
 mod DueWires
 mod Weights
 mod Handed

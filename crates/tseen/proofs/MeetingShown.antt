@@ -6,7 +6,7 @@ use Rattle.tseen.specs.Halves.{HasHolder}
 use Rattle.tprocesses.specs.Choosing.{is_taken as is_taken_half}
 use Rattle.tseen.proofs.Taken.{third_free}
 use Rattle.tprocesses.specs.Values.{stand_in}
-use Rattle.tprocesses.specs.Places.{Ports}
+use Rattle.tprocesses.specs.Places.{Ports, Unfinished}
 use Rattle.tseen.specs.Choices.{alternative_of, alternative_at, is_quiet, enabler, IsEnabled}
 use Rattle.tseen.proofs.Choices.{is_lasting, lasting_not_free, lasting_not_saved, both_alike}
 use Rattle.tseen.proofs.Choices.{both_quiet, alternative_none, no_choice, choices_kept}
@@ -79,6 +79,8 @@ use Rattle.tseen.proofs.Partner.{asked, asked_half, partner, name_is, waits, is_
 use Rattle.tseen.proofs.Partner.{only_partner}
 use Rattle.tseen.proofs.Released.{still_queued, queued_now, was_queued, not_queued, count_alike, length_alike}
 use Rattle.tseen.proofs.Released.{were_there, other_reason, no_reason}
+use Rattle.tseen.proofs.InputChannels.{descriptors_stay, inputs_stay}
+use Rattle.tseen.proofs.NoticedOffers.{outputs_stay}
 
 -- the registers that go on are those of the same process
 pub left_keeps : (o : Operation) (r : Registers) → ((left_by o r).wptr ≡ r.wptr) × ((left_by o r).iptr ≡ r.iptr)
@@ -712,11 +714,14 @@ module _ (p : Plan) (c : Configuration) (s : State) (n : ℕ) (x : Name) (k : Is
         marks = marks_now;
         channels = channels_now;
         links = λ l e. link_stays s z n named named' (k.shows.sent n) k.node node' l (λ b. refl)
-            (λ r. stay (LinkHalf (end_at n l) r) refl refl refl refl refl) refl refl (shown.links l e);
+            (λ r. stay (LinkHalf (end_at n l) r) refl refl refl refl refl)
+            (stay (Unfinished (end_at n l)) refl refl refl refl refl)
+            (descriptors_stay s z n m.links store shown.choices alternatives l e) refl refl (shown.links l e);
         processes = processes_now;
-        choices = choices_kept s z n store now.store (record {
-          stands = λ b e. both_alike p s z n x y stand_stays (own_now ∙ sym own_before)
-              (other_now ∙ sym other_before) b;
+        choices = choices_kept s z n m.links m.links store now.store (record {
+          linked = inputs_stay s z n m.links m.links
+              (λ l. stay (LinkHalf (end_at n l) Input) refl refl refl refl refl) refl;
+          stands = alternatives;
           quiet = λ b e f. both_quiet p s z n x y stand_stays own_quiet other_quiet b f;
           ports = λ b e. stay (Ports b) refl refl refl refl refl;
           inputs = enabler_stays;
@@ -737,7 +742,7 @@ module _ (p : Plan) (c : Configuration) (s : State) (n : ℕ) (x : Name) (k : Is
 
       no_alternative : running.context.choice ≡ None
       no_alternative =
-          no_choice s n store x running.context shown.choices running.home running.stood
+          no_choice s n m.links store x running.context shown.choices running.home running.stood
           (subst (λ b. use_of s n (word_number (word_below b 3)) ≡ Free) (sym running.registers.wptr)
           (third_free p c s n x k v h))
 
@@ -765,10 +770,15 @@ module _ (p : Plan) (c : Configuration) (s : State) (n : ℕ) (x : Name) (k : Is
           ap (λ (q : Value). is_quiet (stand_in q)) other_stood
           ∙ sym (ap (λ (q : Value). is_quiet (stand_in q)) beside.stood) ∙ shown.choices.quiet y beside.home
 
+      alternatives : (b : Name) → b.node ≡ n → alternative_at z n b ≡ alternative_at s n b
+      alternatives b e =
+          both_alike p s z n x y stand_stays (own_now ∙ sym own_before) (other_now ∙ sym other_before) b
+
   pub meeting_leads : LeadsTo p c n z
   meeting_leads =
       leads_there p c s n x k now z named' (k.shows.sent n) (stepped p c s n x k v h differs t z g)
       (hidden_still p c s n x k v h differs t z g) node_now elsewhere
+      (outputs_stay s z n k.node node' (λ l. stay (LinkHalf (end_at n l) Output) refl refl refl refl refl) (λ l. refl))
     where
       elsewhere : (q : Place) → node_at q ≢ n → z q ≡ s q
       elsewhere q e =

@@ -1,5 +1,5 @@
 -- Where an input and the offer that is wired to it differ in length, the step of the wire stops.
-use Rattle.std.proofs.Common.{◌≡◌, ◌≢◌, ℕ, ◌+◌, ◌<◌, refl, sym, ap, subst, ◌∙◌, [], length}
+use Rattle.std.proofs.Common.{◌≡◌, ◌≢◌, ℕ, ◌+◌, refl, sym, ap, subst, ◌∙◌, [], length}
 use Rattle.std.proofs.Common.{Bool, true, false, Option, Some, None}
 use Rattle.std.specs.List.{list_all}
 use Rattle.std.specs.Prelude.{◌==◌, is_some, slice_get}
@@ -26,7 +26,7 @@ use Rattle.tprocesses.specs.LinkMessages.{node_sends, source_sends, node_receive
 use Rattle.tprocesses.specs.Machine.{Wire, Processor, Source, role_at, site_of, process_machine, step_of}
 use Rattle.tprocesses.specs.Machine.{sends, receives, passes, is_open, offer_place}
 use Rattle.tprocesses.specs.Machine.{Role, take_place, is_passable, gates_between}
-use Rattle.tseen.specs.Halves.{request_of, half_asking}
+use Rattle.tseen.specs.Halves.{request_of}
 use Rattle.tseen.specs.Scripts.{ShowsSource}
 use Rattle.tseen.specs.Shown.{Shows, ShowsNode}
 use Rattle.tseen.specs.Steps.{IsSteady, AreSteady}
@@ -34,7 +34,8 @@ use Rattle.tseen.specs.Linked.{IsStopped, MismatchesStop}
 use Rattle.tseen.proofs.After.{State, After, after_bind, after_weaken, walked}
 use Rattle.tseen.proofs.Cells.{knows-length, range-length}
 use Rattle.tseen.proofs.Copies.{some_is, at_site_then}
-use Rattle.tseen.proofs.EndRoles.{back, small_link, sender_found, opens, by_role}
+use Rattle.tseen.proofs.EndRoles.{back, sender_found, opens, by_role}
+use Rattle.tseen.proofs.WireAsks.{passes_then, asking_half, asking_awaits}
 use Rattle.tseen.proofs.Sending.{node_sends_then, half_is, stay, message_known, message_length}
 use Rattle.tseen.proofs.SourceSends.{has_first, lies_there, source_sends_then}
 
@@ -164,13 +165,8 @@ module _ (p : Plan) (c : Configuration) (s : State) (n : ℕ) (none : fault_of p
           subst (ShowsNode s e.node plan (shows.named e.node) (shows.sent e.node))
           (some_is (sym there.1 ∙ k.asks.node)) there.2
 
-      small : k.link < 4
-      small = small_link p none e f wired
-
       half : s (LinkHalf e Input) ≡ IsLink (Offered (request_of (shows.named e.node) k.inp))
-      half =
-          (shown.links k.link small).input
-          ∙ ap (λ o. IsLink (half_asking (shows.named e.node) o)) k.asks.input
+      half = asking_half p none c s e f shows wired k.receiver k.inp k.asks plan planned
 
       differs : k.out.length ≢ k.inp.length
       differs = subst (λ (r : LinkRole). Differs r k.out k.inp) shown.role k.differ
@@ -222,9 +218,10 @@ module _ (p : Plan) (c : Configuration) (s : State) (n : ℕ) (none : fault_of p
   wire_refuses : After (step_of p (Wire e)) s (λ _ _. ⊥)
   wire_refuses =
       subst (λ (o : Option End). After (passes p o e) s (λ _ _. ⊥)) (sym (sender_found p none e f wired))
+      (passes_then p e f s (λ _ _. ⊥) (asking_awaits p none c s e f shows wired k.receiver k.inp k.asks)
       (after_bind (sends p (role_at p f.node) f) _ s (λ _ _. ⊥)
       (after_weaken (sends p (role_at p f.node) f) s WentOver _ sends_there.goes (λ message t h.
-      after_bind (receives p (role_at p e.node) e message) _ t (λ _ _. ⊥) (refuses_there.goes message t h.0 h.1))))
+      after_bind (receives p (role_at p e.node) e message) _ t (λ _ _. ⊥) (refuses_there.goes message t h.0 h.1)))))
 
   abbrev deed : Deed
   deed = deed_of (walk_of (step_of p (Wire e))) s

@@ -1,7 +1,8 @@
 -- A process that is not there yet.
 use Rattle.std.proofs.Common.{◌≡◌, ℕ, refl, sym, Bool, true, false, true≢false}
 use Rattle.tnet.specs.Rendezvous.{Node}
-use Rattle.tprocesses.specs.Values.{Value, Stand, Absent, Rests, Runs, Waits, Chooses, Chosen, IsStand, stand_in}
+use Rattle.tprocesses.specs.Values.{Value, Stand, Absent, Rests, Runs, Waits, Chooses, Chosen, Listens, IsStand}
+use Rattle.tprocesses.specs.Values.{stand_in}
 use Rattle.tprocesses.specs.Standing.{is_absent}
 use Rattle.tseen.specs.Seats.{Interrupted, Queued, Waiting}
 use Rattle.tseen.specs.Processes.{Fits}
@@ -16,6 +17,7 @@ pub queued_there : (node : Node) (process : ℕ) (stand : Stand) → Fits node (
     → is_missing (IsStand stand) ≡ false
 queued_there node process (Rests d) f = refl
 queued_there node process (Chosen d) f = refl
+queued_there node process (Listens channel d) f = refl
 queued_there node process _ f = absurd f
 
 pub waiting_there : (node : Node) (process : ℕ) (stand : Stand) → Fits node (Waiting process) stand

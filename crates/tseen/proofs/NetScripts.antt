@@ -9,12 +9,15 @@ use Rattle.tplan.specs.declared.plan.Plan.{Plan}
 use Rattle.tnet.specs.Rendezvous.{Node, Configuration, node_of, put_node}
 use Rattle.tplan.specs.Wires.{end_at}
 use Rattle.tnet.proofs.Puts.{put-same, put-other}
-use Rattle.tprocesses.specs.Places.{Place, Standing, Messages, Kept}
+use Rattle.tproc.specs.declared.channels.Side.TheVariants.{Output}
+use Rattle.tprocesses.specs.Places.{Place, Standing, LinkHalf, Messages, Kept}
 use Rattle.tseen.specs.Scripts.{ShowsSource, ShowsSink}
 use Rattle.tseen.specs.Shown.{Shows}
 use Rattle.tseen.proofs.After.{State}
 use Rattle.tseen.proofs.Frames.{node_at, node_stays}
 use Rattle.tseen.proofs.Nets.{source_stays, sink_stays}
+use Rattle.tseen.proofs.NoticedOffers.{NoticesSent}
+use Rattle.tproc.specs.declared.channels.Side.TheVariants.{Output}
 
 -- a place of the script of a node
 abbrev pub is_script_of : ℕ → Place → Bool
@@ -28,7 +31,8 @@ other_node n m (Kept e) h d = ne_eqb n e.node (λ f. d (sym h ∙ sym f))
 other_node n m _ h d = refl
 
 module _ (p : Plan) (c : Configuration) (s s' : State) (k : Shows p c s) (n : ℕ) (node : Node)
-    (here : node_of c n ≡ Some node) (new : Node) (same : (q : Place) → is_script_of n q ≡ false → s' q ≡ s q) where
+    (here : node_of c n ≡ Some node) (new : Node) (same : (q : Place) → is_script_of n q ≡ false → s' q ≡ s q)
+    (noticed : NoticesSent p (put_node n new c) s') where
   -- a source
   pub net_source : (j : ℕ) (source : SourcePlan) → slice_get p.sources j ≡ Some source → n ≡ length p.nodes + j
       → ShowsSource s' (end_at n 0) new → Shows p (put_node n new c) s'
@@ -52,8 +56,12 @@ module _ (p : Plan) (c : Configuration) (s s' : State) (k : Shows p c s) (n : �
               sink_stays s s' (end_at (length p.nodes + length p.sources + i) 0) old.0
                   (same (Kept (end_at (length p.nodes + length p.sources + i) 0))
                   (other_node n (length p.nodes + length p.sources + i)
-                  (Kept (end_at (length p.nodes + length p.sources + i) 0)) refl d)) old.2,
+                  (Kept (end_at (length p.nodes + length p.sources + i) 0)) refl d))
+                  (same (LinkHalf (end_at (length p.nodes + length p.sources + i) 0) Output)
+                  (other_node n (length p.nodes + length p.sources + i)
+                  (LinkHalf (end_at (length p.nodes + length p.sources + i) 0) Output) refl d)) old.2,
             ));
+        noticed = noticed;
         nobody = λ x none. same (Standing x) refl ∙ k.nobody x none;
       }
     where
@@ -97,6 +105,7 @@ module _ (p : Plan) (c : Configuration) (s s' : State) (k : Shows p c s) (n : �
                   (other_node n (length p.nodes + i) (Messages (end_at (length p.nodes + i) 0)) refl d)) old.2,
             ));
         sinks = λ i other is. by_sink i other is (cases_eq i j);
+        noticed = noticed;
         nobody = λ x none. same (Standing x) refl ∙ k.nobody x none;
       }
     where
@@ -114,5 +123,8 @@ module _ (p : Plan) (c : Configuration) (s s' : State) (k : Shows p c s) (n : �
             sink_stays s s' (end_at (length p.nodes + length p.sources + i) 0) old.0
                 (same (Kept (end_at (length p.nodes + length p.sources + i) 0))
                 (other_node n (length p.nodes + length p.sources + i)
-                (Kept (end_at (length p.nodes + length p.sources + i) 0)) refl d)) old.2,
+                (Kept (end_at (length p.nodes + length p.sources + i) 0)) refl d))
+                (same (LinkHalf (end_at (length p.nodes + length p.sources + i) 0) Output)
+                (other_node n (length p.nodes + length p.sources + i)
+                (LinkHalf (end_at (length p.nodes + length p.sources + i) 0) Output) refl d)) old.2,
           )

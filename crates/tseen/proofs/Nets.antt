@@ -15,13 +15,16 @@ use Rattle.tproc.specs.Steps.{step}
 use Rattle.tnet.specs.Rendezvous.{Node, Configuration, node_of, put_node, IsStep}
 use Rattle.tseen.specs.Steps.{LeadsTo}
 use Rattle.tnet.proofs.Puts.{put-same, put-other}
-use Rattle.tprocesses.specs.Places.{Place, Name, Standing, Messages, Kept}
+use Rattle.tproc.specs.declared.channels.Side.TheVariants.{Output}
+use Rattle.tprocesses.specs.Places.{Place, Name, Standing, LinkHalf, Messages, Kept}
 use Rattle.tseen.specs.Seats.{Seat}
 use Rattle.tseen.specs.Outputs.{Pending}
 use Rattle.tseen.specs.Scripts.{ShowsSource, ShowsSink}
 use Rattle.tseen.specs.Shown.{Shows, ShowsNode}
 use Rattle.tseen.proofs.After.{State}
 use Rattle.tseen.proofs.Frames.{node_at, node_stays}
+use Rattle.tseen.proofs.NoticedOffers.{NoticesSent, KeepsOffers, own_notices}
+use Rattle.tproc.specs.declared.channels.Side.TheVariants.{Output}
 
 -- a script stays shown
 pub source_stays : (s s' : State) (e : End) (node : Node) → s' (Messages e) ≡ s (Messages e) → ShowsSource s e node
@@ -41,9 +44,9 @@ source_stays s s' e node same k =
       messages = same ∙ k.messages;
     }
 
-pub sink_stays : (s s' : State) (e : End) (node : Node) → s' (Kept e) ≡ s (Kept e) → ShowsSink s e node
-    → ShowsSink s' e node
-sink_stays s s' e node same k =
+pub sink_stays : (s s' : State) (e : End) (node : Node) → s' (Kept e) ≡ s (Kept e)
+    → s' (LinkHalf e Output) ≡ s (LinkHalf e Output) → ShowsSink s e node → ShowsSink s' e node
+sink_stays s s' e node same half k =
     record {
       works = k.works;
       kept = k.kept;
@@ -51,6 +54,7 @@ sink_stays s s' e node same k =
       room = k.room;
       input = k.input;
       output = k.output;
+      silent = half ∙ k.silent;
       alone = k.alone;
       lies = k.lies;
       messages = k.messages;
@@ -65,7 +69,7 @@ chosen t x y = if t then x else y
 module _ (p : Plan) (c : Configuration) (s s' : State) (k : Shows p c s) (n : ℕ) (plan : NodePlan)
     (planned : slice_get p.nodes n ≡ Some plan) (node : Node) (here : node_of c n ≡ Some node) (new : Node)
     (named : Seat → Name) (sent : ℕ → Option Pending) (shown : ShowsNode s' n plan named sent new)
-    (same : (q : Place) → node_at q ≢ n → s' q ≡ s q) where
+    (same : (q : Place) → node_at q ≢ n → s' q ≡ s q) (noticed : NoticesSent p (put_node n new c) s') where
   inside : n < length p.nodes
   inside = slice_get_within p.nodes n plan planned
 
@@ -113,8 +117,11 @@ module _ (p : Plan) (c : Configuration) (s s' : State) (k : Shows p c s) (n : �
           old.0,
           put-other c n (length p.nodes + length p.sources + j) new (λ e. omega (arith, inside, e)) ∙ old.1,
           sink_stays s s' (end_at (length p.nodes + length p.sources + j) 0) old.0
-              (same (Kept (end_at (length p.nodes + length p.sources + j) 0)) (λ e. omega (arith, inside, e))) old.2,
+              (same (Kept (end_at (length p.nodes + length p.sources + j) 0)) (λ e. omega (arith, inside, e)))
+              (same (LinkHalf (end_at (length p.nodes + length p.sources + j) 0) Output)
+              (λ e. omega (arith, inside, e))) old.2,
         ));
+        noticed = noticed;
         nobody = λ x none. same (Standing x) (λ e. elsewhere x none e) ∙ k.nobody x none;
       }
     where
@@ -133,8 +140,9 @@ pub leads_by : (p : Plan) (c : Configuration) (s s' : State) (k : Shows p c s) (
     → (m : Machine) (ran : Ran) → IsStep ran → step node.machine ≡ Ok (m, ran) → hidden m ≡ m
     → (named : Seat → Name) (sent : ℕ → Option Pending)
     → ShowsNode s' n plan named sent (record node { machine = m })
-    → ((q : Place) → node_at q ≢ n → s' q ≡ s q) → LeadsTo p c n s'
-leads_by p c s s' k n plan planned node here works m ran is stepped same named sent shown others =
+    → ((q : Place) → node_at q ≢ n → s' q ≡ s q) → KeepsOffers s s' n node (record node { machine = m })
+    → LeadsTo p c n s'
+leads_by p c s s' k n plan planned node here works m ran is stepped same named sent shown others offers =
     record {
       configuration = put_node n (record node { machine = hidden m }) c;
       local = record {
@@ -149,5 +157,7 @@ leads_by p c s s' k n plan planned node here works m ran is stepped same named s
       };
       shows = net_shown p c s s' k n plan planned node here (record node { machine = hidden m }) named sent
           (subst (λ (z : Machine). ShowsNode s' n plan named sent (record node { machine = z }))
-          (sym same) shown) others;
+          (sym same) shown) others
+          (own_notices p c s s' n plan node (record node { machine = hidden m }) planned here k.noticed
+          (record { offers = offers.offers; notices = offers.notices }) others);
     }

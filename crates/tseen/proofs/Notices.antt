@@ -1,223 +1,260 @@
--- What is shown of a net stays shown where a processor notices an offer.
-use Rattle.std.proofs.Common.{◌≡◌, ℕ, ◌<◌, ◌≤◌, refl, sym, ap, subst, ◌∙◌, List, get_or, set, Option, Some}
-use Rattle.std.proofs.Common.{None, ◌⊎◌, inl, inr, true, true≢false, ◌+◌, length, arith, slice_get}
-use Rattle.std.proofs.Math.ListN.{get_or-map, get_or-eq_default}
-use Rattle.std.proofs.lemmas.Bool.{cases_lt}
-use Rattle.tword.specs.Stores.{Store, hiding}
-use Rattle.tword.specs.Claims.{Claims, is_input}
-use Rattle.tword.specs.Touches.{byte_span}
+-- A notice is seen as no step, or, where it wakes a process that waits for its alternative, as the step of the wire.
+use Rattle.std.proofs.Common.{◌≡◌, ℕ, ◌+◌, ◌<◌, refl, sym, ap, subst, ◌∙◌, Option, Some, None, ◌⊎◌, inl, inr}
+use Rattle.std.proofs.Common.{Bool, true, false, true≢false, length, slice_get}
+use Rattle.std.specs.Prelude.{◌&&◌}
+use Rattle.std.specs.Prelude.{option_map}
+use Rattle.std.proofs.lemmas.Bool.{cases_eq}
+use Rattle.std.proofs.lemmas.Option.{slice_get_within}
 use Rattle.tplan.specs.declared.plan.End.{End}
 use Rattle.tplan.specs.declared.plan.NodePlan.{NodePlan}
 use Rattle.tplan.specs.declared.plan.SourcePlan.{SourcePlan}
 use Rattle.tplan.specs.declared.plan.SinkPlan.{SinkPlan}
 use Rattle.tplan.specs.declared.plan.Plan.{Plan}
+use Rattle.tplan.specs.Wires.{all_wires, end_at, far_end, same_end}
 use Rattle.tlink.specs.Roles.{receives}
-use Rattle.tproc.specs.declared.offer.Offer.{Offer}
-use Rattle.tproc.specs.declared.waiter.LinkEnd.{LinkEnd}
-use Rattle.tproc.specs.Machine.{Machine}
 use Rattle.tproc.specs.Hidden.{hidden}
-use Rattle.tproc.specs.Links.{notice, notify}
-use Rattle.tproc.specs.LinkChannels.{link_end, quiet_end}
-use Rattle.tproc.proofs.LinkClaims.{noticing, noticing-claims, set_same}
+use Rattle.tproc.specs.Links.{notice}
+use Rattle.tproc.specs.LinkChannels.{link_end}
+use Rattle.tproc.specs.Machine.{Machine}
+use Rattle.tproc.proofs.Noticing.{notice-links}
 use Rattle.tnet.specs.Building.{fault_of}
-use Rattle.tplan.specs.Wires.{far_end}
-use Rattle.tnet.specs.Rendezvous.{Node, Configuration, node_of, IsNotice}
-use Rattle.tnet.proofs.Puts.{put-other}
-use Rattle.tprocesses.specs.Places.{Name}
-use Rattle.tprocesses.specs.Values.{Chosen, Chooses, Stand, Runs, Rests, Waits, Absent, Ended, IsLink}
-use Rattle.tseen.specs.Seats.{Seat, Current, Interrupted, Queued, Waiting, is_taken}
-use Rattle.tseen.specs.Outputs.{Pending}
-use Rattle.tseen.specs.Halves.{ShowsLink, half_asking}
-use Rattle.tseen.specs.Processes.{Fits, IsSeated, IsGone, ShowsProcesses}
-use Rattle.tseen.specs.Shown.{Shows, ShowsNode}
-use Rattle.tseen.specs.Steps.{IsSteady, AreSteady, NoticesAreSeen}
-use Rattle.tseen.proofs.WireEnds.{wire_proper}
+use Rattle.tnet.specs.Rendezvous.{Node, Configuration, node_of, put_node, IsNotice}
+use Rattle.tnet.proofs.Puts.{put-same, put-other}
+use Rattle.tprocesses.specs.Places.{Name, Standing, LinkHalf, Messages}
+use Rattle.tprocesses.specs.Values.{Value, Context, Stand, Chooses, Awaited, IsLink, link_in, stand_in}
+use Rattle.tprocesses.specs.Machine.{Role, Processor, Source, Sink, Nothing, Wire, role_at, offer_place, awaiting}
+use Rattle.tseen.specs.Seats.{Seat}
+use Rattle.tseen.specs.Shown.{Shows, ShowsNode, HasSender}
+use Rattle.tseen.specs.Steps.{IsSteady, AreSteady, NoticesAreSeen, IsNoticeSeen, stand_at}
+use Rattle.tseen.specs.AgentSteps.{AgentMakes, HandsNone}
 use Rattle.tseen.proofs.After.{State}
+use Rattle.tprocesses.specs.Machine.{is_offered}
+use Rattle.tprocesses.specs.Values.{Link}
+use Rattle.tproc.specs.Telling.{is_told}
+use Rattle.tproc.specs.declared.channels.Side.TheVariants.{Input, Output}
+use Rattle.tseen.specs.Choices.{input_at, enabler_on, link_enabler, alternative_of}
+use Rattle.tseen.specs.Halves.{IsInput}
+use Rattle.tseen.specs.Scripts.{ShowsSink}
+use Rattle.tseen.proofs.ChoicePlain.{alternative_context}
+use Rattle.tseen.proofs.EndRoles.{by_role, node_role, sender_found, small_link}
+use Rattle.tseen.proofs.FiredShown.{HasFired, fired_names, fired_is, fired_shown, fired_elsewhere}
+use Rattle.tseen.proofs.LinkEnabler.{IsChoosing, Stands, found, front_told, queued_told}
 use Rattle.tseen.proofs.Nets.{net_shown}
-use Rattle.tseen.proofs.Staying.{channels_stay}
+use Rattle.tseen.proofs.NoticedLinks.{noticed_before as other_noticed}
+use Rattle.tseen.proofs.NoticedOffers.{has_noticed, NoticesSent, is_sending_at, offers_stay}
+use Rattle.tseen.proofs.Offering.{offering}
+use Rattle.tseen.proofs.Silent.{fires_silent}
+use Rattle.tseen.proofs.QuietNotices.{IsEnabler, enabler_cases, quiet_shown}
+use Rattle.tseen.proofs.ToldNotices.{told_shown}
+use Rattle.tseen.proofs.FiringWires.{firing_due, has_fired}
 
--- what a function tells of the links where it tells the same of one that is set
-pub alike : {X : Type 0} (f : LinkEnd → X) (ls : List LinkEnd) (l j : ℕ) (e : LinkEnd) → f e ≡ f (get_or ls l quiet_end)
-    → f (get_or (set ls l e) j quiet_end) ≡ f (get_or ls j quiet_end)
-alike f ls l j e h =
-    sym (get_or-map f (set ls l e) j quiet_end) ∙ ap (λ xs. get_or xs j (f quiet_end)) (set_same f ls l e h)
-    ∙ get_or-map f ls j quiet_end
+some_is : {X : Type 0} {a b : X} → Some a ≡ Some b → a ≡ b
+some_is e = cc
 
-module _ (s : State) (n : ℕ) (plan : NodePlan) (named : Seat → Name) (sent : ℕ → Option Pending) (node : Node)
-    (k : ShowsNode s n plan named sent node) (steady : IsSteady node) (l : ℕ) where
-  abbrev m : Machine
-  m = node.machine
-
-  abbrev now : Machine
-  now = noticing l m
-
-  abbrev node' : Node
-  node' = record node { machine = now }
-
-  -- no alternative has enabled the link
-  forgotten : (link_end m.control l).remembered ≡ None
-  forgotten = by (cases_lt l 4)
-    where
-      by : (l < 4) ⊎ (4 ≤ l) → (link_end m.control l).remembered ≡ None
-      by (inl h) = (k.links l h).forgotten
-      by (inr h) =
-          ap (λ (e : LinkEnd). e.remembered)
-          (get_or-eq_default m.control.links quiet_end (subst (λ z. z ≤ l) (sym steady.placed.claimed.links) h))
-
-  pub noticed_only : notice l m ≡ now
-  unfolding notice
-  noticed_only = ap (λ (o : Option ℕ). notify o now) forgotten
-
-  pub still_hides : hidden now ≡ now
-  still_hides =
-      ap (λ (z : Store). record { control = now.control; store = z })
-      (ap (λ (c : Claims). hiding (λ a. is_input c (byte_span a)) m.store) (noticing-claims l m)
-      ∙ ap (λ (z : Machine). z.store) steady.hides)
-
-  input_is : (j : ℕ) → (link_end now.control j).input ≡ (link_end m.control j).input
-  input_is j = alike (λ (e : LinkEnd). e.input) m.control.links l j _ refl
-
-  output_is : (j : ℕ) → (link_end now.control j).output ≡ (link_end m.control j).output
-  output_is j = alike (λ (e : LinkEnd). e.output) m.control.links l j _ refl
-
-  link_now : (j : ℕ) → ShowsLink s n named sent node j → ShowsLink s n named sent node' j
-  link_now j h =
-      record {
-        input = h.input ∙ ap (λ (o : Option Offer). IsLink (half_asking named o)) (sym (input_is j));
-        output = h.output;
-        offered = λ o e. h.offered o (sym (output_is j) ∙ e);
-        fresh = λ e. h.fresh (sym (output_is j) ∙ e);
-        forgotten = alike (λ (e : LinkEnd). e.remembered) m.control.links l j _ (sym forgotten) ∙ h.forgotten;
-        pending = λ p e f. (let o = h.pending p e f in (o.0, output_is j ∙ o.1));
-      }
-
-  fits : (q : Seat) (stand : Stand) → Fits node q stand → Fits node' q stand
-  fits Current (Runs c) h = h
-  fits Current (Rests c) h = h
-  fits Current (Waits c) h = h
-  fits Current Absent h = h
-  fits Current Ended h = h
-  fits Current (Chooses d) h = h
-  fits Current (Chosen d) h = h
-  fits Interrupted (Runs c) h = h
-  fits Interrupted (Rests c) h = h
-  fits Interrupted (Waits c) h = h
-  fits Interrupted Absent h = h
-  fits Interrupted Ended h = h
-  fits Interrupted (Chooses d) h = h
-  fits Interrupted (Chosen d) h = h
-  fits (Queued process) (Runs c) h = h
-  fits (Queued process) (Rests c) h = h
-  fits (Queued process) (Waits c) h = h
-  fits (Queued process) Absent h = h
-  fits (Queued process) Ended h = h
-  fits (Queued process) (Chooses d) h = h
-  fits (Queued process) (Chosen d) h = h
-  fits (Waiting process) (Runs c) h = h
-  fits (Waiting process) (Rests c) h = h
-  fits (Waiting process) (Waits c) h = h
-  fits (Waiting process) Absent h = h
-  fits (Waiting process) Ended h = h
-  fits (Waiting process) (Chooses d) h = h
-  fits (Waiting process) (Chosen d) h = h
-
-  seated_now : (q : Seat) (x : Name) → IsSeated s n node q x → IsSeated s n node' q x
-  seated_now q x h =
-      record {
-        home = h.home;
-        stand = h.stand;
-        stands = h.stands;
-        fits = fits q h.stand h.fits;
-        has_run = h.has_run;
-      }
-
-  taken_before : (q : Seat) → is_taken now.control q ≡ true → is_taken m.control q ≡ true
-  taken_before Current h = h
-  taken_before Interrupted h = h
-  taken_before (Queued process) h = h
-  taken_before (Waiting process) h = h
-
-  taken_now : (q : Seat) → is_taken m.control q ≡ true → is_taken now.control q ≡ true
-  taken_now Current h = h
-  taken_now Interrupted h = h
-  taken_now (Queued process) h = h
-  taken_now (Waiting process) h = h
-
-  processes_now : ShowsProcesses s n named sent node'
-  processes_now =
-      record {
-        seated = λ q h. seated_now q (named q) (k.processes.seated q (taken_before q h));
-        there = λ x h. place x (k.processes.there x h);
-        lent = k.processes.lent;
-        passed = k.processes.passed;
-        lives = k.processes.lives;
-        population = k.processes.population;
-        interrupting = k.processes.interrupting;
-        flags = k.processes.flags;
-        kept_flags = k.processes.kept_flags;
-      }
-    where
-      place : (x : Name) → IsGone s n x ⊎ ((q : Seat) × (is_taken m.control q ≡ true) × (named q ≡ x))
-          → IsGone s n x ⊎ ((q : Seat) × (is_taken now.control q ≡ true) × (named q ≡ x))
-      place x (inl h) = inl h
-      place x (inr (q, taken, e)) = inr (q, taken_now q taken, e)
-
-  pub noticing_shown : ShowsNode s n plan named sent node'
-  noticing_shown =
-      record {
-        role = k.role;
-        works = k.works;
-        runs_on = k.runs_on;
-        size = k.size;
-        kind = k.kind;
-        store = k.store;
-        marks = record {
-          saved = k.marks.saved;
-          inputs = λ j o e. k.marks.inputs j o (sym (input_is j) ∙ e);
-          inputs_apart = λ i a b o q e f. k.marks.inputs_apart i a b o q (sym (input_is a) ∙ e) (sym (input_is b) ∙ f);
-          outputs = k.marks.outputs;
-          no_successor = k.marks.no_successor;
-        };
-        channels = channels_stay s s n named named m now (λ w. refl) (λ j e. e) (λ j e. e) (λ c side. refl) (λ q. refl)
-            refl (λ c h e. refl) k.channels;
-        links = λ j h. link_now j (k.links j h);
-        processes = processes_now;
-        choices = k.choices;
-      }
-
-  pub hidden_notice : hidden (notice l m) ≡ now
-  hidden_notice = ap hidden noticed_only ∙ still_hides
+none_some : {X : Type 0} {a : X} → None ≡ Some a → ⊥
+none_some e = cc
 
 -- a processor notices
-processor_notices : (p : Plan) (c c' : Configuration) (s : State) (e : End) (plan : NodePlan)
-    → slice_get p.nodes e.node ≡ Some plan → Shows p c s → AreSteady c → IsNotice c e c' → Shows p c' s
-processor_notices p c c' s e plan planned shows steady l =
-    subst (λ (z : Configuration). Shows p z s) (sym l.after)
-    (net_shown p c s s shows e.node plan planned l.node l.here
-    (record l.node { machine = hidden (notice e.link l.node.machine) }) (shows.named e.node) (shows.sent e.node)
-    (subst
-    (λ (z : Machine). ShowsNode s e.node plan (shows.named e.node) (shows.sent e.node) (record l.node { machine = z }))
-    (sym (hidden_notice s e.node plan (shows.named e.node) (shows.sent e.node) l.node shown ready e.link))
-    (noticing_shown s e.node plan (shows.named e.node) (shows.sent e.node) l.node shown ready e.link)) (λ q h. refl))
-  where
-    shown : ShowsNode s e.node plan (shows.named e.node) (shows.sent e.node) l.node
-    shown =
-        let there = shows.processors e.node plan planned in
-        subst (ShowsNode s e.node plan (shows.named e.node) (shows.sent e.node))
-        (some_is (sym there.1 ∙ l.here)) there.2
-      where
-        some_is : {a b : Node} → Some a ≡ Some b → a ≡ b
-        some_is e = cc
+module _ (p : Plan) (none : fault_of p ≡ None) (c c' : Configuration) (s : State) (e : End) (plan : NodePlan)
+    (planned : slice_get p.nodes e.node ≡ Some plan) (shows : Shows p c s) (steady : AreSteady c)
+    (l : IsNotice c e c') where
+  abbrev named : Seat → Name
+  named = shows.named e.node
 
-    ready : IsSteady l.node
-    ready = (steady e.node l.node l.here).steady shown.role
+  abbrev noticing_node : Node
+  noticing_node = record l.node { machine = hidden (notice e.link l.node.machine) }
+
+  shown : ShowsNode s e.node plan (shows.named e.node) (shows.sent e.node) l.node
+  shown =
+      let there = shows.processors e.node plan planned in
+      subst (ShowsNode s e.node plan (shows.named e.node) (shows.sent e.node)) (some_is (sym there.1 ∙ l.here)) there.2
+
+  ready : IsSteady l.node
+  ready = (steady e.node l.node l.here).steady shown.role
+
+  wired : far_end (all_wires p) e ≡ Some l.far
+  wired = ap (λ ws. far_end ws e) (sym shows.wires) ∙ l.wired
+
+  small : e.link < 4
+  small = small_link p none e l.far wired
+
+  sends : is_sending_at p s l.far ≡ true
+  sends = offering p c s l.far e none shows steady wired l.sender l.out l.offers
+
+  -- another link has noticed what it had noticed
+  noticed_before : (j : ℕ) → (j ≡ e.link → ⊥) → has_noticed noticing_node j ≡ true → has_noticed l.node j ≡ true
+  noticed_before =
+      other_noticed s s e.node e.link named named (shows.sent e.node) l.node noticing_node
+      (notice-links e.link l.node.machine) (subst (λ z. e.link < z) (sym ready.placed.claimed.links) small)
+
+  has_sender : (t : State) → is_sending_at p t l.far ≡ true → HasSender p t e
+  has_sender t h = record { from = l.far; joined = sender_found p none e l.far wired; sends = h }
+
+  -- what was noticed comes from somebody who sends
+  notices_now : (t : State) → ((g : End) → is_sending_at p s g ≡ true → is_sending_at p t g ≡ true)
+      → NoticesSent p (put_node e.node noticing_node c) t
+  notices_now t still n j other x is there h = by (cases_eq n e.node)
+    where
+      from_old : (node : Node) → node_of c n ≡ Some node → has_noticed node j ≡ true → HasSender p t (end_at n j)
+      from_old node old_there old_h =
+          let old = shows.noticed n j other node is old_there old_h in
+          record { from = old.from; joined = old.joined; sends = still old.from old.sends }
+
+      at_node : n ≡ e.node → (j ≡ e.link) ⊎ (j ≡ e.link → ⊥) → HasSender p t (end_at n j)
+      at_node same (inl f) =
+          subst (HasSender p t) (λ i. record { node = sym same i; link = sym f i }) (has_sender t (still l.far sends))
+      at_node same (inr f) =
+          let is_new : noticing_node ≡ x =
+          some_is (sym (put-same c e.node noticing_node l.node l.here)
+          ∙ ap (node_of (put_node e.node noticing_node c)) (sym same) ∙ there) in
+          from_old l.node (ap (node_of c) same ∙ l.here)
+          (noticed_before j f (ap (λ (z : Node). has_noticed z j) is_new ∙ h))
+
+      by : (n ≡ e.node) ⊎ (n ≡ e.node → ⊥) → HasSender p t (end_at n j)
+      by (inl same) = at_node same (cases_eq j e.link)
+      by (inr d) = from_old x (sym (put-other c e.node n noticing_node d) ∙ there) h
+
+  -- where nothing is seen of it
+  stays_shown : ShowsNode s e.node plan (shows.named e.node) (shows.sent e.node) noticing_node → Shows p c' s
+  stays_shown now =
+      subst (λ (z : Configuration). Shows p z s) (sym l.after)
+      (net_shown p c s s shows e.node plan planned l.node l.here noticing_node (shows.named e.node)
+      (shows.sent e.node) now (λ q h. refl) (notices_now s (λ g h. h)))
+
+  -- the notice is seen as nothing where no process waits there for its alternative
+  seen_as_nothing : (o : Option Stand) → ((d : Context) → o ≡ Some (Chooses d) → ⊥) → Shows p c' s
+      → IsNoticeSeen o p c' e s
+  seen_as_nothing (Some (Chooses d)) not_there now = absurd (not_there d refl)
+  seen_as_nothing _ not_there now = now
+
+  module _ (y : Name)
+      (k : IsEnabler s e.node plan named (shows.sent e.node) l.node shown ready e.link small l.no_input l.not_noticed y)
+    where
+      -- where the process waits for its alternative
+      module _ (choosing : IsChoosing s e.node plan named (shows.sent e.node) l.node shown ready y k.home k.alternative
+          k.is) where
+        awaits : input_at s e.node e.link ≡ Awaited y
+        awaits = k.linked.awaited k.alternative k.is choosing.waits
+
+        half : s (LinkHalf e Input) ≡ IsLink (Awaited y)
+        half =
+            let there : (h : Link) × (s (LinkHalf e Input) ≡ IsLink h) × (is_offered h ≡ false) =
+            subst (λ o. IsInput named o (s (LinkHalf e Input))) l.no_input (shown.links e.link small).input in
+            there.1 ∙ ap IsLink (sym (ap link_in there.1) ∙ awaits)
+
+        stands_there : stand_at s e ≡ Some (Chooses choosing.context)
+        stands_there =
+            ap (λ (h : Link). option_map (λ x. stand_in (s (Standing x))) (awaiting h)) awaits
+            ∙ ap (λ (v : Value). Some (stand_in v)) choosing.stood
+
+        wire_silent : (t : State) → (makes : AgentMakes p (Wire e) s t) → HandsNone makes
+        wire_silent t makes f g =
+            fires_silent p s t e l.far (sender_found p none e l.far wired)
+            (node_role p e.node (slice_get_within p.nodes e.node plan planned)) (Awaited y) half refl makes
+
+        wire_shows : (t : State) → AgentMakes p (Wire e) s t → Shows p c' t
+        wire_shows t makes =
+            let fired =
+            has_fired p s e.node plan planned e.link y (has_sender s sends) half choosing.context choosing.stood t
+            makes in
+            fires t (record { stands = fired.stands; input = fired.taken; rest = fired.rest })
+          where
+            fires : (z : State) → HasFired e.node e.link y choosing.context s z → Shows p c' z
+            fires z g =
+                subst (λ (w : Configuration). Shows p w z) (sym l.after)
+                (net_shown p c s z shows e.node plan planned l.node l.here noticing_node
+                (fired_names p s e.node plan named (shows.sent e.node) l.node shown ready e.link small l.no_input y
+                k.home k.alternative k.is awaits k.remembers choosing z g) (shows.sent e.node)
+                (subst (λ (m : Machine). ShowsNode z e.node plan
+                (fired_names p s e.node plan named (shows.sent e.node) l.node shown ready e.link small l.no_input y
+                k.home k.alternative k.is awaits k.remembers choosing z g) (shows.sent e.node)
+                (record l.node { machine = m }))
+                (sym (fired_is p s e.node plan named (shows.sent e.node) l.node shown ready e.link small l.no_input y
+                k.home k.alternative k.is awaits k.remembers choosing z g))
+                (fired_shown p s e.node plan named (shows.sent e.node) l.node shown ready e.link small l.no_input y
+                k.home k.alternative k.is awaits k.remembers choosing z g))
+                (fired_elsewhere p s e.node plan named (shows.sent e.node) l.node shown ready e.link small l.no_input y
+                k.home k.alternative k.is awaits k.remembers choosing z g)
+                (notices_now z (λ f h. offers_stay p s z f (stays (role_at p f.node) f) h)))
+              where
+                output : (f : End) → z (LinkHalf f Output) ≡ s (LinkHalf f Output)
+                output f = g.rest (LinkHalf f Output) refl (by (same_end e f))
+                  where
+                    by : (b : Bool) → (b && false) ≡ false
+                    by true = refl
+                    by false = refl
+
+                stays : (r : Role) (f : End) → z (offer_place r f) ≡ s (offer_place r f)
+                stays Source f = g.rest (Messages f) refl refl
+                stays Processor f = output f
+                stays Sink f = output f
+                stays Nothing f = output f
+
+      -- where it does not, though it awaits the input
+      module _ (awake : k.alternative.waits ≡ false) where
+        not_choosing : (d : Context) → stand_at s e ≡ Some (Chooses d) → ⊥
+        not_choosing d f = by (input_at s e.node e.link) k.enabled f
+          where
+            chose : stand_in (s (Standing y)) ≡ Chooses d → ⊥
+            chose g =
+                true≢false (sym (alternative_context false true d k.alternative
+                (sym (ap alternative_of g) ∙ k.is)).3 ∙ awake)
+
+            by : (h : Link) → link_enabler h ≡ Some y
+                → option_map (λ x. stand_in (s (Standing x))) (awaiting h) ≡ Some (Chooses d) → ⊥
+            by (Awaited z) i g =
+                chose (sym (ap (λ x. stand_in (s (Standing x))) (some_is i)) ∙ some_is g)
+            by _ i g = absurd (none_some g)
+
+      enabler_notices : IsNoticeSeen (stand_at s e) p c' e s
+      enabler_notices =
+          by (found s e.node plan named (shows.sent e.node) l.node shown ready y k.home k.alternative k.is)
+        where
+          told : k.alternative.waits ≡ false
+              → is_told l.node.machine (k.alternative.wptr + k.alternative.priority) ≡ true
+              → IsNoticeSeen (stand_at s e) p c' e s
+          told awake reached =
+              seen_as_nothing (stand_at s e) (not_choosing awake)
+              (stays_shown (told_shown p s e.node plan named (shows.sent e.node) l.node shown ready e.link small
+              l.no_input l.not_noticed y k awake reached))
+
+          by : Stands s e.node plan named (shows.sent e.node) l.node shown ready y k.home k.alternative k.is
+              → IsNoticeSeen (stand_at s e) p c' e s
+          by (inl front) =
+              told front.waits (front_told s e.node plan named (shows.sent e.node) l.node shown ready y k.home
+              k.alternative k.is front)
+          by (inr (inl queued)) =
+              told queued.waits (queued_told s e.node plan named (shows.sent e.node) l.node shown ready y k.home
+              k.alternative k.is queued)
+          by (inr (inr choosing)) =
+              subst (λ o. IsNoticeSeen o p c' e s) (sym (stands_there choosing)) (
+                firing_due p s e.node plan planned e.link y (has_sender s sends) (half choosing),
+                λ t makes. (wire_silent choosing t makes, wire_shows choosing t makes),
+              )
+
+  pub processor_notices : IsNoticeSeen (stand_at s e) p c' e s
+  processor_notices =
+      by (enabler_cases s e.node plan named (shows.sent e.node) l.node shown ready e.link small l.no_input
+      l.not_noticed)
+    where
+      nobody_awaits : (h : Link) → link_enabler h ≡ None → awaiting h ≡ None
+      nobody_awaits (Awaited y) f = absurd (none_some (sym f))
+      nobody_awaits _ f = refl
+
+      by : ((y : Name) × IsEnabler s e.node plan named (shows.sent e.node) l.node shown ready e.link small l.no_input
+          l.not_noticed y)
+          ⊎ (enabler_on s e.node e.link ≡ None)
+          → IsNoticeSeen (stand_at s e) p c' e s
+      by (inl (y, k)) = enabler_notices y k
+      by (inr nobody) =
+          subst (λ o. IsNoticeSeen (option_map (λ x. stand_in (s (Standing x))) o) p c' e s)
+          (sym (nobody_awaits (input_at s e.node e.link) nobody))
+          (stays_shown (quiet_shown s e.node plan named (shows.sent e.node) l.node shown ready e.link small
+          l.no_input l.not_noticed nobody))
 
 -- a source notices nothing, and a sink has an input at its only link
 module _ (p : Plan) (none : fault_of p ≡ None) (c c' : Configuration) (s : State) (e : End) (shows : Shows p c s)
     (l : IsNotice c e c') where
-  some_is : {a b : Node} → Some a ≡ Some b → a ≡ b
-  some_is e = cc
-
   no_source : (k : ℕ) (source : SourcePlan) → slice_get p.sources k ≡ Some source → length p.nodes + k ≡ e.node → ⊥
   no_source k source is same =
       let old = shows.sources k source is in
@@ -225,57 +262,31 @@ module _ (p : Plan) (none : fault_of p ≡ None) (c c' : Configuration) (s : Sta
       ∙ ap (node_of c) (sym same) ∙ old.1)) ∙ ap receives old.2.role)
 
   no_sink : (k : ℕ) (sink : SinkPlan) → slice_get p.sinks k ≡ Some sink
-      → length p.nodes + length p.sources + k ≡ e.node → ⊥
-  no_sink k sink is same = by (wire_proper p none e l.far (ap (λ ws. far_end ws e) (sym shows.wires) ∙ l.wired))
+      → length p.nodes + length p.sources + k ≡ e.node → e.link ≡ 0 → ⊥
+  no_sink k sink is same zero_link = none_some (sym input ∙ old.2.input)
     where
-      by : (e.node < length p.nodes) ⊎ (e.link ≡ 0) → ⊥
-      by (inl b) = omega (arith, b, same)
-      by (inr z) =
-          let old = shows.sinks k sink is in
-          let here : l.node ≡ old.0 = some_is (sym l.here ∙ ap (node_of c) (sym same) ∙ old.1) in
-          let input : (link_end old.0.machine.control 0).input ≡ None =
+      old : (node : Node) × (node_of c (length p.nodes + length p.sources + k) ≡ Some node)
+          × ShowsSink s (end_at (length p.nodes + length p.sources + k) 0) node
+      old = shows.sinks k sink is
+
+      here : l.node ≡ old.0
+      here = some_is (sym l.here ∙ ap (node_of c) (sym same) ∙ old.1)
+
+      input : (link_end old.0.machine.control 0).input ≡ None
+      input =
           ap (λ (x : Node). (link_end x.machine.control 0).input) (sym here)
-          ∙ ap (λ j. (link_end l.node.machine.control j).input) (sym z) ∙ l.no_input in
-          differ (sym old.2.input ∙ input)
-        where
-          differ : {o : Offer} → Some o ≡ None → ⊥
-          differ e = cc
+          ∙ ap (λ j. (link_end l.node.machine.control j).input) (sym zero_link) ∙ l.no_input
 
-  -- no processor notices: no node that is shown does
-  nobody_notices : slice_get p.nodes e.node ≡ None → Shows p c' s
-  nobody_notices past =
-      subst (λ (z : Configuration). Shows p z s) (sym l.after) (record {
-        named = shows.named;
-        sent = shows.sent;
-        wires = shows.wires;
-        processors = λ n plan is. (let old = shows.processors n plan is in (
-          old.0,
-          put-other c e.node n new (λ f. differ (sym past ∙ ap (slice_get p.nodes) (sym f) ∙ is)) ∙ old.1,
-          old.2,
-        ));
-        sources = λ k source is. (let old = shows.sources k source is in (
-          old.0,
-          put-other c e.node (length p.nodes + k) new (no_source k source is) ∙ old.1,
-          old.2,
-        ));
-        sinks = λ k sink is. (let old = shows.sinks k sink is in (
-          old.0,
-          put-other c e.node (length p.nodes + length p.sources + k) new (no_sink k sink is) ∙ old.1,
-          old.2,
-        ));
-        nobody = shows.nobody;
-      })
-    where
-      new : Node
-      new = record l.node { machine = hidden (notice e.link l.node.machine) }
-
-      differ : {plan : NodePlan} → None ≡ Some plan → ⊥
-      differ e = cc
+  -- so it is a processor that notices
+  pub noticing : (plan : NodePlan) × (slice_get p.nodes e.node ≡ Some plan)
+  noticing =
+      by_role p none e l.far (ap (λ ws. far_end ws e) (sym shows.wires) ∙ l.wired)
+      (λ (r : Role). (plan : NodePlan) × (slice_get p.nodes e.node ≡ Some plan)) (λ plan planned. (plan, planned))
+      (λ k source is at zero_link. absurd (no_source k source is (sym at)))
+      (λ k sink is at zero_link near. absurd (no_sink k sink is (sym at) zero_link))
 
 -- notices
 pub notices_are_seen : NoticesAreSeen
-notices_are_seen p c c' s e none shows steady l = by (slice_get p.nodes e.node) refl
-  where
-    by : (o : Option NodePlan) → slice_get p.nodes e.node ≡ o → Shows p c' s
-    by (Some plan) planned = processor_notices p c c' s e plan planned shows steady l
-    by None past = nobody_notices p none c c' s e shows l past
+notices_are_seen p c c' s e none shows steady l =
+    let there = noticing p none c c' s e shows l in
+    processor_notices p none c c' s e there.0 there.1 shows steady l

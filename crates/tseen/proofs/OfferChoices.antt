@@ -1,5 +1,5 @@
 -- A process sends on a channel that an alternative has enabled: the alternatives of the node after that.
-use Rattle.tseen.specs.Choices.{enabler}
+use Rattle.tseen.specs.Choices.{enabler, is_due, input_at, HasEnabled, link_enabler, enabler_on, IsEnabledLink}
 use Rattle.std.proofs.Common.{◌≡◌, ◌≢◌, ℕ, ◌+◌, ◌*◌, ◌≤◌, ◌<◌, ◌^◌}
 use Rattle.std.proofs.Common.{refl, sym, ap, subst, ◌∙◌, Bool, true, false, true≢false}
 use Rattle.std.proofs.Common.{length, Some, None, arith, ◌⊎◌, inl, inr}
@@ -12,14 +12,14 @@ use Rattle.tproc.specs.Channels.{ready}
 use Rattle.tproc.proofs.WordsApart.{LiesWord}
 use Rattle.tplan.specs.declared.plan.Plan.{Plan}
 use Rattle.tnet.specs.Rendezvous.{Configuration}
-use Rattle.tprocesses.specs.Places.{Name, WordAt, Sending, Standing, Ports, Half, same_name}
-use Rattle.tprocesses.specs.Values.{Value, Free, Engaged, word_in, stand_in, half_in, amount_in, ports_in}
+use Rattle.tprocesses.specs.Places.{Name, WordAt, Sending, Standing, Ports, Half, same_name, LinkHalf}
+use Rattle.tprocesses.specs.Values.{Value, Free, Engaged, word_in, stand_in, half_in, amount_in, ports_in, link_in}
 use Rattle.tprocesses.specs.Choosing.{has_port, is_taken}
 use Rattle.tprocesses.specs.Touching.{Site, word_number}
 use Rattle.tprocesses.specs.Machine.{site_of}
 use Rattle.tseen.specs.Words.{use_at}
 use Rattle.tseen.specs.Choices.{Alternative, alternative_of, alternative_at, is_quiet, enabler_at, enables, is_sent}
-use Rattle.tseen.specs.Choices.{HasChoice, IsEnabled, ShowsChoices, state_use}
+use Rattle.tseen.specs.Choices.{HasChoice, IsEnabled, ShowsChoices, state_use, input_channel}
 use Rattle.tseen.specs.Shown.{ShowsNode}
 use Rattle.tseen.specs.Steps.{IsCurrent}
 use Rattle.tseen.proofs.After.{State}
@@ -35,9 +35,14 @@ use Rattle.tseen.proofs.Stepped.{shown_node, there}
 use Rattle.tseen.proofs.Taken.{HasTaken}
 use Rattle.tseen.proofs.TakenWords.{alternative_before, lies_here}
 use Rattle.tseen.proofs.Writing.{word_lies}
+use Rattle.tplan.specs.Wires.{end_at}
+use Rattle.tproc.specs.Machine.{Control}
 
 module _ (p : Plan) (c : Configuration) (s : State) (n : ℕ) (x : Name) (k : IsCurrent p c s n x) (v : State)
     (h : HasTaken p c s n x k v) (y : Name) (enabled : enabler_at s n k.node.machine.control.registers.b ≡ Some y) where
+  abbrev m : Control
+  m = k.node.machine.control
+
   abbrev store : Store
   store = k.node.machine.store
 
@@ -56,7 +61,7 @@ module _ (p : Plan) (c : Configuration) (s : State) (n : ℕ) (x : Name) (k : Is
   abbrev old : Alternative
   old = theirs p c s n x k v h y enabled
 
-  abbrev had : HasChoice s n store y old
+  abbrev had : HasChoice s n m.links store y old
   had = has p c s n x k v h y enabled
 
   abbrev state : ℕ
@@ -72,6 +77,7 @@ module _ (p : Plan) (c : Configuration) (s : State) (n : ℕ) (x : Name) (k : Is
     pub held : (d : ℕ) → (channel ≡ d → ⊥) → t (Half n d Input) ≡ s (Half n d Input)
     pub outputs : (d : ℕ) → (channel ≡ d → ⊥) → t (Half n d Output) ≡ s (Half n d Output)
     pub sent : is_sent t n channel ≡ true
+    pub links : (l : ℕ) → t (LinkHalf (end_at n l) Input) ≡ s (LinkHalf (end_at n l) Input)
     pub amounts : (i : ℕ) → t (Sending n i) ≡ s (Sending n i)
     pub words : (i : ℕ) → (use_of s n i ≡ Free → ⊥) → i ≢ word_number channel → t (WordAt n i) ≡ s (WordAt n i)
     pub engaged : use_at t n channel ≡ Engaged
@@ -138,7 +144,7 @@ module _ (p : Plan) (c : Configuration) (s : State) (n : ℕ) (x : Name) (k : Is
 
     -- the word of the state of another alternative
     state_kept : (z : Name) (b : Alternative) → same_name y z ≡ false → z.node ≡ n → alternative_at s n z ≡ Some b
-        → HasChoice s n store z b
+        → HasChoice s n m.links store z b
         → (t (WordAt n (below b.wptr 3)) ≡ s (WordAt n (below b.wptr 3)))
         × (word_at last (word_below b.wptr 3) ≡ word_at store (word_below b.wptr 3))
     state_kept z b f home is it = (
@@ -191,7 +197,7 @@ module _ (p : Plan) (c : Configuration) (s : State) (n : ℕ) (x : Name) (k : Is
     enables_alike d = ap (λ (q : Value). has_port d (ports_in q)) (g.ports y)
 
     -- the alternative is ready
-    new_choice : HasChoice t n last y now
+    new_choice : HasChoice t n m.links last y now
     new_choice =
         record {
           small = (subst (λ q. q < 2) (sym g.same.1) had.small.0, subst (λ q. q < 2 ^ 32) (sym g.same.0) had.small.1);
@@ -203,11 +209,14 @@ module _ (p : Plan) (c : Configuration) (s : State) (n : ℕ) (x : Name) (k : Is
               ∙ had.unsent;
           state = inl (
             ap (λ q. word_at last (word_below q 3)) g.same.0 ∙ g.is_ready,
-            inr (channel, enables_alike channel ∙ (it p c s n x k v h y enabled).port, g.sent),
+            inr (channel, enables_alike channel ∙ (it p c s n x k v h y enabled).port, due),
           );
           unready = λ e. absurd (true≢false (sym e ∙ g.same.3));
         }
       where
+        due : is_due t n m.links channel ≡ true
+        due = rw (it p c s n x k v h y enabled).internal g.sent
+
         word_is : t (WordAt n (below now.wptr 3)) ≡ s (WordAt n (below old.wptr 3))
         word_is =
             ap (λ q. t (WordAt n (below q 3))) g.same.0
@@ -224,6 +233,7 @@ module _ (p : Plan) (c : Configuration) (s : State) (n : ℕ) (x : Name) (k : Is
             → IsEnabled t n last d y
         with_names engaged names =
             record {
+              internal = old_one.internal;
               home = old_one.home;
               port = enables_alike d ∙ old_one.port;
               placed = subst (λ q. word_place_break q d ≡ None) (sym g.size) old_one.placed;
@@ -243,7 +253,24 @@ module _ (p : Plan) (c : Configuration) (s : State) (n : ℕ) (x : Name) (k : Is
             with_names kept.0 (λ i. kept.1 ∙ old_one.names (sym (ap (λ (q : Value). is_taken (half_in q))
             (g.outputs d f)) ∙ i) old (theirs_is p c s n x k v h y enabled))
 
-    changed : IsChanged p s t n store last y
+    input_is : (l : ℕ) → input_at t n l ≡ input_at s n l
+    input_is l = ap link_in (g.links l)
+
+    has_enabled : (d : ℕ) (z : Name) → HasEnabled s n d z → HasEnabled t n d z
+    has_enabled d z (inl (internal, e)) = inl (internal, g.inputs d ∙ e)
+    has_enabled d z (inr (l, b, is, e)) = inr (l, b, is, ap link_enabler (input_is l) ∙ e)
+
+    own_linked : (l : ℕ) → l < 4 → enabler_on t n l ≡ Some y → IsEnabledLink t n l y
+    own_linked l b e =
+        let old_one : IsEnabledLink s n l y = shown.choices.linked l y b (sym (ap link_enabler (input_is l)) ∙ e) in
+        record {
+          home = old_one.home;
+          port = enables_alike (input_channel l) ∙ old_one.port;
+          awaited = λ a i f. absurd (true≢false (sym f
+              ∙ ap (λ (q : Alternative). q.waits) (sym (is_now a i)) ∙ g.same.3));
+        }
+
+    changed : IsChanged p s t n m.links m.links store last y
     changed =
         record {
           stands = λ z f home. stand_alike z f;
@@ -257,18 +284,23 @@ module _ (p : Plan) (c : Configuration) (s : State) (n : ℕ) (x : Name) (k : Is
           size = g.size;
           states = state_kept;
           words = λ d z f e it. channel_kept d z it (other_channel d z f e);
+          linked = λ l z f e. ap link_enabler (input_is l) ∙ e;
+          linked_back = λ l z f e. sym (ap link_enabler (input_is l)) ∙ e;
+          awaited = λ l z f e. input_is l ∙ e;
+          noticed = λ l z f e. refl;
           own_quiet = g.quiet;
-          own_choice = λ a e. subst (HasChoice t n last y) (is_now a e) new_choice;
+          own_choice = λ a e. subst (HasChoice t n m.links last y) (is_now a e) new_choice;
           own_apart = λ a e z b f home is same. differ z f (shown.choices.apart y z old b
               (it p c s n x k v h y enabled).home home (theirs_is p c s n x k v h y enabled) is
               (sym g.same.0 ∙ ap (λ (q : Alternative). q.wptr) (is_now a e) ∙ same));
           own_ports = λ d home e. (
             now,
             g.is,
-            g.inputs d ∙ (shown.choices.owner y d home (sym (enables_alike d) ∙ e)).2,
+            has_enabled d y (shown.choices.owner y d home (sym (enables_alike d) ∙ e)).2,
           );
           own_enabled = own_enabled;
+          own_linked = own_linked;
         }
 
-    pub sent_choices : ShowsChoices t n last
-    sent_choices = choices_changed p s t n store last y changed shown.choices
+    pub sent_choices : ShowsChoices t n m.links last
+    sent_choices = choices_changed p s t n m.links m.links store last y changed shown.choices

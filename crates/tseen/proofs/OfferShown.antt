@@ -14,6 +14,7 @@ use Rattle.tproc.specs.Steps.{step}
 use Rattle.tplan.specs.declared.plan.Plan.{Plan}
 use Rattle.tnet.specs.Rendezvous.{Configuration}
 use Rattle.tprocesses.specs.Places.{Place, Name, WordAt, Sending, Standing, Ports, Half, same_place, same_name}
+use Rattle.tprocesses.specs.Places.{LinkHalf}
 use Rattle.tprocesses.specs.Values.{Value, Nobody, TakenBy, Request, IsHalf, word_in, stand_in, half_in}
 use Rattle.tprocesses.specs.Choosing.{is_taken}
 use Rattle.tprocesses.specs.Touching.{word_number}
@@ -36,6 +37,8 @@ use Rattle.tseen.proofs.Renamed.{one_half}
 use Rattle.tseen.proofs.Stepped.{shown_node, leads_there}
 use Rattle.tseen.proofs.Taken.{HasTaken}
 use Rattle.tseen.proofs.TakenWords.{at, own_half, alternative_now, quiet_now}
+use Rattle.tplan.specs.Wires.{end_at}
+use Rattle.tseen.proofs.NoticedOffers.{outputs_stay}
 
 module _ (p : Plan) (c : Configuration) (s : State) (n : ℕ) (x : Name) (k : IsCurrent p c s n x) (v : State)
     (h : HasTaken p c s n x k v) (y : Name) (enabled : enabler_at s n k.node.machine.control.registers.b ≡ Some y) where
@@ -119,6 +122,8 @@ module _ (p : Plan) (c : Configuration) (s : State) (n : ℕ) (x : Name) (k : Is
           sent = ap (λ (z : Value). is_taken (half_in z)) (rest (Half n channel Output) refl
               (sides_apart n channel Input)
               ∙ ap (λ a. v (Half n channel a)) (sym (sends p c s n x k v h y enabled)) ∙ own_half p c s n x k v h);
+          links = λ l. rest (LinkHalf (end_at n l) Input) refl refl
+              ∙ at p c s n x k v h (LinkHalf (end_at n l) Input) refl refl refl;
           amounts = λ i. rest (Sending n i) refl refl ∙ at p c s n x k v h (Sending n i) refl refl refl;
           words = λ i f g. rest (WordAt n i) refl refl ∙ unfree_stays p c s n x k v h i f g;
           engaged = ap (λ (z : Value). (word_in z).used) (rest (WordAt n (word_number channel)) refl refl)
@@ -163,6 +168,9 @@ module _ (p : Plan) (c : Configuration) (s : State) (n : ℕ) (x : Name) (k : Is
         (node_now p c s n x k v h last (readied_laid p c s n x k v h y enabled) alone
         (sent_choices p c s n x k v h y enabled v last old sent))
         (elsewhere p c s n x k v h last (readied_laid p c s n x k v h y enabled) alone)
+        (outputs_stay s v n k.node (record k.node {
+          machine = record { control = (made p c s n x k v h).control; store = last };
+        }) (λ l. at p c s n x k v h (LinkHalf (end_at n l) Output) refl refl refl) (λ l. refl))
 
   pub queued_leads : IsQueued p c s n x k v h y enabled → LeadsTo p c n v
   queued_leads q = offer_leads q.waits (queued_steps p c s n x k v h y enabled q)

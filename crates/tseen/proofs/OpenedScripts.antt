@@ -213,6 +213,7 @@ sink_shown p k sink there = (seen (fresh_sink sink.capacity), place_is, shows)
           room = sink.capacity;
           input = refl;
           output = refl;
+          silent = refl;
           alone = no_other;
           lies = omega (
             arith,

@@ -31,19 +31,21 @@ use Rattle.tplan.specs.declared.plan.NodePlan.{NodePlan}
 use Rattle.tplan.specs.declared.plan.Plan.{Plan}
 use Rattle.tnet.specs.Building.{fault_of, ArePlanWords, AreBytes, AreImageWords, loaded_machine, built_machine}
 use Rattle.tnet.specs.Building.{or_loaded, opened_machine, opening_node, bad_process, bad_segment, is_bad_segment}
-use Rattle.tnet.specs.Building.{is_bad_size}
+use Rattle.tnet.specs.Building.{is_bad_size, opening_configuration}
 use Rattle.tnet.proofs.OpenedPlans.{IsFaultless, faultless, good_size, good_segment, no_position}
-use Rattle.tnet.specs.Rendezvous.{was_copied}
+use Rattle.tnet.specs.Rendezvous.{Node, node_of, was_copied}
 use Rattle.tnet.proofs.OpenedNets.{quiet_link}
-use Rattle.tprocesses.specs.Places.{Place, Name, WordAt, Standing}
+use Rattle.tproc.specs.declared.channels.Side.TheVariants.{Input}
+use Rattle.tplan.specs.Wires.{end_at}
+use Rattle.tprocesses.specs.Places.{Place, Name, WordAt, Standing, LinkHalf}
 use Rattle.tprocesses.specs.Values.{Nobody, TakenBy, Value, Word, Free, Saved, Engaged, Request, IsWord as a_word}
-use Rattle.tprocesses.specs.Values.{IsLink, IsHalf}
+use Rattle.tprocesses.specs.Values.{Empty, Fired, IsLink, IsHalf}
 use Rattle.tprocesses.specs.Values.{word_in, unknown, Stand, Absent, IsStand}
 use Rattle.tprocesses.specs.Machine.{awaits_successor}
 use Rattle.tprocesses.specs.Touching.{word_number}
 use Rattle.tprocesses.specs.Opening.{opening_state, of_node, stand_of, opened_word, loaded_byte, is_below}
 use Rattle.tseen.specs.Words.{AreMarked, AreSavedWords, use_at, cells_at}
-use Rattle.tseen.specs.Halves.{ShowsChannels, ShowsLink, half_asking}
+use Rattle.tseen.specs.Halves.{ShowsChannels, ShowsLink, IsInput}
 use Rattle.tseen.specs.Shown.{ShowsNode, OpeningIsShown}
 use Rattle.tseen.proofs.Loaded.{Holds, holds_all}
 use Rattle.tseen.proofs.Queued.{seats, seat_of, HasProcess}
@@ -113,7 +115,7 @@ module _ (p : Plan) (n : ℕ) (plan : NodePlan) (at : slice_get p.nodes n ≡ So
       by : (w : ℕ) → HasProcess ds v w → AreSaved w
       by w y = subst AreSaved y.workspace (saved_of y.process y.there)
 
-  quiet : (l : ℕ) → link_end m.control l ≡ quiet_end
+  pub quiet : (l : ℕ) → link_end m.control l ≡ quiet_end
   quiet l = quiet_link m l (ap (λ (c : Control). c.links) control_is)
 
   no_successor : (t : Bool) → awaits_successor (cond t Saved Free) ≡ false
@@ -166,13 +168,21 @@ module _ (p : Plan) (n : ℕ) (plan : NodePlan) (at : slice_get p.nodes n ≡ So
   link : (l : ℕ) → ShowsLink s n (opened_name n ds) (λ _. None) (opening_node Processor m) l
   link l =
       record {
-        input = ap (λ (x : LinkEnd). IsLink (half_asking (opened_name n ds) x.input)) (sym (quiet l));
+        input = subst (λ (x : LinkEnd). IsInput (opened_name n ds) x.input (s (LinkHalf (end_at n l) Input)))
+            (sym (quiet l)) (Empty, refl, refl);
         output = refl;
+        unfinished = refl;
         offered = λ o e. (let f : None ≡ Some o = sym (ap (λ (x : LinkEnd). x.output) (quiet l)) ∙ e in cc);
         fresh = λ e. not_copied l;
-        forgotten = ap (λ (x : LinkEnd). x.remembered) (quiet l);
+        unnoticed = λ o e. ap (λ (x : LinkEnd). x.noticed) (quiet l);
+        remembered = λ e. ap (λ (x : LinkEnd). x.remembered) (quiet l);
+        forgotten = λ e. ap (λ (x : LinkEnd). x.remembered) (quiet l);
+        fired = λ x e. absurd (not_fired e);
         pending = λ q e _. cc;
       }
+    where
+      not_fired : {x : Name} → IsLink Empty ≡ IsLink (Fired x) → ⊥
+      not_fired e = cc
 
   nobody : {y : Name} → None ≡ Some y → ⊥
   nobody e = cc
@@ -199,14 +209,15 @@ module _ (p : Plan) (n : ℕ) (plan : NodePlan) (at : slice_get p.nodes n ≡ So
       by None e = rw (e, of_node, alternative_of, is_quiet) (refl, refl)
       by (Some node) e = rw (e, of_node, alternative_of, is_quiet) (at_root x.root x.path node)
 
-  choices : (store : Store) → ShowsChoices s n store
-  choices store =
+  choices : (links : List LinkEnd) (store : Store) → ShowsChoices s n links store
+  choices links store =
       record {
         choices = λ x a home e. absurd (differ (sym (plain_stand x).0 ∙ e));
         apart = λ x y a b home f e g i. absurd (differ (sym (plain_stand x).0 ∙ e));
         quiet = λ x home. (plain_stand x).1;
         owner = λ x d home e. absurd (no_port e);
         enabled = λ d x e. absurd (nobody e);
+        linked = λ l x b e. absurd (nobody e);
       }
     where
       differ : {a : Alternative} → None ≡ Some a → ⊥
@@ -229,7 +240,7 @@ module _ (p : Plan) (n : ℕ) (plan : NodePlan) (at : slice_get p.nodes n ≡ So
         channels = channels;
         links = λ l _. link l;
         processes = processes_shown p n plan at timeslice start m b empty;
-        choices = choices m.store;
+        choices = choices m.control.links m.store;
       }
 
 -- loading changes no register and no queue
@@ -345,6 +356,18 @@ module _ (p : Plan) (none : fault_of p ≡ None) (words : ArePlanWords p) (n : �
       built_there start_there
       (good_size plan size_there) (start_holds p.timeslice plan size_there segments image))
 
+  -- no byte was noticed
+  pub nothing_noticed : (node : Node) → node_of (opening_configuration p) n ≡ Some node → (l : ℕ)
+      → (link_end node.machine.control l).noticed ≡ false
+  nothing_noticed node here l =
+      ap (λ (x : Node). (link_end x.machine.control l).noticed) (some_is (sym here ∙ processor_there p n plan at))
+      ∙ ap (λ (x : LinkEnd). x.noticed)
+      (quiet p n plan at p.timeslice (loaded_machine p.timeslice plan) (opened_machine p.timeslice plan) built_there
+      start_there (good_size plan size_there) (start_holds p.timeslice plan size_there segments image) l)
+    where
+      some_is : {a b : Node} → Some a ≡ Some b → a ≡ b
+      some_is e = cc
+
 -- where the plan has no node there is no process
 nobody_there : (p : Plan) (x : Name) → slice_get p.nodes x.node ≡ None
     → opening_state p (Standing x) ≡ IsStand Absent
@@ -366,5 +389,7 @@ opening_is_shown p none words =
       );
       sources = source_shown p;
       sinks = sink_shown p;
+      noticed = λ n l plan node at here e.
+          absurd (true≢false (sym e ∙ nothing_noticed p none words n plan at node here l));
       nobody = nobody_there p;
     }

@@ -12,7 +12,7 @@ use Rattle.tproc.specs.ProcessStatus.{reason_of}
 use Rattle.tproc.specs.Queues.{iptr_word}
 use Rattle.tnet.specs.Rendezvous.{Node}
 use Rattle.tprocesses.specs.Places.{Name, Standing, HasRun, same_name}
-use Rattle.tprocesses.specs.Values.{Chosen, Chooses, Value, Context, Stand, Absent, Rests, Runs, Waits, Ended}
+use Rattle.tprocesses.specs.Values.{Chosen, Listens, Chooses, Value, Context, Stand, Absent, Rests, Runs, Waits, Ended}
 use Rattle.tprocesses.specs.Values.{IsStand, IsFlag}
 use Rattle.tseen.specs.Known.{HasRegisters, HasSaved}
 use Rattle.tseen.specs.Seats.{Interrupted, Queued, Waiting}
@@ -82,6 +82,7 @@ module _ (n : ℕ) (s s' : State) (run_stays : (q : ℕ) → s' (HasRun n q) ≡
       by (Waits d) e f r = absurd f
       by Ended e f r = absurd f
       by (Chooses d) e f r = absurd f
+      by (Listens channel d) e f r = absurd f
 
   -- and one that waits
   pub waiting_stays : (process : ℕ) (y : Name) → s' (Standing y) ≡ s (Standing y)
@@ -128,6 +129,7 @@ module _ (n : ℕ) (s s' : State) (run_stays : (q : ℕ) → s' (HasRun n q) ≡
       by (Runs d) e f r = absurd f
       by Ended e f r = absurd f
       by (Chosen d) e f r = absurd f
+      by (Listens channel d) e f r = absurd f
 
   -- a process that was interrupted
   pub interrupted_stays : (y : Name) → s' (Standing y) ≡ s (Standing y)
@@ -152,6 +154,7 @@ module _ (n : ℕ) (s s' : State) (run_stays : (q : ℕ) → s' (HasRun n q) ≡
       by Ended e f r = absurd f
       by (Chooses d) e f r = absurd f
       by (Chosen d) e f r = absurd f
+      by (Listens channel d) e f r = absurd f
 
 -- where one process alone stands elsewhere, each other one keeps its seat
 module _ (n : ℕ) (x : Name) (s s' : State)
@@ -195,6 +198,7 @@ queued_not_running node process (Waits d) f = refl
 queued_not_running node process Ended f = refl
 queued_not_running node process (Chooses d) f = refl
 queued_not_running node process (Chosen d) f = refl
+queued_not_running node process (Listens channel d) f = refl
 
 pub waiting_not_running : (node : Node) (process : ℕ) (stand : Stand) → Fits node (Waiting process) stand
     → is_running (IsStand stand) ≡ false
@@ -205,3 +209,4 @@ waiting_not_running node process (Waits d) f = refl
 waiting_not_running node process Ended f = refl
 waiting_not_running node process (Chooses d) f = refl
 waiting_not_running node process (Chosen d) f = refl
+waiting_not_running node process (Listens channel d) f = refl

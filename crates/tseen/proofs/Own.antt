@@ -21,6 +21,7 @@ use Rattle.tproc.specs.Machine.{Control, Machine, workspace_of, descheduled}
 use Rattle.tproc.specs.ProcessStatus.{live}
 use Rattle.tproc.specs.Queues.{iptr_word}
 use Rattle.tproc.specs.Placement.{IsPlaced}
+use Rattle.tproc.specs.declared.channels.Side.TheVariants.{Input}
 use Rattle.tproc.specs.SavedWords.{WordStands, SavedStand}
 use Rattle.tproc.specs.Steps.{step}
 use Rattle.tproc.proofs.Placed.{step_keeps_placed}
@@ -28,9 +29,9 @@ use Rattle.tproc.proofs.SavedWords.{saved_words_stand}
 use Rattle.tnet.specs.Rendezvous.{Node}
 use Rattle.tplan.specs.Wires.{end_at}
 use Rattle.tprocesses.specs.Places.{Place, Name, WordAt, Sending, Standing, Ports}
-use Rattle.tprocesses.specs.Places.{Half, LinkHalf, Life, Population, HasRun}
+use Rattle.tprocesses.specs.Places.{Half, LinkHalf, Unfinished, Life, Population, HasRun}
 use Rattle.tprocesses.specs.Places.{Error, HaltOnError, same_name}
-use Rattle.tprocesses.specs.Values.{Chosen, Chooses, Value, Free, Context, Stand, Absent, Rests, Runs}
+use Rattle.tprocesses.specs.Values.{Chosen, Listens, Chooses, Value, Free, Context, Stand, Absent, Rests, Runs}
 use Rattle.tprocesses.specs.Values.{Waits, Ended}
 use Rattle.tprocesses.specs.Values.{IsStand, IsFlag, IsAmount, word_in, stand_in}
 use Rattle.tprocesses.specs.Touching.{word_number}
@@ -45,6 +46,7 @@ use Rattle.tseen.specs.Shown.{ShowsNode}
 use Rattle.tseen.proofs.After.{State}
 use Rattle.tseen.proofs.Choices.{is_lasting, lasting_not_free, stands_alike, quiet_alike, alternative_alike, none_is}
 use Rattle.tseen.proofs.Choices.{choices_stay}
+use Rattle.tseen.proofs.InputChannels.{descriptors_stay, inputs_stay}
 use Rattle.tseen.proofs.Unclaimed.{aside_not_free}
 use Rattle.tseen.proofs.Cells.{use_of, Knows, IsWhole, Tells, shows_from, range-at, range-length}
 use Rattle.tseen.proofs.Written.{is_word_of}
@@ -208,6 +210,7 @@ module _ (p : Plan) (plan : NodePlan) (n : ℕ) (s t s' : State) (named : Seat �
       by (Waits d) e f r = absurd f
       by Ended e f r = absurd f
       by (Chooses d) e f r = absurd f
+      by (Listens channel d) e f r = absurd f
 
   waits_seated : (process : ℕ) (y : Name) → is_taken m (Waiting process) ≡ true
       → IsSeated s n node (Waiting process) y → IsSeated s' n node' (Waiting process) y
@@ -244,6 +247,7 @@ module _ (p : Plan) (plan : NodePlan) (n : ℕ) (s t s' : State) (named : Seat �
       by (Runs d) e f r = absurd f
       by Ended e f r = absurd f
       by (Chosen d) e f r = absurd f
+      by (Listens channel d) e f r = absurd f
 
   current_seated : IsSeated s' n node' Current x
   current_seated =
@@ -348,6 +352,7 @@ module _ (p : Plan) (plan : NodePlan) (n : ℕ) (s t s' : State) (named : Seat �
           by_stand Ended f h = absurd f
           by_stand (Chooses d) f h = absurd f
           by_stand (Chosen d) f h = absurd f
+          by_stand (Listens channel d) f h = absurd f
 
           with_seat : IsSeated s' n node' Interrupted (named Interrupted) → s' (HasRun n 1) ≡ IsFlag true
           with_seat q = by_stand q.stand q.fits q.has_run
@@ -404,10 +409,12 @@ module _ (p : Plan) (plan : NodePlan) (n : ℕ) (s t s' : State) (named : Seat �
             (λ j e. sym (uses j) ∙ e) (λ a side. at (Half n a side) refl refl) (λ q. refl)
             (on.tells.length ∙ sym shown.size) (λ a h e. lasting_word a h (ap is_lasting e)) shown.channels;
         links = λ l h. link_stays s s' n named named sent node node' l (λ w. refl)
-            (λ side. at (LinkHalf (end_at n l) side) refl refl) refl refl (shown.links l h);
+            (λ side. at (LinkHalf (end_at n l) side) refl refl) (at (Unfinished (end_at n l)) refl refl)
+            (descriptors_stay s s' n m.links node.machine.store shown.choices alternatives l h) refl refl
+            (shown.links l h);
         processes = processes';
-        choices = choices_stay s s' n node.machine.store store'
-            (λ y h. stands_alike p s s' n x (λ y other. at (Standing y) other refl) alternative_stays y)
+        choices = choices_stay s s' n m.links m.links node.machine.store store'
+            (inputs_stay s s' n m.links m.links (λ l. at (LinkHalf (end_at n l) Input) refl refl) refl) alternatives
             (λ y h e. quiet_alike p s s' n x (λ y other. at (Standing y) other refl) quiet_now y e)
             (λ y h. at (Ports y) refl refl) (λ a side. at (Half n a side) refl refl)
             (λ j e z. ap amount_in (at (Sending n j) refl refl) ∙ z) (λ j e. went.others (WordAt n j) refl
@@ -429,3 +436,6 @@ module _ (p : Plan) (plan : NodePlan) (n : ℕ) (s t s' : State) (named : Seat �
               → (c'.choice ≡ None) ⊎ (c'.wptr ≡ c.wptr)
           by (inl e) = inl (none_is c'.choice e)
           by (inr e) = inr (knows.wptr ∙ sym (eqb-true _ _ e) ∙ sym same_wptr)
+
+      alternatives : (y : Name) → y.node ≡ n → alternative_at s' n y ≡ alternative_at s n y
+      alternatives y h = stands_alike p s s' n x (λ y other. at (Standing y) other refl) alternative_stays y

@@ -107,7 +107,7 @@ module _ (p : Plan) (c : Configuration) (s : State) (n : ℕ) (x : Name) (k : Is
         waits = false;
       })) running.registers.wptr
 
-  pub has : HasChoice s n store x own
+  pub has : HasChoice s n m.links store x own
   has = shown.choices.choices x own running.home own_is
 
   pub lies : LiesWord (length store) address
@@ -132,7 +132,7 @@ module _ (p : Plan) (c : Configuration) (s : State) (n : ℕ) (x : Name) (k : Is
 
   -- or its word
   pub other_word : (y : Name) (b : Alternative) → same_name x y ≡ false → y.node ≡ n → alternative_at s n y ≡ Some b
-      → HasChoice s n store y b → below b.wptr 3 ≢ below w 3
+      → HasChoice s n m.links store y b → below b.wptr 3 ≢ below w 3
   other_word y b f home e it same =
       no_other y b f home e (one_workspace site running.whole b.wptr w it.small.1 has.small.1
       (subst (λ z. word_place_break z (word_below b.wptr 3) ≡ None) shown.size it.placed)

@@ -26,12 +26,12 @@ use Rattle.tproc.specs.LinkChannels.{is_link}
 use Rattle.tproc.specs.Queues.{not_process}
 use Rattle.tplan.specs.declared.plan.Plan.{Plan}
 use Rattle.tnet.specs.Rendezvous.{Configuration}
-use Rattle.tprocesses.specs.Places.{Name}
-use Rattle.tprocesses.specs.Values.{Runs}
-use Rattle.tprocesses.specs.Machine.{Process, Channel, site_of}
+use Rattle.tprocesses.specs.Places.{Name, Standing}
+use Rattle.tprocesses.specs.Values.{Stand, Runs, Listens, stand_in}
+use Rattle.tprocesses.specs.Machine.{Agent, Process, Channel, site_of}
 use Rattle.tprocesses.specs.Scheduling.{schedules}
 use Rattle.tprocesses.specs.Certified.{ProcessStep, IsCertificate}
-use Rattle.tseen.specs.Alternatives.{FollowsTwice}
+use Rattle.tseen.specs.Alternatives.{FollowsTwice, LeadsOrListens, carrier_of}
 use Rattle.tseen.specs.Steps.{IsCurrent, Makes, LeadsTo, next_of, yields}
 use Rattle.tseen.specs.Ended.{left_to_end, successor_of}
 use Rattle.tseen.specs.Messages.{is_message, Communicates, channel_of, channel_word}
@@ -54,7 +54,8 @@ use Rattle.tseen.proofs.Due.{process_due}
 use Rattle.tseen.proofs.DueNext.{low_jump_due}
 use Rattle.tplan.specs.declared.plan.End.{End}
 use Rattle.tseen.specs.Carried.{handed}
-use Rattle.tseen.proofs.Reached.{IsComeTo, GoesOn, Progress, hands_nothing, nothing_more, never, few, on, told}
+use Rattle.tseen.proofs.Reached.{IsComeTo, GoesOn, Progress, hands_nothing, nothing_more, none_more, never, few, on}
+use Rattle.tseen.proofs.Reached.{told}
 
 -- the own step of a node leads to what is shown by a state of a run
 pub record Leads (p : Plan) (c : Configuration) (n : ℕ) (s : State) (r : IsComeTo p s) : Type 0 where
@@ -195,22 +196,35 @@ module _ (p : Plan) (steps : List ProcessStep) (end : State) (k : IsCertificate 
         quiet = λ e. nothing_more p (Channel n (channel_of both)) s' first.reached second e refl _ (first_quiet e);
       }
 
+  -- `disc`
+  disabling : (stand : Stand) → LeadsOrListens stand p c n x s' → Leads p c n s r
+  disabling (Listens channel d) more =
+      let second : GoesOn p (Process x) s' first.reached = on p steps end k s' first.reached (Process x) more.0 in
+      record {
+        state = second.state;
+        reached = second.reached;
+        leads = more.1 second.state second.makes;
+        progress = inl (omega (arith, first.longer, second.longer));
+        quiet = λ e. nothing_more p (Process x) s' first.reached second e refl _ (first_quiet e);
+      }
+  disabling _ l = leading l
+
   -- `altwt`
   awaiting : LeadsTo p c n s' ⊎ FollowsTwice p c n x s' → Leads p c n s r
   awaiting (inl l) = leading l
-  awaiting (inr (channel, due, more)) =
-      let second : GoesOn p (Channel n channel) s' first.reached =
-      on p steps end k s' first.reached (Channel n channel) due in
+  awaiting (inr (channel, enabled_there, due, more)) =
+      let a : Agent = carrier_of n channel in
+      let second : GoesOn p a s' first.reached = on p steps end k s' first.reached a due in
       let last = more second.state second.makes in
       let third : GoesOn p (Process x) second.state second.reached =
-      on p steps end k second.state second.reached (Process x) last.0 in
+      on p steps end k second.state second.reached (Process x) last.1.0 in
       record {
         state = third.state;
         reached = third.reached;
-        leads = last.1 third.state third.makes;
+        leads = last.1.1 third.state third.makes;
         progress = inl (omega (arith, first.longer, second.longer, third.longer));
         quiet = λ e. nothing_more p (Process x) second.state second.reached third e refl _
-            (nothing_more p (Channel n channel) s' first.reached second e refl _ (first_quiet e));
+            (none_more p a s' first.reached second e last.0 _ (first_quiet e));
       }
 
   -- a message
@@ -262,7 +276,7 @@ module _ (p : Plan) (steps : List ProcessStep) (end : State) (k : IsCertificate 
   operation Enbc next = leading (enbc_is_seen p c s s' n x now next makes stops_nowhere)
   operation Enbs next = leading (skips_are_seen p c s s' n x now next makes stops_nowhere)
   operation Altwt next = awaiting (awaits_are_seen p c s s' n x now next makes stops_nowhere)
-  operation Disc next = leading (disc_is_seen p c s s' n x now next makes stops_nowhere)
+  operation Disc next = disabling (stand_in (s' (Standing x))) (disc_is_seen p c s s' n x now next makes)
   operation Diss next = leading (diss_is_seen p c s s' n x now next makes stops_nowhere)
   operation Altend next = leading (altend_is_seen p c s s' n x now next makes stops_nowhere)
   operation o next = absurd (never_done o next (λ u i. tt))

@@ -17,8 +17,8 @@ use Rattle.tproc.specs.ProcessStatus.{reason_of}
 use Rattle.tplan.specs.declared.plan.Plan.{Plan}
 use Rattle.tnet.specs.Rendezvous.{Configuration}
 use Rattle.tprocesses.specs.Places.{Name, Standing, Half, HasRun, same_name, same_place}
-use Rattle.tprocesses.specs.Values.{Chosen, Chooses, TakenBy, Value, Context, Stand, Absent, Rests, Runs, Waits}
-use Rattle.tprocesses.specs.Values.{Ended, Request, IsStand}
+use Rattle.tprocesses.specs.Values.{Chosen, Listens, Chooses, TakenBy, Value, Context, Stand, Absent, Rests, Runs}
+use Rattle.tprocesses.specs.Values.{Waits, Ended, Request, IsStand}
 use Rattle.tprocesses.specs.Values.{IsHalf}
 use Rattle.tprocesses.specs.Values.{IsFlag}
 use Rattle.tprocesses.specs.Touching.{Site}
@@ -167,6 +167,7 @@ module _ (p : Plan) (c : Configuration) (s : State) (n : ℕ) (x : Name) (k : Is
       by_stand q (Chooses d) e f r =
           absurd (no_choice (opposite side) channel asked (one_reason (sym waits ∙ f.2)))
       by_stand q (Chosen d) e f r = absurd f
+      by_stand q (Listens channel d) e f r = absurd f
 
       with_seat : IsSeated s n k.node (Waiting partner) (named (Waiting partner)) → IsPartner
       with_seat q = by_stand q q.stand q.stands q.fits q.has_run

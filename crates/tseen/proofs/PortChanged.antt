@@ -5,14 +5,17 @@ use Rattle.tword.specs.declared.span.Span.{Span}
 use Rattle.tseen.specs.Seats.{Waiting}
 use Rattle.tproc.specs.ProcessStatus.{reason_of}
 use Rattle.std.proofs.lemmas.Bool.{eq-eqb, ne_eqb}
-use Rattle.tseen.proofs.Finished.{place_itself}
+use Rattle.tseen.proofs.Finished.{place_itself, one_name}
+use Rattle.tseen.proofs.InputChannels.{unfired_enabler, input_is_link}
+use Rattle.tseen.proofs.Staying.{link_stays}
 use Rattle.tseen.specs.Halves.{IsTakenHalf, HasHolder, reason_at}
 use Rattle.tprocesses.specs.Values.{Holder, Nobody, TakenBy, EnabledBy, AwaitedBy, Request, IsHalf}
 use Rattle.std.specs.Prelude.{◌==◌, ◌&&◌}
 use Rattle.tseen.proofs.ChoicePlain.{is_for_choice, for_choice_open, not_open_for_choice, alternative_context}
 use Rattle.tseen.proofs.ChoiceShown.{is_choice_place}
-use Rattle.std.proofs.Common.{◌≡◌, ◌≢◌, ℕ, ◌+◌, ◌*◌, ◌/◌, ◌≤◌, refl, sym, ap, subst, ◌∙◌, Bool, true, false, true≢false}
-use Rattle.std.proofs.Common.{length, arith, ◌⊎◌, inl, inr, Some, None, get_or}
+use Rattle.std.proofs.Common.{◌≡◌, ◌≢◌, ℕ, ◌+◌, ◌*◌, ◌/◌, ◌≤◌, refl, sym, ap, subst, ◌∙◌, Bool, true, false}
+use Rattle.std.proofs.Common.{true≢false}
+use Rattle.std.proofs.Common.{length, arith, ◌⊎◌, inl, inr, Option, Some, None, get_or, option_map, ◌<◌}
 use Rattle.std.proofs.lemmas.Bool.{cases_eq}
 use Rattle.tword.specs.Words.{most_neg, word_below}
 use Rattle.tword.specs.Stores.{Store, place, word_at}
@@ -23,9 +26,11 @@ use Rattle.tproc.specs.declared.channels.Side.TheVariants.{Input, Output}
 use Rattle.tproc.specs.Machine.{Control}
 use Rattle.tplan.specs.declared.plan.Plan.{Plan}
 use Rattle.tnet.specs.Rendezvous.{Configuration}
-use Rattle.tprocesses.specs.Places.{Place, Name, WordAt, Standing, Ports, Half, same_name}
+use Rattle.tprocesses.specs.Places.{Place, Name, WordAt, Standing, Ports, Half, LinkHalf, Unfinished, same_name}
+use Rattle.tplan.specs.Wires.{end_at}
+use Rattle.tproc.specs.LinkChannels.{is_link}
 use Rattle.tprocesses.specs.Values.{Value, Engaged, Choosing, Awaiting, Context}
-use Rattle.tprocesses.specs.Values.{Runs, IsStand, word_in, stand_in, half_in}
+use Rattle.tprocesses.specs.Values.{Runs, IsStand, word_in, stand_in, half_in, link_in}
 use Rattle.tprocesses.specs.Choosing.{is_taken}
 use Rattle.tprocesses.specs.Touching.{Site, word_number}
 use Rattle.tprocesses.specs.Machine.{site_of}
@@ -34,7 +39,8 @@ use Rattle.tseen.specs.Seats.{Seat}
 use Rattle.tseen.specs.Words.{use_at}
 use Rattle.tseen.specs.Halves.{ShowsChannels}
 use Rattle.tseen.specs.Choices.{Alternative, alternative_of, alternative_at, is_quiet, enabler, enabler_at}
-use Rattle.tseen.specs.Choices.{enables, is_sent, HasChoice, IsEnabled, state_use}
+use Rattle.tseen.specs.Choices.{enables, enabler_on, link_enabler, input_at, input_channel, unfired, descriptor_at}
+use Rattle.tseen.specs.Choices.{is_sent, HasChoice, HasEnabled, IsEnabled, IsEnabledLink, state_use}
 use Rattle.tseen.specs.Shown.{ShowsNode}
 use Rattle.tseen.specs.Steps.{IsCurrent}
 use Rattle.tseen.proofs.After.{State}
@@ -86,6 +92,7 @@ module _ (p : Plan) (c : Configuration) (s : State) (n : ℕ) (x : Name) (k : Is
       pub same_wptr : after.wptr ≡ w
       pub same_error : after.error ≡ m.registers.error
       pub same_halting : after.halt_on_error ≡ m.registers.halt_on_error
+      pub internal : is_link channel ≡ false
       pub placed : word_place_break (length store) channel ≡ None
       pub others : (q : Place) → is_word_of n q ≡ false → is_stand_of x q ≡ false → is_port_of n x channel q ≡ false
           → s' q ≡ s q
@@ -113,11 +120,11 @@ module _ (p : Plan) (c : Configuration) (s : State) (n : ℕ) (x : Name) (k : Is
           → (is_sent s n channel ≡ true) ⊎ (enabler holder ≡ Some x)
       pub engaged_before : is_sent s n channel ≡ true → use_of s n j ≡ Engaged
       -- the alternative of the process
-      pub own_choice : (a : Alternative) → alternative_at s' n x ≡ Some a → HasChoice s' n last x a
+      pub own_choice : (a : Alternative) → alternative_at s' n x ≡ Some a → HasChoice s' n m.links last x a
       pub own_apart : (y : Name) (b : Alternative) → same_name x y ≡ false → y.node ≡ n → alternative_at s n y ≡ Some b
           → b.wptr ≡ w → (a : Alternative) → alternative_at s' n x ≡ Some a → ⊥
       pub own_word : (y : Name) (b : Alternative) → same_name x y ≡ false → y.node ≡ n → alternative_at s n y ≡ Some b
-          → HasChoice s n store y b → below b.wptr 3 ≢ below w 3
+          → HasChoice s n m.links store y b → below b.wptr 3 ≢ below w 3
       pub own_keeps : (a : Alternative) × (alternative_at s' n x ≡ Some a)
       pub ports_back : (e : ℕ) → (channel ≡ e → ⊥) → enables s' n x e ≡ true → enables s n x e ≡ true
       pub ports_on : (e : ℕ) → (channel ≡ e → ⊥) → enables s n x e ≡ true → enables s' n x e ≡ true
@@ -229,7 +236,7 @@ module _ (p : Plan) (c : Configuration) (s : State) (n : ℕ) (x : Name) (k : Is
           by (inr i) = sym (other_enabler e i) ∙ h
 
       state_stays : (y : Name) (b : Alternative) → same_name x y ≡ false → y.node ≡ n → alternative_at s n y ≡ Some b
-          → HasChoice s n store y b
+          → HasChoice s n m.links store y b
           → (s' (WordAt n (below b.wptr 3)) ≡ s (WordAt n (below b.wptr 3)))
           × (word_at last (word_below b.wptr 3) ≡ word_at store (word_below b.wptr 3))
       state_stays y b f home is it = by b.runs refl
@@ -274,7 +281,21 @@ module _ (p : Plan) (c : Configuration) (s : State) (n : ℕ) (x : Name) (k : Is
             g.same_wptr,
           )
 
-      changed_choice : IsChanged p s s' n store last x
+      input_is : (l : ℕ) → input_at s' n l ≡ input_at s n l
+      input_is l = ap link_in (g.others (LinkHalf (end_at n l) Input) refl refl refl)
+
+      on_is : (l : ℕ) → enabler_on s' n l ≡ enabler_on s n l
+      on_is l = ap link_enabler (input_is l)
+
+      has_enabled : (e : ℕ) → (channel ≡ e → ⊥) → HasEnabled s n e x → HasEnabled s' n e x
+      has_enabled e i (inl (internal, f)) = inl (internal, other_enabler e i ∙ f)
+      has_enabled e i (inr (l, b, is, f)) = inr (l, b, is, on_is l ∙ f)
+
+      -- an input of a link is another channel
+      not_input : (l : ℕ) → l < 4 → channel ≡ input_channel l → ⊥
+      not_input l b e = true≢false (sym (input_is_link l b) ∙ ap is_link (sym e) ∙ g.internal)
+
+      changed_choice : IsChanged p s s' n m.links m.links store last x
       changed_choice =
           record {
             stands = λ y f home. ap (λ (v : Value). alternative_of (stand_in v)) (stand_stays y f);
@@ -291,8 +312,13 @@ module _ (p : Plan) (c : Configuration) (s : State) (n : ℕ) (x : Name) (k : Is
             own_quiet = ap (λ (v : Value). is_quiet (stand_in v)) g.stands;
             own_choice = g.own_choice;
             own_apart = λ a e y b f home is same. g.own_apart y b f home is (sym same ∙ workspace a e) a e;
+            linked = λ l y f h. on_is l ∙ h;
+            linked_back = λ l y f h. sym (on_is l) ∙ h;
+            awaited = λ l y f h. input_is l ∙ h;
+            noticed = λ l y f h. refl;
             own_ports = λ e home h. own_ports e home h (cases_eq channel e);
             own_enabled = λ e h. own_enabled e h (cases_eq channel e);
+            own_linked = own_linked;
           }
         where
           workspace : (a : Alternative) → alternative_at s' n x ≡ Some a → a.wptr ≡ w
@@ -302,17 +328,17 @@ module _ (p : Plan) (c : Configuration) (s : State) (n : ℕ) (x : Name) (k : Is
               ∙ g.knows.wptr ∙ g.same_wptr
 
           own_ports : (e : ℕ) → x.node ≡ n → enables s' n x e ≡ true → (channel ≡ e) ⊎ (channel ≡ e → ⊥)
-              → (a : Alternative) × (alternative_at s' n x ≡ Some a) × (enabler_at s' n e ≡ Some x)
+              → (a : Alternative) × (alternative_at s' n x ≡ Some a) × HasEnabled s' n e x
           own_ports e home h (inl i) = (
             g.own_keeps.0,
             g.own_keeps.1,
-            subst (λ z. enabler_at s' n z ≡ Some x) i
-                (enabler_now ∙ g.port_back (ap (enables s' n x) i ∙ h)),
+            subst (λ z. HasEnabled s' n z x) i
+                (inl (g.internal, enabler_now ∙ g.port_back (ap (enables s' n x) i ∙ h))),
           )
           own_ports e home h (inr i) = (
             g.own_keeps.0,
             g.own_keeps.1,
-            other_enabler e i ∙ (shown.choices.owner x e home (g.ports_back e i h)).2,
+            has_enabled e i (shown.choices.owner x e home (g.ports_back e i h)).2,
           )
 
           own_enabled : (e : ℕ) → enabler_at s' n e ≡ Some x → (channel ≡ e) ⊎ (channel ≡ e → ⊥)
@@ -325,6 +351,7 @@ module _ (p : Plan) (c : Configuration) (s : State) (n : ℕ) (x : Name) (k : Is
               let own = shown.choices.owner x e old.home old.port in
               let still = other_channel e i old.placed old.engaged in
               record {
+                internal = old.internal;
                 home = old.home;
                 port = g.ports_on e i old.port;
                 placed = subst (λ z. word_place_break z e ≡ None) (sym same_size) old.placed;
@@ -334,13 +361,50 @@ module _ (p : Plan) (c : Configuration) (s : State) (n : ℕ) (x : Name) (k : Is
                     (sym (ap (λ (v : Value). alternative_of (stand_in v)) g.stands) ∙ l)).3));
               }
 
+          own_linked : (l : ℕ) → l < 4 → enabler_on s' n l ≡ Some x → IsEnabledLink s' n l x
+          own_linked l b h =
+              let old : IsEnabledLink s n l x = shown.choices.linked l x b (sym (on_is l) ∙ h) in
+              record {
+                home = old.home;
+                port = g.ports_on (input_channel l) (not_input l b) old.port;
+                awaited = λ a i f. absurd (true≢false (sym f ∙ (alternative_context true false d a
+                    (sym (ap (λ (v : Value). alternative_of (stand_in v)) g.stands) ∙ i)).3));
+              }
+
+      -- who has enabled the input of a link has the same descriptor
+      descriptor_is : (l : ℕ) → l < 4 → (y : Name) → unfired (input_at s n l) ≡ Some y
+          → descriptor_at s' n y ≡ descriptor_at s n y
+      descriptor_is l b y e = by (same_name x y) refl
+        where
+          old : IsEnabledLink s n l y
+          old = shown.choices.linked l y b (unfired_enabler (input_at s n l) y e)
+
+          own_is : x.node ≡ n → enables s n x (input_channel l) ≡ true → descriptor_at s' n x ≡ descriptor_at s n x
+          own_is home port =
+              let own = shown.choices.owner x (input_channel l) home port in
+              ap described g.own_keeps.1
+              ∙ ap (λ z. Some z) (sym (same_context own.0 g.own_keeps.0 own.1 g.own_keeps.1))
+              ∙ sym (ap described own.1)
+            where
+              described : Option Alternative → Option ℕ
+              described o = option_map (λ (a : Alternative). a.wptr + a.priority) o
+
+          by : (t : Bool) → same_name x y ≡ t → descriptor_at s' n y ≡ descriptor_at s n y
+          by false f = ap (λ (v : Value). option_map (λ (a : Alternative). a.wptr + a.priority)
+              (alternative_of (stand_in v))) (stand_stays y f)
+          by true f =
+              let same : x ≡ y = one_name p x y f in
+              subst (λ z. descriptor_at s' n z ≡ descriptor_at s n z) same
+              (own_is (ap (λ (z : Name). z.node) same ∙ old.home)
+              (ap (λ z. enables s n z (input_channel l)) same ∙ old.port))
+
       abbrev named : Seat → Name
       named = k.shows.named n
 
       -- the half of the channel that is taken
       taken_stays : (a : ℕ) (side : Side) (q : Request) → IsTakenHalf s n named k.node.machine a side q
           → s (Half n a side) ≡ IsHalf (TakenBy q) → (channel ≡ a) ⊎ (channel ≡ a → ⊥)
-          → IsTakenHalf s' n named (gone p c s n x k after count last) a side q
+          → IsTakenHalf s' n named (gone p c s n x k after count m.links last) a side q
       taken_stays a side q t e h =
           let still = of side e h in
           record {
@@ -361,7 +425,7 @@ module _ (p : Plan) (c : Configuration) (s : State) (n : ℕ) (x : Name) (k : Is
               (g.sent_stays (ap (λ z. is_sent s n z) i ∙ ap (λ (v : Value). is_taken (half_in v)) e))
           of _ e (inr i) = other_channel a i t.placed t.engaged
 
-      channels_now : ShowsChannels s' n named (gone p c s n x k after count last)
+      channels_now : ShowsChannels s' n named (gone p c s n x k after count m.links last)
       channels_now =
           record {
             taken = λ a side q e. taken a side q e (cases_eq channel a);
@@ -381,7 +445,8 @@ module _ (p : Plan) (c : Configuration) (s : State) (n : ℕ) (x : Name) (k : Is
           half_before a side q e (inr i) = sym (other_half a side i) ∙ e
 
           taken : (a : ℕ) (side : Side) (q : Request) → s' (Half n a side) ≡ IsHalf (TakenBy q)
-              → (channel ≡ a) ⊎ (channel ≡ a → ⊥) → IsTakenHalf s' n named (gone p c s n x k after count last) a side q
+              → (channel ≡ a) ⊎ (channel ≡ a → ⊥)
+              → IsTakenHalf s' n named (gone p c s n x k after count m.links last) a side q
           taken a side q e h =
               let old = half_before a side q e h in
               taken_stays a side q (shown.channels.taken a side q old) old h
@@ -438,7 +503,7 @@ module _ (p : Plan) (c : Configuration) (s : State) (n : ℕ) (x : Name) (k : Is
               held a z (inr (y, l)) (inl h) = absurd (f (ap word_number h ∙ z))
 
       -- so the process has gone on
-      pub port_gone : HasGone p c s n x k s' after count last d
+      pub port_gone : HasGone p c s n x k s' after count m.links last d
       port_gone =
           record {
             tells = g.tells;
@@ -452,7 +517,14 @@ module _ (p : Plan) (c : Configuration) (s : State) (n : ℕ) (x : Name) (k : Is
             only = λ i h. g.only i (λ e. true≢false (sym g.open_before ∙ ap (λ z. is_open (use_of s n z)) e ∙ h))
                 (not_open_for_choice (use_of s n (i / 4)) h);
             channels = channels_now;
-            choices = choices_changed p s s' n store last x changed_choice shown.choices;
+            choices = choices_changed p s s' n m.links m.links store last x changed_choice shown.choices;
+            same_inputs = λ l. refl;
+            same_claims = refl;
+            notices = λ l e. e;
+            linked = λ l b. link_stays s s' n named named (k.shows.sent n) k.node
+                (record k.node { machine = gone p c s n x k after count m.links last }) l (λ w. refl)
+                (λ side. g.others (LinkHalf (end_at n l) side) refl refl refl)
+                (g.others (Unfinished (end_at n l)) refl refl refl) (descriptor_is l b) refl refl (shown.links l b);
           }
         where
           opened : (i : ℕ) → (j ≡ i) ⊎ (j ≡ i → ⊥) → (s' (WordAt n i) ≡ s (WordAt n i))

@@ -1,6 +1,6 @@
 -- The states that runs of a plan with a certificate come to.
 use Rattle.tword.specs.Stores.{Store}
-use Rattle.std.proofs.Common.{Option, refl, false, ap, ◌∙◌, ◌≡◌, ℕ, suc, ◌<◌, ◌≤◌, ◌⊎◌, List, [], ◌∷◌, ◌++◌, length}
+use Rattle.std.proofs.Common.{refl, false, ap, ◌∙◌, ◌≡◌, ℕ, suc, ◌<◌, ◌≤◌, ◌⊎◌, List, [], ◌∷◌, ◌++◌, length}
 use Rattle.std.proofs.Common.{length-append, arith}
 use Rattle.tnet.specs.Rendezvous.{Configuration}
 use Rattle.tseen.proofs.Weights.{weight_of}
@@ -11,14 +11,14 @@ use Rattle.tprocesses.specs.Machine.{Agent, Wire, same_agent}
 use Rattle.tprocesses.specs.Certified.{ProcessStep, machine_of, IsCertificate, KeptFlags}
 use Rattle.tprocesses.proofs.Tidy.{certificates_tell_of_all_runs}
 use Rattle.tseen.specs.Begun.{TellsRuns, HasFew}
-use Rattle.tseen.specs.AgentSteps.{AgentMakes, HasStep, NothingStops}
+use Rattle.tseen.specs.AgentSteps.{AgentMakes, HasStep, HandsNone, NothingStops}
 use Rattle.tseen.proofs.After.{State}
 use Rattle.tseen.proofs.Certified.{run_more, certified_runs_never_stop}
 use Rattle.tseen.proofs.Grown.{kept_flags_throughout, runs_are_told}
 use Rattle.tseen.proofs.Fewest.{few_throughout}
 use Rattle.tplan.specs.declared.plan.End.{End}
 use Rattle.tseen.specs.Carried.{handed}
-use Rattle.tseen.proofs.Carrying.{silent}
+use Rattle.tseen.proofs.Carrying.{silent, hands_none}
 
 -- a run of the process machine leads there
 abbrev pub IsComeTo : Plan → State → Type 0
@@ -40,9 +40,16 @@ hands_nothing p a s r g e other =
 
 -- nor do steps after which that holds already
 pub nothing_more : (p : Plan) (a : Agent) (s : State) (r : IsComeTo p s) (g : GoesOn p a s r) (e : End)
-    → same_agent a (Wire e) ≡ false → (before : List (Option Store)) → handed p e r.steps ≡ before
+    → same_agent a (Wire e) ≡ false → (before : List Store) → handed p e r.steps ≡ before
     → handed p e g.reached.steps ≡ before
 nothing_more p a s r g e other before h = hands_nothing p a s r g e other ∙ h
+
+-- nor does a wire that only makes a process go on
+pub none_more : (p : Plan) (a : Agent) (s : State) (r : IsComeTo p s) (g : GoesOn p a s r) (e : End)
+    → HandsNone g.makes → (before : List Store) → handed p e r.steps ≡ before
+    → handed p e g.reached.steps ≡ before
+none_more p a s r g e none before h =
+    ap (handed p e) g.last ∙ hands_none p e a s g.state g.makes r.steps none ∙ h
 
 -- a run went on while the net did, or it made steps of which only a limited number may come one after another
 abbrev pub Progress : (p : Plan) (s s' : State) → IsComeTo p s → IsComeTo p s' → Configuration → Configuration → Type 0

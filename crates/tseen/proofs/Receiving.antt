@@ -4,7 +4,8 @@ use Rattle.tseen.specs.Words.{is_set_aside}
 use Rattle.tseen.proofs.Choices.{is_lasting, lasting_not_saved, stands_alike, quiet_alike, choices_stay}
 use Rattle.tprocesses.specs.Values.{stand_in}
 use Rattle.tprocesses.specs.Places.{Ports}
-use Rattle.tseen.specs.Choices.{alternative_of, alternative_at, is_quiet}
+use Rattle.tseen.specs.Choices.{alternative_of, alternative_at, is_quiet, unfired, link_enabler, input_at, enabler_on}
+use Rattle.tseen.specs.Choices.{descriptor_at, remembered_at}
 use Rattle.std.proofs.Common.{◌≡◌, ◌≢◌, ℕ, zero, suc, ◌+◌, ◌-◌, ◌*◌, ◌<◌, ◌≤◌, ◌/◌, ◌%◌, refl, sym, ap, subst, ◌∙◌}
 use Rattle.std.proofs.Common.{Bool, true, false, true≢false, List, [], ◌∷◌, ◌++◌, length, length-append, get_or, cond}
 use Rattle.std.proofs.Common.{Contains, Option, Some, None, arith, ◌⊎◌, inl, inr}
@@ -49,19 +50,21 @@ use Rattle.tproc.proofs.WordsApart.{LiesWord}
 use Rattle.tnet.specs.Rendezvous.{Node}
 use Rattle.tplan.specs.Wires.{end_at, same_end}
 use Rattle.treduction.proofs.LinkActions.{dropped, finish_input_is, linked, last_before, without_in}
-use Rattle.tprocesses.specs.Places.{Place, Name, WordAt, Sending, Standing, Half, LinkHalf, same_name, same_side}
+use Rattle.tprocesses.specs.Places.{Place, Name, WordAt, Sending, Standing, Half, LinkHalf, Unfinished, same_name}
+use Rattle.tprocesses.specs.Places.{same_side}
 use Rattle.tprocesses.specs.Values.{Value, Use, Free, Saved, Receiving, Engaged, Context, Rests, Waits, Empty, Offered}
+use Rattle.tprocesses.specs.Values.{Fired}
 use Rattle.tprocesses.specs.Values.{IsStand, IsLink, link_in, word_in}
 use Rattle.tprocesses.specs.Changes.{Put}
 use Rattle.tprocesses.specs.Parts.{Breaks, WordInUse, require}
 use Rattle.tprocesses.specs.Touching.{Site, word_number, word_count, same_use, word_for, words_for, replaced, put}
 use Rattle.tprocesses.specs.LinkMessages.{node_receives, received_by}
-use Rattle.tprocesses.specs.Machine.{site_of, awaits_successor}
+use Rattle.tprocesses.specs.Machine.{site_of, awaits_successor, is_passable}
 use Rattle.tseen.specs.Known.{KnowsCells}
 use Rattle.tseen.specs.Seats.{Seat, Waiting}
 use Rattle.tseen.specs.Outputs.{Pending}
 use Rattle.tseen.specs.Words.{AreMarked, AreSavedWords, use_at}
-use Rattle.tseen.specs.Halves.{ShowsLink, half_asking, reason_at, request_of}
+use Rattle.tseen.specs.Halves.{ShowsLink, IsInput, reason_at, request_of}
 use Rattle.tseen.specs.Shown.{ShowsNode}
 use Rattle.tseen.specs.Steps.{IsSteady}
 use Rattle.tseen.proofs.Adding.{last_descheduled}
@@ -72,13 +75,15 @@ use Rattle.tseen.proofs.Cells.{knows-length, knows-at}
 use Rattle.tseen.proofs.ChannelsKept.{channels_kept}
 use Rattle.tseen.proofs.Finished.{is_stand_of, StandsNow}
 use Rattle.tseen.proofs.Frames.{node_at}
-use Rattle.tseen.proofs.Notices.{alike}
+use Rattle.tseen.proofs.NoticedOffers.{KeepsOffers}
+use Rattle.tseen.proofs.SetLinks.{alike}
 use Rattle.tseen.proofs.Others.{other_name}
 use Rattle.tseen.proofs.QueueLinks.{IsLinked, linked_then, linked_tells, word_alike}
 use Rattle.tseen.proofs.Receives.{input_receives}
 use Rattle.tseen.proofs.Rejoined.{joins, reason_before, reason_now, no_reason, same_queue, still_there}
 use Rattle.tseen.proofs.Sending.{wakes_then}
-use Rattle.tseen.proofs.Staying.{saved_words_stay, each_contained, half_asking_stays, used_one}
+use Rattle.tseen.proofs.InputChannels.{descriptors_stay, remembered_stays, remembers_nobody}
+use Rattle.tseen.proofs.Staying.{saved_words_stay, each_contained, input_renamed, used_one}
 use Rattle.tseen.proofs.TakenBack.{within_from}
 use Rattle.tseen.proofs.Waiting.{IsWaiting}
 use Rattle.tseen.proofs.Woken.{may_change, IsWoken, control', node', waiting, named', processes_woken}
@@ -229,7 +234,7 @@ module _ (p : Plan) (s : State) (n : ℕ) (plan : NodePlan) (named : Seat → Na
   fits_words k a b = omega (arith, a, b, many, lies.above, lies.within, shown.size, whole, lies.more)
 
   pub half_is : s (LinkHalf e Input) ≡ IsLink (Offered (request_of named inp))
-  half_is = (shown.links l small).input ∙ ap (λ o. IsLink (half_asking named o)) asks
+  half_is = subst (λ (o : Option Offer). IsInput named o (s (LinkHalf e Input))) asks (shown.links l small).input
 
   abbrev ended : LinkEnd
   ended = record (link_end m l) { input = None }
@@ -496,6 +501,13 @@ module _ (p : Plan) (s : State) (n : ℕ) (plan : NodePlan) (named : Seat → Na
     output_is : (j : ℕ) → (link_end (now t) j).output ≡ (link_end m j).output
     output_is j = ap (λ (z : LinkEnd). z.output) (link_now j) ∙ alike (λ (z : LinkEnd). z.output) m.links l j _ refl
 
+    pub noticed_is : (j : ℕ) → (link_end (now t) j).noticed ≡ (link_end m j).noticed
+    noticed_is j = ap (λ (z : LinkEnd). z.noticed) (link_now j) ∙ alike (λ (z : LinkEnd). z.noticed) m.links l j _ refl
+
+    remembered_is : (j : ℕ) → (link_end (now t) j).remembered ≡ (link_end m j).remembered
+    remembered_is j =
+        ap (λ (z : LinkEnd). z.remembered) (link_now j) ∙ alike (λ (z : LinkEnd). z.remembered) m.links l j _ refl
+
     other_link : (j : ℕ) → (j ≡ l → ⊥) → link_end (now t) j ≡ link_end m j
     other_link j h = link_now j ∙ get_or-set_other m.links l j ended quiet_end h
 
@@ -566,8 +578,7 @@ module _ (p : Plan) (s : State) (n : ℕ) (plan : NodePlan) (named : Seat → Na
 
     abbrev pub renamed_to : Seat → Name
     renamed_to =
-        named' p s t n plan named sent node shown placed process (LinkInput l) waits ls store' node.copied None
-        woken_there
+        named' p s t n plan named sent node shown placed process (LinkInput l) waits ls store' node.copied
 
     own_half : t (LinkHalf e Input) ≡ IsLink Empty
     own_half = k.rests.others (LinkHalf e Input) refl ∙ rw (eq-eqb n n refl, eq-eqb l l refl) refl
@@ -587,15 +598,57 @@ module _ (p : Plan) (s : State) (n : ℕ) (plan : NodePlan) (named : Seat → Na
     input_half : (j : ℕ) → (j ≡ l → ⊥) → t (LinkHalf (end_at n j) Input) ≡ s (LinkHalf (end_at n j) Input)
     input_half j h = other_half j Input (rw (eq-eqb n n refl, ne_eqb l j (λ f. h (sym f))) refl)
 
+    -- the alternatives stay
+    stand_stays : (y : Name) → same_name x y ≡ false → t (Standing y) ≡ s (Standing y)
+    stand_stays y h = stays (Standing y) h
+
+    alternative_now : alternative_at t n x ≡ None
+    alternative_now = ap (λ (v : Value). alternative_of (stand_in v)) k.rests.is
+
+    alternative_before : alternative_at s n x ≡ None
+    alternative_before = ap (λ (v : Value). alternative_of (stand_in v)) k.stood
+
+    alternatives : (y : Name) → alternative_at t n y ≡ alternative_at s n y
+    alternatives = stands_alike p s t n x stand_stays (alternative_now ∙ sym alternative_before)
+
+    -- nobody has enabled the input
+    empty_now : input_at t n l ≡ Empty
+    empty_now = ap link_in own_half
+
+    offered_before : input_at s n l ≡ Offered (request_of named inp)
+    offered_before = ap link_in half_is
+
+    inputs_kept : (j : ℕ) → (j ≡ l) ⊎ (j ≡ l → ⊥)
+        → (input_at t n j ≡ input_at s n j) ⊎ ((enabler_on t n j ≡ None) × (enabler_on s n j ≡ None))
+    inputs_kept j (inr f) = inl (ap link_in (input_half j f))
+    inputs_kept j (inl f) =
+        subst (λ i. (input_at t n i ≡ input_at s n i) ⊎ ((enabler_on t n i ≡ None) × (enabler_on s n i ≡ None))) (sym f)
+        (inr (ap link_enabler empty_now, ap link_enabler offered_before))
+
+    -- who has enabled an input is not the process that goes on
+    descriptors : (j : ℕ) → j < 4 → (y : Name) → unfired (input_at s n j) ≡ Some y
+        → descriptor_at t n y ≡ descriptor_at s n y
+    descriptors = descriptors_stay s t n m.links store shown.choices (λ y h. alternatives y)
+
+    remembers : (j : ℕ) → j < 4 → (j ≡ l) ⊎ (j ≡ l → ⊥) → remembered_at t n j ≡ remembered_at s n j
+    remembers j b (inr f) = remembered_stays s t n j (ap link_in (input_half j f)) (descriptors j b)
+    remembers j b (inl f) =
+        subst (λ i. remembered_at t n i ≡ remembered_at s n i) (sym f)
+        (remembers_nobody t n l (ap unfired empty_now) ∙ sym (remembers_nobody s n l (ap unfired offered_before)))
+
     link_received : (j : ℕ) → j < 4 → ShowsLink t n renamed_to sent (received t) j
     link_received j b =
         record {
           input = input (cases_eq j l);
           output = output_half j ∙ old.output;
+          unfinished = stays (Unfinished (end_at n j)) refl ∙ old.unfinished;
           offered = λ o f. old.offered o (sym (output_is j) ∙ f);
           fresh = λ f. old.fresh (sym (output_is j) ∙ f);
-          forgotten = ap (λ (z : LinkEnd). z.remembered) (link_now j)
-              ∙ alike (λ (z : LinkEnd). z.remembered) m.links l j _ refl ∙ old.forgotten;
+          unnoticed = λ o f. noticed_is j ∙ old.unnoticed o (still_input j o f).1;
+          remembered = λ f. remembered_is j ∙ old.remembered (sym (noticed_is j) ∙ f)
+              ∙ sym (remembers j b (cases_eq j l));
+          forgotten = λ f. remembered_is j ∙ old.forgotten (sym (noticed_is j) ∙ f);
+          fired = λ y f. noticed_is j ∙ old.fired y (fired y f (cases_eq j l));
           pending = λ q f g. (let o = old.pending q f g in (o.0, output_is j ∙ o.1));
         }
       where
@@ -603,15 +656,24 @@ module _ (p : Plan) (s : State) (n : ℕ) (plan : NodePlan) (named : Seat → Na
         old = shown.links j b
 
         input : (j ≡ l) ⊎ (j ≡ l → ⊥)
-            → t (LinkHalf (end_at n j) Input) ≡ IsLink (half_asking renamed_to (link_end (now t) j).input)
+            → IsInput renamed_to (link_end (now t) j).input (t (LinkHalf (end_at n j) Input))
         input (inl f) =
-            ap (λ i. t (LinkHalf (end_at n i) Input)) f ∙ own_half
-            ∙ ap (λ o. IsLink (half_asking renamed_to o)) (sym own_link)
-            ∙ ap (λ i. IsLink (half_asking renamed_to (link_end (now t) i).input)) (sym f)
+            subst (λ i. IsInput renamed_to (link_end (now t) i).input (t (LinkHalf (end_at n i) Input))) (sym f)
+            (subst (λ (o : Option Offer). IsInput renamed_to o (t (LinkHalf e Input))) (sym own_link)
+            (Empty, own_half, refl))
         input (inr f) =
-            input_half j f ∙ old.input
-            ∙ ap (λ (z : LinkEnd). IsLink (half_asking named z.input)) (sym (other_link j f))
-            ∙ ap IsLink (sym (half_asking_stays named renamed_to (link_end (now t) j).input (λ v. refl)))
+            subst (λ (z : LinkEnd). IsInput renamed_to z.input (t (LinkHalf (end_at n j) Input)))
+            (sym (other_link j f))
+            (input_renamed named renamed_to (link_end m j).input _ _ (λ o g. refl) (input_half j f) old.input)
+
+        fired : (y : Name) → t (LinkHalf (end_at n j) Input) ≡ IsLink (Fired y) → (j ≡ l) ⊎ (j ≡ l → ⊥)
+            → s (LinkHalf (end_at n j) Input) ≡ IsLink (Fired y)
+        fired y g (inr f) = sym (input_half j f) ∙ g
+        fired y g (inl f) =
+            absurd (differ (sym own_half ∙ ap (λ i. t (LinkHalf (end_at n i) Input)) (sym f) ∙ g))
+          where
+            differ : IsLink Empty ≡ IsLink (Fired y) → ⊥
+            differ e = cc
 
     -- the marks
     still_receiving : (j : ℕ) (o : Offer) → (link_end (now t) j).input ≡ Some o → (i : ℕ)
@@ -788,22 +850,14 @@ module _ (p : Plan) (s : State) (n : ℕ) (plan : NodePlan) (named : Seat → Na
           links = link_received;
           processes = processes_woken p s t n plan named sent node shown placed process (LinkInput l) waits ls store'
               node.copied None woken_there;
-          choices = choices_stay s t n store store'
-              (λ y h. stands_alike p s t n x stand_stays (alternative_now ∙ sym alternative_before) y)
+          choices = choices_stay s t n m.links (now t).links store store'
+              (record { inputs = λ j. inputs_kept j (cases_eq j l); noticed = λ j y f. noticed_is j })
+              (λ y h. alternatives y)
               (λ y h e. quiet_alike p s t n x stand_stays quiet_now y e) (λ y h. stays (Ports y) refl)
               (λ a side. stays (Half n a side) refl) (λ j e z. ap amount_in (stays (Sending n j) refl) ∙ z)
               (λ j e. word_stays j (lasting_not_receiving e)) size' lasting_word shown.choices;
         }
       where
-        stand_stays : (y : Name) → same_name x y ≡ false → t (Standing y) ≡ s (Standing y)
-        stand_stays y h = stays (Standing y) h
-
-        alternative_now : alternative_at t n x ≡ None
-        alternative_now = ap (λ (v : Value). alternative_of (stand_in v)) k.rests.is
-
-        alternative_before : alternative_at s n x ≡ None
-        alternative_before = ap (λ (v : Value). alternative_of (stand_in v)) k.stood
-
         quiet_now : is_quiet (stand_in (t (Standing x))) ≡ true
         quiet_now =
             ap (λ (v : Value). is_quiet (stand_in v)) k.rests.is
@@ -811,6 +865,14 @@ module _ (p : Plan) (s : State) (n : ℕ) (plan : NodePlan) (named : Seat → Na
 
         nobody : {X : Type 0} {x : X} → None ≡ Some x → ⊥
         nobody e = cc
+
+    -- it keeps what it offers, and notices nothing
+    pub received_keeps : KeepsOffers s t n node (received t)
+    received_keeps =
+        record {
+          offers = λ j h. ap (is_passable (LinkHalf (end_at n j) Output)) (output_half j) ∙ h;
+          notices = λ j h. sym (noticed_is j) ∙ h;
+        }
 
     -- other nodes stay
     pub received_elsewhere : (q : Place) → node_at q ≢ n → t q ≡ s q

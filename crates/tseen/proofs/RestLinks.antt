@@ -1,7 +1,7 @@
 -- Where no step of the rendezvous machine is lawful, no wire has a step.
 use Rattle.std.proofs.Common.{◌≡◌, ℕ, ◌+◌, ◌-◌, ◌*◌, ◌<◌, ◌≤◌, ◌%◌, refl, sym, ap, subst, ◌∙◌, List, [], ◌∷◌, ◌++◌}
 use Rattle.std.proofs.Common.{Bool, true, false, true≢false, length, Option, Some, None, arith, ◌⊎◌, inl, inr, sum}
-use Rattle.std.specs.Prelude.{◌&&◌, is_some, nat_le, slice_get, if◌then◌else◌}
+use Rattle.std.specs.Prelude.{◌&&◌, is_some, nat_le, slice_get}
 use Rattle.std.specs.List.{list_all}
 use Rattle.std.proofs.lemmas.Bool.{and_parts, cases_eq, cases_lt, leb-true}
 use Rattle.tword.specs.declared.breaks.Break.TheVariants.{LengthMismatch}
@@ -23,13 +23,13 @@ use Rattle.tplan.specs.Wires.{all_wires}
 use Rattle.tnet.specs.Building.{fault_of}
 use Rattle.tnet.specs.Rendezvous.{Node, Configuration, Copy, Wake, Freeze_at, Offers, Asks, Fits, Differs, node_of}
 use Rattle.tnet.specs.Rendezvous.{was_copied}
-use Rattle.tplan.specs.Wires.{end_at, far_end, same_end}
+use Rattle.tplan.specs.Wires.{end_at, far_end}
 use Rattle.treduction.specs.Ends.{IsOver as IsAtEnd}
 use Rattle.tagents.specs.Walks.{are_open}
-use Rattle.tprocesses.specs.Places.{Place, Name, WordAt, LinkHalf, Messages, Kept, Standing}
-use Rattle.tprocesses.specs.Values.{Chosen, Chooses, Value, Lent, Stand, Absent, Rests, Runs, Waits, Ended, Request}
-use Rattle.tprocesses.specs.Values.{Link, Empty}
-use Rattle.tprocesses.specs.Values.{Offered, Copied, IsStand, IsLink, AreMessages, AreKept, link_in, stand_in}
+use Rattle.tprocesses.specs.Places.{Place, Name, WordAt, LinkHalf, Unfinished, Messages, Kept, Standing}
+use Rattle.tprocesses.specs.Values.{Chosen, Listens, Chooses, Value, Lent, Stand, Absent, Rests, Runs, Waits, Ended}
+use Rattle.tprocesses.specs.Values.{Request, Link, Empty, Offered, Enabled, Awaited, Fired}
+use Rattle.tprocesses.specs.Values.{IsStand, IsFlag, IsLink, AreMessages, AreKept, link_in, stand_in}
 use Rattle.tprocesses.specs.Changes.{Put}
 use Rattle.tprocesses.specs.Parts.{Doing, change, require, telling, done, FullSink, ◌>>=◌, ◌>>◌}
 use Rattle.tprocesses.specs.Touching.{touch, part_of}
@@ -37,10 +37,11 @@ use Rattle.tprocesses.specs.Standing.{wakes, ready}
 use Rattle.tprocesses.specs.LinkMessages.{sent_by, keeps}
 use Rattle.tprocesses.specs.Machine.{Agent, Process, Channel, Successor, Wire, Processor, Source, Sink}
 use Rattle.tprocesses.specs.Machine.{process_machine}
-use Rattle.tprocesses.specs.Machine.{step_of, role_at, site_of, sender_to, joined_to, if_joined, gates_between}
-use Rattle.tprocesses.specs.Machine.{offer_place, take_place, is_passable, sends, receives, passes, Role as EndRole}
+use Rattle.tprocesses.specs.Machine.{step_of, role_at, site_of, sender_to, gates_between}
+use Rattle.tprocesses.specs.Machine.{is_offered, offer_place, take_place, is_passable, sends, receives, passes}
+use Rattle.tprocesses.specs.Machine.{Role as EndRole}
 use Rattle.tseen.specs.Outputs.{Pending, half_with}
-use Rattle.tseen.specs.Halves.{ShowsLink, half_asking, request_of}
+use Rattle.tseen.specs.Halves.{ShowsLink, IsInput, request_of}
 use Rattle.tseen.specs.Scripts.{ShowsSource, ShowsSink, to_come, messages_from}
 use Rattle.tseen.specs.Shown.{Shows, ShowsNode}
 use Rattle.tseen.specs.Steps.{AreSteady}
@@ -53,8 +54,10 @@ use Rattle.tseen.proofs.Resting.{over_from, stopped_shut, process_shut, channel_
 use Rattle.tseen.proofs.Resting.{node, here}
 use Rattle.tseen.proofs.Resting.{shown}
 use Rattle.tseen.proofs.Resting.{is_steady}
+use Rattle.tseen.proofs.RestAwaits.{awaited_shut}
+use Rattle.tseen.proofs.WireAsks.{passes_then}
 use Rattle.tseen.proofs.WireEnds.{IsNodeEnd, AreJoined, wire_joins}
-use Rattle.tseen.proofs.EndRoles.{found_at, node_role, source_role, sink_role}
+use Rattle.tseen.proofs.EndRoles.{found_at, node_role, source_role, sink_role, sender_is_far}
 
 -- a wire with this sender may go on
 abbrev are_passable : Plan → State → End → Option End → Bool
@@ -66,22 +69,6 @@ both_pass s q r h =
     let parts : (is_passable q (s q) ≡ true) × (list_all (λ q. is_passable q (s q)) (r ∷ []) ≡ true) =
     and_parts _ _ h in
     (parts.0, (and_parts _ _ parts.1).0)
-
--- the sender of a wire is the far end of its receiver
-sender_is_far : (p : Plan) (e f : End) → sender_to p e ≡ Some f → far_end (all_wires p) e ≡ Some f
-sender_is_far p e f h = by (far_end (all_wires p) e) h
-  where
-    joined : (g : End) (o : Option End) → if_joined e g o ≡ Some f → Some g ≡ Some f
-    joined g None k = cc
-    joined g (Some back) k = of (same_end back e) k
-      where
-        of : (b : Bool) → (if b then Some g else None) ≡ Some f → Some g ≡ Some f
-        of true k = k
-        of false k = cc
-
-    by : (o : Option End) → joined_to p e o ≡ Some f → o ≡ Some f
-    by None k = cc
-    by (Some g) k = joined g (far_end (all_wires p) g) k
 
 -- a process that is woken stands in another way, and what sinks kept is as it was
 wakes_then : (x : Name) (lent : Option Lent) (e : End) (s : State) (Q : Unit {0} → State → Type 0)
@@ -96,6 +83,7 @@ wakes_then x lent e s Q h = by (stand_in (s (Standing x)))
     by Ended = tt
     by (Chooses d) = tt
     by (Chosen d) = tt
+    by (Listens channel d) = tt
 
 module _ (p : Plan) (c : Configuration) (s : State) (none : fault_of p ≡ None) (shows : Shows p c s)
     (steady : AreSteady c) (over : IsAtEnd c) (never : NothingStops p s) where
@@ -175,7 +163,7 @@ module _ (p : Plan) (c : Configuration) (s : State) (none : fault_of p ≡ None)
 
         of : (q : Pending) → shows.sent f.node f.link ≡ Some q → (b : Bool) → q.copied ≡ b → HasOutput f
         of q e true h =
-            absurd (not_passable Copied (link.output ∙ ap (λ (o : Option Pending). IsLink (half_with o)) e
+            absurd (not_passable Empty (link.output ∙ ap (λ (o : Option Pending). IsLink (half_with o)) e
             ∙ ap (λ b. IsLink (half_with (Some (record { request = q.request; copied = b })))) h) refl)
         of q e false h =
             fresh q e h (link.output ∙ ap (λ (o : Option Pending). IsLink (half_with o)) e
@@ -191,32 +179,53 @@ module _ (p : Plan) (c : Configuration) (s : State) (none : fault_of p ≡ None)
     pub receiving : IsReceiving e
     pub role : receiving.node.role ≡ ProcessorRole
 
-  input_there : (e : End) → IsNodeEnd p e → is_passable (LinkHalf e Input) (s (LinkHalf e Input)) ≡ true → HasInput e
-  input_there e at_node passable = by (link_end receiver.machine.control e.link).input refl
+  -- or a process waits there for its input and for others
+  record HasWaiter (e : End) (at_node : IsNodeEnd p e) : Type 0 where
+    pub waiter : Name
+    pub half : s (LinkHalf e Input) ≡ IsLink (Awaited waiter)
+    pub no_input : (link_end (node p c s shows steady over never e.node (found_at p.nodes e.node at_node.0).0
+        (found_at p.nodes e.node at_node.0).1).machine.control e.link).input ≡ None
+
+  input_there : (e : End) (at_node : IsNodeEnd p e)
+      → is_passable (LinkHalf e Input) (s (LinkHalf e Input)) ≡ true → HasInput e ⊎ HasWaiter e at_node
+  input_there e at_node passable = by (link_end asked.machine.control e.link).input refl
     where
       plan : (x : NodePlan) × (slice_get p.nodes e.node ≡ Some x)
       plan = found_at p.nodes e.node at_node.0
 
-      receiver : Node
-      receiver = node p c s shows steady over never e.node plan.0 plan.1
+      asked : Node
+      asked = node p c s shows steady over never e.node plan.0 plan.1
 
-      there : ShowsNode s e.node plan.0 (shows.named e.node) (shows.sent e.node) receiver
+      there : ShowsNode s e.node plan.0 (shows.named e.node) (shows.sent e.node) asked
       there = shown p c s shows steady over never e.node plan.0 plan.1
 
-      by : (o : Option Offer) → (link_end receiver.machine.control e.link).input ≡ o → HasInput e
+      closed : (l : Link) → s (LinkHalf e Input) ≡ IsLink l → is_passable (LinkHalf e Input) (IsLink l) ≡ false → ⊥
+      closed l half shut = true≢false (sym passable ∙ ap (is_passable (LinkHalf e Input)) half ∙ shut)
+
+      waiter : (link_end asked.machine.control e.link).input ≡ None → (l : Link) → s (LinkHalf e Input) ≡ IsLink l
+          → is_offered l ≡ false → HasInput e ⊎ HasWaiter e at_node
+      waiter h (Awaited x) half idle = inr (record { waiter = x; half = half; no_input = h })
+      waiter h Empty half idle = absurd (closed Empty half refl)
+      waiter h (Offered q) half idle = absurd (true≢false idle)
+      waiter h (Enabled x) half idle = absurd (closed (Enabled x) half refl)
+      waiter h (Fired x) half idle = absurd (closed (Fired x) half refl)
+
+      by : (o : Option Offer) → (link_end asked.machine.control e.link).input ≡ o
+          → HasInput e ⊎ HasWaiter e at_node
       by None h =
-          absurd (true≢false (sym passable ∙ ap (is_passable (LinkHalf e Input)) ((there.links e.link at_node.1).input
-          ∙ ap (λ (o : Option Offer). IsLink (half_asking (shows.named e.node) o)) h)))
+          let k = subst (λ (o : Option Offer). IsInput (shows.named e.node) o (s (LinkHalf e Input))) h
+          (there.links e.link at_node.1).input in
+          waiter h k.0 k.1 k.2
       by (Some o) h =
-          record {
+          inl (record {
             receiving = record {
-              node = receiver;
+              node = asked;
               inp = o;
               asks = record { node = here p c s shows steady over never e.node plan.0 plan.1; input = h };
               works = there.works;
             };
             role = there.role;
-          }
+          })
 
   -- a source sends, if it has a message
   source_sends_there : (f : End) (k : ℕ) (source : SourcePlan) → slice_get p.sources k ≡ Some source
@@ -405,23 +414,28 @@ module _ (p : Plan) (c : Configuration) (s : State) (none : fault_of p ≡ None)
               (touch_then (site_of f.node plan.0) whole Reads output.request.buffer s _ words (λ ws touched.
               after_bind
               (wakes output.request.process (Some (record { link = f.link; buffer = output.request.buffer }))) _
-              (changed (LinkHalf f Output) (Put (IsLink Copied)) s) _
+              (changed (Unfinished f) (Put (IsFlag true)) (changed (LinkHalf f Output) (Put (IsLink Empty)) s)) _
               (wakes_then output.request.process (Some (record { link = f.link; buffer = output.request.buffer })) e
-              (changed (LinkHalf f Output) (Put (IsLink Copied)) s) _ (λ t same.
+              (changed (Unfinished f) (Put (IsFlag true)) (changed (LinkHalf f Output) (Put (IsLink Empty)) s)) _
+              (λ t same.
               full small (part_of output.request.buffer ws)
               (part-length s f.node plan.0.memory output.request.buffer ws whole
               (span_read s f.node plan.0.memory Reads output.request.buffer ws touched)
               ∙ ap (λ (z : Span). z.size) output.buffer) t same))))
 
+          no_sink : Sink ≡ Processor → ⊥
+          no_sink z = cc
+
           stops : After (step_of p (Wire e)) s (λ _ _. ⊥)
           stops =
               subst (λ (o : Option End). After (passes p o e) s (λ _ _. ⊥)) (sym joined)
+              (passes_then p e f s (λ _ _. ⊥) (λ r. absurd (no_sink (sym role ∙ r)))
               (after_bind (sends p (role_at p f.node) f) _ s (λ _ _. ⊥)
               (subst (λ r. After (sends p r f) s (λ message t. After (rest message) t (λ _ _. ⊥)))
               (sym (node_role p f.node at_node.0))
               (rw (plan.1, After)
               (subst (λ (v : Value). After (sent_by (site_of f.node plan.0) f (link_in v)) s
-              (λ message t. After (rest message) t (λ _ _. ⊥))) (sym output.half) sent))))
+              (λ message t. After (rest message) t (λ _ _. ⊥))) (sym output.half) sent)))))
 
   -- no wire has a step
   wire_shut : (e : End) → are_open (process_machine p) (Wire e) s ≡ true → ⊥
@@ -455,9 +469,20 @@ module _ (p : Plan) (c : Configuration) (s : State) (none : fault_of p ≡ None)
           asked_as : (r : EndRole) → role_at p e.node ≡ r → is_passable (take_place r e) (s (take_place r e)) ≡ true
           asked_as r h = subst (λ r. is_passable (take_place r e) (s (take_place r e)) ≡ true) h asked
 
+          -- a node asks for the message, or a process waits there for others too
+          taken : (a : IsNodeEnd p e) → IsSending f → HasInput e ⊎ HasWaiter e a → ⊥
+          taken a sending (inl input) = meets e f far sending input
+          taken a sending (inr w) =
+              awaited_shut p c s shows steady over never e f
+              (subst (λ ws. far_end ws e ≡ Some f) (sym shows.wires) far) h a sending.node sending.out sending.offers
+              w.waiter w.half w.no_input opened
+
+          no_source : Source ≡ Processor → ⊥
+          no_source z = cc
+
           joins : AreJoined p e f → ⊥
           joins (inl (a, inl b)) =
-              meets e f far
+              taken a
               (output_there f b (offered_as Processor (node_role p f.node b.0))).sending
               (input_there e a (asked_as Processor (node_role p e.node a.0)))
           joins (inl (a, inr b)) = from_script (cases_lt f.node (length p.nodes + length p.sources))
@@ -469,7 +494,7 @@ module _ (p : Plan) (c : Configuration) (s : State) (none : fault_of p ≡ None)
                   → ⊥
               from_script (inl small) =
                   let source = found_at p.sources k (omega (arith, b.0, small)) in
-                  meets e f far
+                  taken a
                   (source_sends_there f k source.0 source.1
                   (λ i. record { node = first i; link = b.2 i })
                   (offered_as Source (source_role p f.node b.0 small)))
@@ -478,10 +503,14 @@ module _ (p : Plan) (c : Configuration) (s : State) (none : fault_of p ≡ None)
                   first : f.node ≡ length p.nodes + k
                   first = omega (arith, b.0)
               from_script (inr past) =
-                  stopped_shut p s (Wire e) never
-                  (subst (λ (o : Option End). After (passes p o e) s (λ _ _. ⊥)) (sym h)
-                  (subst (λ r. After (sends p r f >>= after_message) s (λ _ _. ⊥))
-                  (sym (sink_role p f.node past (omega (arith, b.1)))) tt)) opened
+                  let i : ℕ = f.node - (length p.nodes + length p.sources) in
+                  let sink = found_at p.sinks i (omega (arith, past, b.1)) in
+                  let first : f.node ≡ length p.nodes + length p.sources + i = omega (arith, past) in
+                  let silent : s (LinkHalf f Output) ≡ IsLink Empty =
+                  subst (λ (z : End). s (LinkHalf z Output) ≡ IsLink Empty)
+                  (sym (λ j. record { node = first j; link = b.2 j })) (shows.sinks i sink.0 sink.1).2.silent in
+                  true≢false (sym (offered_as Sink (sink_role p f.node past (omega (arith, b.1))))
+                  ∙ ap (is_passable (LinkHalf f Output)) silent)
           joins (inr (a, b)) = to_script (cases_lt e.node (length p.nodes + length p.sources))
             where
               k : ℕ
@@ -492,10 +521,12 @@ module _ (p : Plan) (c : Configuration) (s : State) (none : fault_of p ≡ None)
               to_script (inl small) =
                   stopped_shut p s (Wire e) never
                   (subst (λ (o : Option End). After (passes p o e) s (λ _ _. ⊥)) (sym h)
+                  (passes_then p e f s (λ _ _. ⊥)
+                  (λ r. absurd (no_source (sym (source_role p e.node a.0 small) ∙ r)))
                   (after_bind (sends p (role_at p f.node) f) after_message s (λ _ _. ⊥)
                   (after_all (sends p (role_at p f.node) f) s _ (λ message t.
                   subst (λ r. After (receives p r e message >>= (λ _. telling message done)) t (λ _ _. ⊥))
-                  (sym (source_role p e.node a.0 small)) tt)))) opened
+                  (sym (source_role p e.node a.0 small)) tt))))) opened
               to_script (inr past) =
                   let sink = found_at p.sinks k (omega (arith, past, a.1)) in
                   sinks e f k sink.0 sink.1 (λ i. record { node = first i; link = a.2 i }) far h

@@ -1,6 +1,6 @@
 -- Where no step of the rendezvous machine is lawful, processors are idle, and no process, channel or successor has a
 -- step.
-use Rattle.tseen.specs.Choices.{alternative}
+use Rattle.tseen.specs.Choices.{alternative, is_due, is_sent}
 use Rattle.tprocesses.specs.Values.{Context, Choice}
 use Rattle.tprocesses.specs.Values.{stand_in, half_in}
 use Rattle.tseen.specs.Choices.{IsEnabled, enabler, alternative_of, Alternative}
@@ -33,7 +33,7 @@ use Rattle.treduction.specs.Ends.{IsOver as IsAtEnd}
 use Rattle.tagents.specs.Agents.{IsOver, Does}
 use Rattle.tagents.specs.Walks.{are_open, label_of, state_after}
 use Rattle.tprocesses.specs.Places.{Name, WordAt, Standing, Half}
-use Rattle.tprocesses.specs.Values.{EnabledBy, AwaitedBy, Nobody, Holder, Chosen, Chooses}
+use Rattle.tprocesses.specs.Values.{EnabledBy, AwaitedBy, Nobody, Holder, Chosen, Listens, Chooses}
 use Rattle.tprocesses.specs.Values.{TakenBy, Value, Stand, Absent, Rests}
 use Rattle.tprocesses.specs.Values.{Runs, Waits, Ended, IsStand, IsHalf, IsWord, Request}
 use Rattle.tprocesses.specs.Values.{word_in}
@@ -49,12 +49,12 @@ use Rattle.tseen.specs.AgentSteps.{NothingStops}
 use Rattle.tseen.proofs.After.{State, After, after_agent_step, if_open}
 
 -- a process waits for its alternative
-abbrev waits_for_choice : Stand → Bool
+abbrev pub waits_for_choice : Stand → Bool
 waits_for_choice (Chooses d) = true
 waits_for_choice _ = false
 
 -- its alternative says so
-waits_for_it : (d : Context) (a : Alternative) → alternative false true d ≡ Some a → a.waits ≡ true
+pub waits_for_it : (d : Context) (a : Alternative) → alternative false true d ≡ Some a → a.waits ≡ true
 waits_for_it d a e = by d.choice e
   where
     by : (o : Option Choice) → option_map (λ choice. record {
@@ -245,6 +245,7 @@ module _ (p : Plan) (c : Configuration) (s : State) (shows : Shows p c s) (stead
     waits (Waiting b) (Runs d) taken f = absurd f
     waits (Waiting b) Ended taken f = absurd f
     waits (Waiting b) (Chosen d) taken f = absurd f
+    waits (Waiting b) (Listens channel d) taken f = absurd f
 
     -- no process of the node is ready
     pub none_ready : (x : Name) → x.node ≡ n → (stand : Stand) × (s (Standing x) ≡ IsStand stand)
@@ -326,19 +327,23 @@ module _ (p : Plan) (c : Configuration) (s : State) (shows : Shows p c s) (stead
               step (Waits d) g h = rw (planned, e, f, g, After) tt
               step (Chosen d) g h = rw (planned, e, f, g, After) tt
               step Ended g h = rw (planned, e, f, g, After) tt
+              step (Listens channel d) g h = rw (planned, e, f, g, After) tt
 
           by : (stand : Stand) → stand_in (s (Standing y)) ≡ stand → ⊥
           by (Chooses d) g =
               let own = (shown n plan planned).choices.owner y a it.home it.port in
               let waits : own.0.waits ≡ true = waits_for_it d own.0 (sym (ap alternative_of g) ∙ own.1) in
               let unready = ((shown n plan planned).choices.choices y own.0 it.home own.1).unready waits in
-              true≢false (sym (ap (λ (v : Value). is_filled (half_in v)) f) ∙ unready.1 a it.port)
+              let due : is_due s n (node n plan planned).machine.control.links a ≡ is_sent s n a =
+              rw it.internal refl in
+              true≢false (sym (ap (λ (v : Value). is_filled (half_in v)) f) ∙ sym due ∙ unready.1 a it.port)
           by Absent g = stops Absent g refl
           by (Rests d) g = stops (Rests d) g refl
           by (Runs d) g = stops (Runs d) g refl
           by (Waits d) g = stops (Waits d) g refl
           by (Chosen d) g = stops (Chosen d) g refl
           by Ended g = stops Ended g refl
+          by (Listens channel d) g = stops (Listens channel d) g refl
 
       meet : (plan : NodePlan) → slice_get p.nodes n ≡ Some plan → (i o : Holder)
           → s (Half n a Input) ≡ IsHalf i → s (Half n a Output) ≡ IsHalf o → ⊥

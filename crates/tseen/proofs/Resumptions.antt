@@ -12,7 +12,7 @@ use Rattle.tproc.specs.Steps.{step}
 use Rattle.tplan.specs.declared.plan.Plan.{Plan}
 use Rattle.tnet.specs.Rendezvous.{Node, Configuration}
 use Rattle.tprocesses.specs.Places.{Name}
-use Rattle.tprocesses.specs.Values.{Chosen, Chooses, Stand, Absent, Rests, Runs, Waits, Ended}
+use Rattle.tprocesses.specs.Values.{Chosen, Listens, Chooses, Stand, Absent, Rests, Runs, Waits, Ended}
 use Rattle.tseen.specs.Known.{HasRegisters}
 use Rattle.tseen.specs.Seats.{Seat, Current, Interrupted, Queued, Waiting, is_taken}
 use Rattle.tseen.specs.Processes.{Fits, IsSeated, IsGone, HasFlags, ShowsProcesses}
@@ -22,6 +22,7 @@ use Rattle.tseen.specs.Interrupting.{IsResuming, ResumptionsAreSeen}
 use Rattle.tseen.proofs.After.{State}
 use Rattle.tseen.proofs.Nets.{leads_by}
 use Rattle.tseen.proofs.Staying.{channels_stay, link_stays}
+use Rattle.tseen.proofs.NoticedOffers.{outputs_stay}
 
 -- names where the interrupted process runs
 abbrev resumed_named : (Seat → Name) → Seat → Name
@@ -90,6 +91,7 @@ module _ (p : Plan) (c : Configuration) (s : State) (n : ℕ) (k : IsResuming p 
       by Ended f = absurd f
       by (Chooses d) f = absurd f
       by (Chosen d) f = absurd f
+      by (Listens channel d) f = absurd f
 
   seated : (q : Seat) → is_taken now.control q ≡ true → IsSeated s n node' q (named' q)
   seated Current h = current_seated
@@ -170,7 +172,7 @@ module _ (p : Plan) (c : Configuration) (s : State) (n : ℕ) (k : IsResuming p 
         channels = channels_stay s s n named named' k.node.machine now (λ w. refl) (λ j e. e) (λ j e. e)
             (λ a side. refl) (λ q. refl) refl (λ a h e. refl) shown.channels;
         links = λ l h. link_stays s s n named named' (k.shows.sent n) k.node node' l (λ w. refl) (λ side. refl)
-            refl refl (shown.links l h);
+            refl (λ y e. refl) refl refl (shown.links l h);
         processes = processes_now;
         choices = shown.choices;
       }
@@ -180,6 +182,7 @@ module _ (p : Plan) (c : Configuration) (s : State) (n : ℕ) (k : IsResuming p 
       leads_by p c s s k.shows n k.plan k.planned k.node k.here shown.works now ran.Dispatch ((λ e. cc), (λ e. cc))
       stepped (ap (λ (z : Store). record { control = now.control; store = z })
       (ap (λ (z : Machine). z.store) k.steady.hides)) named' (k.shows.sent n) node_now (λ q h. refl)
+      (outputs_stay s s n k.node node' (λ l. refl) (λ l. refl))
 
 -- an interrupted process that goes on is seen
 pub resumptions_are_seen : ResumptionsAreSeen

@@ -14,7 +14,7 @@ use Rattle.tplan.specs.declared.plan.Plan.{Plan}
 use Rattle.tnet.specs.Rendezvous.{Node}
 use Rattle.treduction.specs.Plain.{IsFirst}
 use Rattle.tprocesses.specs.Places.{Name, Standing, HasRun, same_name}
-use Rattle.tprocesses.specs.Values.{Chosen, Chooses, Value, Context, Stand, Absent, Rests, Runs, Waits, Ended}
+use Rattle.tprocesses.specs.Values.{Chosen, Listens, Chooses, Value, Context, Stand, Absent, Rests, Runs, Waits, Ended}
 use Rattle.tprocesses.specs.Values.{IsStand, IsFlag}
 use Rattle.tseen.specs.Known.{HasRegisters}
 use Rattle.tseen.specs.Seats.{Seat, Current, Interrupted, Queued, is_taken}
@@ -97,6 +97,7 @@ module _ (s : State) (n : ℕ) (plan : NodePlan) (named : Seat → Name) (sent :
       by_stand (Waits d) f h = absurd f
       by_stand Ended f h = absurd f
       by_stand (Chooses d) f h = absurd f
+      by_stand (Listens channel d) f h = absurd f
 
   module _ (kept : KeepsFlags s n) (level : ℕ) (current : m.current ≡ Some level) (small : level < 2)
       (runs : is_dispatching m.current m.high ≡ false) where
@@ -138,6 +139,7 @@ module _ (s : State) (n : ℕ) (plan : NodePlan) (named : Seat → Name) (sent :
         by_stand q Ended e f h = absurd f
         by_stand q (Chooses d) e f h = absurd f
         by_stand q (Chosen d) e f h = absurd f
+        by_stand q (Listens channel d) e f h = absurd f
 
         with_seat : IsSeated s n node Current (named Current) → RunsThere s n plan node x
         with_seat q = by_stand q q.stand q.stands q.fits q.has_run
@@ -169,6 +171,7 @@ module _ (s : State) (n : ℕ) (plan : NodePlan) (named : Seat → Name) (sent :
       by_stand t e Ended f g = absurd g
       by_stand t e (Chooses d) f g = absurd g
       by_stand t e (Chosen d) f g = absurd g
+      by_stand t e (Listens channel d) f g = absurd g
 
       by : (o : Option Suspended) → m.interrupted ≡ o → is_some o ≡ true → same_name x (named Interrupted) ≡ false
       by None e g = absurd (true≢false (sym g))

@@ -6,7 +6,7 @@ use Rattle.tword.specs.Stores.{Store}
 use Rattle.tword.specs.Words.{word_below}
 use Rattle.tword.specs.Touches.{Writes}
 use Rattle.tprocesses.specs.Places.{Place, WordAt, Sending, Standing, Ports, Half, LinkHalf, Error, HaltOnError, Life}
-use Rattle.tprocesses.specs.Places.{Successions, Messages, Kept, Population, HasRun, FlagChanged}
+use Rattle.tprocesses.specs.Places.{Unfinished, Successions, Messages, Kept, Population, HasRun, FlagChanged}
 use Rattle.tprocesses.specs.Values.{Choosing, Value, Word, Use, Free, Saved, Receiving, Engaged, Last, Spoilt, IsWord}
 use Rattle.tprocesses.specs.Values.{word_in}
 use Rattle.tprocesses.specs.Values.{unknown}
@@ -34,6 +34,7 @@ changed_at n k c s (Standing x) h = refl
 changed_at n k c s (Ports x) h = refl
 changed_at n k c s (Half m d side) h = refl
 changed_at n k c s (LinkHalf m side) h = refl
+changed_at n k c s (Unfinished m) h = refl
 changed_at n k c s (Error m) h = refl
 changed_at n k c s (HaltOnError m) h = refl
 changed_at n k c s (Life m w) h = refl

@@ -28,21 +28,23 @@ use Rattle.tproc.specs.ProcessStatus.{reason_of}
 use Rattle.tproc.proofs.Handing.{Lies, buffer_lies}
 use Rattle.tnet.specs.Rendezvous.{Node, marked, was_copied}
 use Rattle.tplan.specs.Wires.{end_at, same_end}
+use Rattle.tplan.proofs.Ends.{same_end-true}
 use Rattle.tprocesses.specs.Places.{Place, Name, WordAt, Sending, Standing, Half, LinkHalf, Error, HaltOnError, Life}
-use Rattle.tprocesses.specs.Places.{Population, HasRun, FlagChanged, same_name}
-use Rattle.tprocesses.specs.Values.{Chosen, Chooses, Value, Context, Lent, Stand, Absent, Rests, Runs, Waits, Ended}
-use Rattle.tprocesses.specs.Values.{Copied, Offered}
+use Rattle.tprocesses.specs.Places.{Population, HasRun, FlagChanged, Unfinished, Messages, same_name}
+use Rattle.tprocesses.specs.Values.{Chosen, Listens, Chooses, Value, Context, Lent, Stand, Absent, Rests, Runs, Waits}
+use Rattle.tprocesses.specs.Values.{Ended}
+use Rattle.tprocesses.specs.Values.{Empty, Offered}
 use Rattle.tprocesses.specs.Values.{IsStand, IsLink, IsFlag, IsAmount, link_in, stand_in, word_in}
 use Rattle.tprocesses.specs.Changes.{Put}
 use Rattle.tprocesses.specs.Touching.{Site, touch, part_of}
 use Rattle.tprocesses.specs.Standing.{wakes, ready}
 use Rattle.tprocesses.specs.LinkMessages.{node_sends, sent_by}
-use Rattle.tprocesses.specs.Machine.{site_of, awaits_successor}
+use Rattle.tprocesses.specs.Machine.{Role, Processor, Source, Sink, Nothing, offer_place, site_of, awaits_successor}
 use Rattle.tseen.specs.Known.{KnowsCells, HasSaved}
 use Rattle.tseen.specs.Seats.{Seat, Current, Interrupted, Queued, Waiting, is_taken}
-use Rattle.tseen.specs.Outputs.{Pending, half_with, is_sending, sendings}
+use Rattle.tseen.specs.Outputs.{Pending, half_with, has_passed, is_sending, sendings}
 use Rattle.tseen.specs.Words.{AreSavedWords, ShowsWord}
-use Rattle.tseen.specs.Halves.{ShowsLink, request_of}
+use Rattle.tseen.specs.Halves.{ShowsLink, IsInput, request_of}
 use Rattle.tseen.specs.Processes.{Fits, IsSeated, IsGone, HasFlags, KeepsFlags, HasPassed, ShowsProcesses, context_in}
 use Rattle.tseen.specs.Shown.{ShowsNode}
 use Rattle.tseen.specs.Steps.{IsSteady}
@@ -50,6 +52,7 @@ use Rattle.tseen.proofs.After.{State, After, changed, after_bind}
 use Rattle.tseen.proofs.Cells.{use_of, cell, Knows, Tells, tells_from, knows-from, range-at, range-length}
 use Rattle.tseen.proofs.Finished.{is_stand_of, StandsNow, stands_then, one_name}
 use Rattle.tseen.proofs.Frames.{node_at}
+use Rattle.tseen.proofs.InputChannels.{descriptors_stay, remembered_stays, inputs_stay}
 use Rattle.tseen.proofs.Nets.{chosen}
 use Rattle.tseen.proofs.Others.{other_name}
 use Rattle.tseen.proofs.Rejoined.{reason_before, is_new}
@@ -78,6 +81,7 @@ wakes_then site p x stand lent s Q stood h =
     by Ended h = tt
     by (Chooses d) h = tt
     by (Chosen d) h = tt
+    by (Listens channel d) h = tt
 
 -- as many outputs have a byte of a word where each link has the same buffer
 pub sendings_alike : (a b : ℕ → Option Pending) (k : ℕ) → ((l : ℕ) → is_sending k (a l) ≡ is_sending k (b l))
@@ -138,7 +142,7 @@ module _ (p : Plan) (s : State) (n : ℕ) (plan : NodePlan) (named : Seat → Na
   lent_now = record { link = l; buffer = buffer_of out }
 
   abbrev pub halved : State
-  halved = changed (LinkHalf f Output) (Put (IsLink Copied)) s
+  halved = changed (Unfinished f) (Put (IsFlag true)) (changed (LinkHalf f Output) (Put (IsLink Empty)) s)
 
   -- the message was sent
   pub record IsSent (message : Store) (t : State) : Type 0 where
@@ -185,9 +189,10 @@ module _ (p : Plan) (s : State) (n : ℕ) (plan : NodePlan) (named : Seat → Na
     -- what stays
     same_halves : (q : Place) → is_output_of n l q ≡ false → halved q ≡ s q
     same_halves (LinkHalf e Output) h = rw h refl
+    same_halves (Unfinished e) h = rw h refl
     same_halves (LinkHalf e Input) h = by (same_end f e)
       where
-        by : (b : Bool) → cond (b && false) (IsLink Copied) (s (LinkHalf e Input)) ≡ s (LinkHalf e Input)
+        by : (b : Bool) → cond (b && false) (IsLink Empty) (s (LinkHalf e Input)) ≡ s (LinkHalf e Input)
         by true = refl
         by false = refl
     same_halves (WordAt a b) h = refl
@@ -199,8 +204,11 @@ module _ (p : Plan) (s : State) (n : ℕ) (plan : NodePlan) (named : Seat → Na
     pub stay : (q : Place) → is_stand_of x q ≡ false → is_output_of n l q ≡ false → t q ≡ s q
     stay q a b = k.rests.others q a ∙ same_halves q b
 
-    own_half : t (LinkHalf f Output) ≡ IsLink Copied
+    own_half : t (LinkHalf f Output) ≡ IsLink Empty
     own_half = k.rests.others (LinkHalf f Output) refl ∙ rw (eq-eqb n n refl, eq-eqb l l refl) refl
+
+    own_flag : t (Unfinished f) ≡ IsFlag true
+    own_flag = k.rests.others (Unfinished f) refl ∙ rw (eq-eqb n n refl, eq-eqb l l refl) refl
 
     stand_stays : (y : Name) → same_name x y ≡ false → t (Standing y) ≡ s (Standing y)
     stand_stays y h = stay (Standing y) h refl
@@ -211,21 +219,41 @@ module _ (p : Plan) (s : State) (n : ℕ) (plan : NodePlan) (named : Seat → Na
     other_output : (j : ℕ) → (l ≡ j → ⊥) → is_output_of n l (LinkHalf (end_at n j) Output) ≡ false
     other_output j h = rw (eq-eqb n n refl, ne_eqb l j h) refl
 
+    other_flag : (j : ℕ) → (l ≡ j → ⊥) → is_output_of n l (Unfinished (end_at n j)) ≡ false
+    other_flag j h = rw (eq-eqb n n refl, ne_eqb l j h) refl
+
     own_copied : was_copied node' l ≡ true
     own_copied = get_or-set_same node.copied l true false (omega (arith, four, small))
 
     other_copied : (j : ℕ) → (l ≡ j → ⊥) → was_copied node' j ≡ was_copied node j
     other_copied j h = get_or-set_other node.copied l j true false (λ e. h (sym e))
 
+    -- the alternatives stay
+    alternative_now : alternative_at t n x ≡ None
+    alternative_now = ap (λ (v : Value). alternative_of (stand_in v)) k.rests.is
+
+    alternative_before : alternative_at s n x ≡ None
+    alternative_before = ap (λ (v : Value). alternative_of (stand_in v)) k.stood
+
+    alternatives : (y : Name) → alternative_at t n y ≡ alternative_at s n y
+    alternatives = stands_alike p s t n x stand_stays (alternative_now ∙ sym alternative_before)
+
     -- the links
     link_now : (j : ℕ) → j < 4 → ShowsLink t n named sent' node' j
     link_now j b =
         record {
-          input = stay (LinkHalf (end_at n j) Input) refl refl ∙ old.input;
+          input = subst (IsInput named (link_end m j).input) (sym (stay (LinkHalf (end_at n j) Input) refl refl))
+              old.input;
           output = output (cases_eq l j);
+          unfinished = flag (cases_eq l j);
           offered = λ o e. offered o e (cases_eq l j);
           fresh = λ e. fresh_now e (cases_eq l j);
+          unnoticed = old.unnoticed;
+          remembered = λ e. old.remembered e
+              ∙ sym (remembered_stays s t n j (ap link_in (stay (LinkHalf (end_at n j) Input) refl refl))
+              (descriptors_stay s t n m.links store shown.choices (λ y h. alternatives y) j b));
           forgotten = old.forgotten;
+          fired = λ y e. old.fired y (sym (stay (LinkHalf (end_at n j) Input) refl refl) ∙ e);
           pending = λ q e g. pending q e g (cases_eq l j);
         }
       where
@@ -246,6 +274,14 @@ module _ (p : Plan) (s : State) (n : ℕ) (plan : NodePlan) (named : Seat → Na
         output (inr e) =
             stay (LinkHalf (end_at n j) Output) refl (other_output j e) ∙ old.output
             ∙ ap (λ q. IsLink (half_with q)) (sym (other_sent j e))
+
+        flag : (l ≡ j) ⊎ (l ≡ j → ⊥) → t (Unfinished (end_at n j)) ≡ IsFlag (has_passed (sent' j))
+        flag (inl e) =
+            ap (λ i. t (Unfinished (end_at n i))) (sym e) ∙ own_flag
+            ∙ ap (λ q. IsFlag (has_passed q)) (sym own_sent) ∙ ap (λ i. IsFlag (has_passed (sent' i))) e
+        flag (inr e) =
+            stay (Unfinished (end_at n j)) refl (other_flag j e) ∙ old.unfinished
+            ∙ ap (λ q. IsFlag (has_passed q)) (sym (other_sent j e))
 
         offered : (o : Offer) → (link_end m j).output ≡ Some o → (l ≡ j) ⊎ (l ≡ j → ⊥)
             → sent' j ≡ Some (record { request = request_of named o; copied = was_copied node' j })
@@ -295,6 +331,7 @@ module _ (p : Plan) (s : State) (n : ℕ) (plan : NodePlan) (named : Seat → Na
     fits Current Ended h = h
     fits Current (Chooses d) h = h
     fits Current (Chosen d) h = h
+    fits Current (Listens channel d) h = h
     fits Interrupted (Runs c) h = h
     fits Interrupted (Rests c) h = h
     fits Interrupted (Waits c) h = h
@@ -302,6 +339,7 @@ module _ (p : Plan) (s : State) (n : ℕ) (plan : NodePlan) (named : Seat → Na
     fits Interrupted Ended h = h
     fits Interrupted (Chooses d) h = h
     fits Interrupted (Chosen d) h = h
+    fits Interrupted (Listens channel d) h = h
     fits (Queued process) (Runs c) h = h
     fits (Queued process) (Rests c) h = h
     fits (Queued process) (Waits c) h = h
@@ -309,6 +347,7 @@ module _ (p : Plan) (s : State) (n : ℕ) (plan : NodePlan) (named : Seat → Na
     fits (Queued process) Ended h = h
     fits (Queued process) (Chooses d) h = h
     fits (Queued process) (Chosen d) h = h
+    fits (Queued process) (Listens channel d) h = h
     fits (Waiting process) (Runs c) h = h
     fits (Waiting process) (Rests c) h = (h.0, passes process h.1)
     fits (Waiting process) (Waits c) h = h
@@ -316,6 +355,7 @@ module _ (p : Plan) (s : State) (n : ℕ) (plan : NodePlan) (named : Seat → Na
     fits (Waiting process) Ended h = h
     fits (Waiting process) (Chooses d) h = h
     fits (Waiting process) (Chosen d) h = h
+    fits (Waiting process) (Listens channel d) h = h
 
     other_seated : (q : Seat) (y : Name) → same_name x y ≡ false → IsSeated s n node q y → IsSeated t n node' q y
     other_seated q y other z =
@@ -382,6 +422,7 @@ module _ (p : Plan) (s : State) (n : ℕ) (plan : NodePlan) (named : Seat → Na
     current_runs Ended h = absurd h
     current_runs (Chooses d) h = absurd h
     current_runs (Chosen d) h = absurd h
+    current_runs (Listens channel d) h = absurd h
 
     interrupted_runs : (stand : Stand) → Fits node Interrupted stand → (d : Context) × (stand ≡ Runs d)
     interrupted_runs (Runs d) h = (d, refl)
@@ -391,6 +432,7 @@ module _ (p : Plan) (s : State) (n : ℕ) (plan : NodePlan) (named : Seat → Na
     interrupted_runs Ended h = absurd h
     interrupted_runs (Chooses d) h = absurd h
     interrupted_runs (Chosen d) h = absurd h
+    interrupted_runs (Listens channel d) h = absurd h
 
     seated : (q : Seat) → is_taken m q ≡ true → IsSeated t n node' q (named q)
     seated Current h =
@@ -544,20 +586,15 @@ module _ (p : Plan) (s : State) (n : ℕ) (plan : NodePlan) (named : Seat → Na
               (λ q. refl) refl (λ c h e. refl) shown.channels;
           links = link_now;
           processes = processes_now;
-          choices = choices_stay s t n store store
-              (λ y h. stands_alike p s t n x stand_stays (alternative_now ∙ sym alternative_before) y)
+          choices = choices_stay s t n m.links m.links store store
+              (inputs_stay s t n m.links m.links (λ j. stay (LinkHalf (end_at n j) Input) refl refl) refl)
+              (λ y h. alternatives y)
               (λ y h e. quiet_alike p s t n x stand_stays quiet_now y e) (λ y h. stay (Ports y) refl refl)
               (λ a side. stay (Half n a side) refl refl) (λ j e z. ap amount_in (stay (Sending n j) refl refl) ∙ z)
               (λ j e. stay (WordAt n j) refl refl) refl (λ a h e. refl)
               shown.choices;
         }
       where
-        alternative_now : alternative_at t n x ≡ None
-        alternative_now = ap (λ (v : Value). alternative_of (stand_in v)) k.rests.is
-
-        alternative_before : alternative_at s n x ≡ None
-        alternative_before = ap (λ (v : Value). alternative_of (stand_in v)) k.stood
-
         quiet_now : is_quiet (stand_in (t (Standing x))) ≡ true
         quiet_now =
             ap (λ (v : Value). is_quiet (stand_in v)) k.rests.is
@@ -574,7 +611,25 @@ module _ (p : Plan) (s : State) (n : ℕ) (plan : NodePlan) (named : Seat → Na
         output : (q : Place) → node_at q ≢ n → is_output_of n l q ≡ false
         output (LinkHalf e Output) h = rw (ne_eqb n e.node (λ g. h (sym g))) refl
         output (LinkHalf e Input) h = refl
+        output (Unfinished e) h = rw (ne_eqb n e.node (λ g. h (sym g))) refl
         output _ h = refl
+
+    -- what others offer stays
+    pub sent_others : (r : Role) (g : End) → (g ≡ f → ⊥) → t (offer_place r g) ≡ s (offer_place r g)
+    sent_others r g d = by r
+      where
+        apart : same_end f g ≡ false
+        apart = of (same_end f g) refl
+          where
+            of : (b : Bool) → same_end f g ≡ b → same_end f g ≡ false
+            of false e = e
+            of true e = absurd (d (sym (same_end-true f g e)))
+
+        by : (r : Role) → t (offer_place r g) ≡ s (offer_place r g)
+        by Source = stay (Messages g) refl refl
+        by Processor = stay (LinkHalf g Output) refl apart
+        by Sink = stay (LinkHalf g Output) refl apart
+        by Nothing = stay (LinkHalf g Output) refl apart
 
     -- what is known of the message is there
     lies : Lies (length store) out

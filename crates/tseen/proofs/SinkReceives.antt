@@ -230,6 +230,7 @@ module _ (s : State) (e : End) (node : Node) (k : ShowsSink s e node) (inp : Off
           room = k.room - length message;
           input = input_now;
           output = ap (λ (z : LinkEnd). z.output) (set_first c.links moved inp asks) ∙ k.output;
+          silent = k.silent;
           alone = alone_now;
           lies = omega (arith, all_kept, size', k.lies, fits, message_long);
           messages = k.messages ++ message ∷ [];

@@ -27,11 +27,13 @@ use Rattle.tprocesses.specs.Choosing.{enables_skip, with_choice, under_way}
 use Rattle.tprocesses.specs.Machine.{site_of}
 use Rattle.tproc.specs.declared.channels.Side.TheVariants.{Output}
 use Rattle.tseen.specs.Alternatives.{IsSeenAtOnce}
-use Rattle.tseen.specs.Choices.{Alternative, alternative_of, alternative_at, HasChoice, IsReady, IsUnready}
+use Rattle.tseen.specs.Choices.{enables, is_due, Alternative, alternative_of, alternative_at, HasChoice, IsReady}
+use Rattle.tseen.specs.Choices.{IsUnready}
 use Rattle.tseen.specs.Choices.{unready_word}
 use Rattle.tseen.specs.Known.{Knows}
 use Rattle.tseen.specs.Shown.{ShowsNode}
 use Rattle.tseen.specs.Steps.{IsCurrent, LeadsTo}
+use Rattle.tseen.proofs.ChoiceChanged.{due_same}
 use Rattle.tseen.proofs.After.{State, After, after_bind, after_step}
 use Rattle.tseen.proofs.AtOperation.{IsAtOperation, registers_at, context_at, control_at, operation_then}
 use Rattle.tseen.proofs.Cells.{use_of, Tells}
@@ -105,7 +107,7 @@ module _ (p : Plan) (c : Configuration) (s : State) (n : ℕ) (x : Name) (k : Is
     abbrev new : Alternative
     new = record { skips = skips; wptr = w; priority = running.context.priority; runs = true; waits = false }
 
-    it : HasChoice s n store x (own p c s n x k choice is)
+    it : HasChoice s n m.links store x (own p c s n x k choice is)
     it = has p c s n x k choice is
 
     -- a cell of another word
@@ -142,6 +144,9 @@ module _ (p : Plan) (c : Configuration) (s : State) (n : ℕ) (x : Name) (k : Is
       halves : (e : ℕ) → s' (Half n e Output) ≡ s (Half n e Output)
       halves e = now.others (Half n e Output) refl ∙ a.on.keeps.others (Half n e Output) refl
 
+      due : (e : ℕ) → enables s n x e ≡ true → is_due s' n m.links e ≡ is_due s n m.links e
+      due e g = due_same s s' n m.links halves e
+
       is_new : (b : Alternative) → alternative_at s' n x ≡ Some b → b ≡ new
       is_new b e = one_is (sym e ∙ ap (λ (v : Value). alternative_of (stand_in v)) now.is)
         where
@@ -150,8 +155,8 @@ module _ (p : Plan) (c : Configuration) (s : State) (n : ℕ) (x : Name) (k : Is
 
       abbrev IsTold : Store → Bool → Type 0
       IsTold last skips =
-          ((word_at last address ≡ ready) × IsReady s' n x skips)
-          ⊎ ((word_at last address ≡ enabling) × IsUnready s' n x skips)
+          ((word_at last address ≡ ready) × IsReady s' n m.links x skips)
+          ⊎ ((word_at last address ≡ enabling) × IsUnready s' n m.links x skips)
 
       told : IsTold last skips
       told = by (guard == 0)
@@ -159,11 +164,11 @@ module _ (p : Plan) (c : Configuration) (s : State) (n : ℕ) (x : Name) (k : Is
           old : IsTold store choice.skips
           old = of it.state
             where
-              of : ((word_at store address ≡ ready) × IsReady s n x choice.skips)
-                  ⊎ ((word_at store address ≡ unready_word false) × IsUnready s n x choice.skips)
+              of : ((word_at store address ≡ ready) × IsReady s n m.links x choice.skips)
+                  ⊎ ((word_at store address ≡ unready_word false) × IsUnready s n m.links x choice.skips)
                   → IsTold store choice.skips
-              of (inl (e, f)) = inl (e, ready_same s s' n x ports halves choice.skips f)
-              of (inr (e, f)) = inr (e, unready_same s s' n x ports halves choice.skips f)
+              of (inl (e, f)) = inl (e, ready_same s s' n m.links m.links x ports due choice.skips f)
+              of (inr (e, f)) = inr (e, unready_same s s' n m.links m.links x ports due choice.skips f)
 
           still : (b : Bool) → b ≡ (b || false)
           still true = refl
@@ -177,7 +182,7 @@ module _ (p : Plan) (c : Configuration) (s : State) (n : ℕ) (x : Name) (k : Is
                 inl (or_right choice.skips true refl),
               )
 
-      new_choice : HasChoice s' n last x new
+      new_choice : HasChoice s' n m.links last x new
       new_choice =
           record {
             small = it.small;
@@ -211,7 +216,7 @@ module _ (p : Plan) (c : Configuration) (s : State) (n : ℕ) (x : Name) (k : Is
             only = λ i h. other_cell i (λ e. true≢false (sym (ap is_for_choice (ap (use_of s n) e ∙ it.used)) ∙ h));
             states = λ j e f. word_now j ∙ a.on.keeps.kept j (λ h. choosing_free (sym e ∙ h));
             state_cells = λ i e f. other_cell i f;
-            own_choice = λ b e. subst (HasChoice s' n last x) (sym (is_new b e)) new_choice;
+            own_choice = λ b e. subst (HasChoice s' n m.links last x) (sym (is_new b e)) new_choice;
             own_apart = λ y b f home e same b' g. no_other p c s n x k choice is y b f home e same;
             own_word = other_word p c s n x k choice is;
             own_keeps = λ e h. (new, ap (λ (v : Value). alternative_of (stand_in v)) now.is);
@@ -248,8 +253,8 @@ module _ (p : Plan) (c : Configuration) (s : State) (n : ℕ) (x : Name) (k : Is
               at true g = rw (may, e, f, g) refl
               at false g = rw (may, e, f, g) (rw may refl)
 
-          by : ((word_at store address ≡ ready) × IsReady s n x choice.skips)
-              ⊎ ((word_at store address ≡ unready_word false) × IsUnready s n x choice.skips)
+          by : ((word_at store address ≡ ready) × IsReady s n m.links x choice.skips)
+              ⊎ ((word_at store address ≡ unready_word false) × IsUnready s n m.links x choice.skips)
               → run_from (operation_step Enbs (rank running.level) (control_at p c s n x k Enbs a.size)) store
               (claims_of m) store ≡ Ok ((record m { registers = after; count = count }, ran.Instruction), last)
           by (inl (e, f)) = of ready e refl
@@ -257,7 +262,7 @@ module _ (p : Plan) (c : Configuration) (s : State) (n : ℕ) (x : Name) (k : Is
 
       skip_leads : LeadsTo p c n s'
       skip_leads =
-          gone_leads p c s n x k s' after count last d (plain_gone p c s n x k s' after count last d plain)
+          gone_leads p c s n x k s' after count m.links last d (plain_gone p c s n x k s' after count last d plain)
           (a.steps (record m { registers = after; count = count }) last runs)
 
   skip_then : (u : State) (a : IsAtOperation p c s n x k Enbs u)

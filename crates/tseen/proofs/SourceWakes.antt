@@ -25,6 +25,7 @@ use Rattle.tprocesses.specs.Values.{AreMessages}
 use Rattle.tseen.specs.Scripts.{ShowsSource, messages_from, to_come}
 use Rattle.tseen.specs.Shown.{Shows}
 use Rattle.tseen.specs.Steps.{SourceWakesAreSeen}
+use Rattle.tseen.proofs.NoticedOffers.{script_notices}
 use Rattle.tseen.proofs.After.{State}
 
 -- whether an output was copied, after that is cleared
@@ -136,6 +137,7 @@ source_wakes_are_seen p c c' s k source there shows steady l =
             (λ e. omega (arith, e, slice_get_within p.sources k source there)) ∙ old.1,
         old.2,
       ));
+      noticed = script_notices p c s s n (awake l.node) (omega arith) shows.noticed (λ g h. h);
       nobody = shows.nobody;
     })
   where

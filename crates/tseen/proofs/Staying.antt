@@ -1,6 +1,6 @@
 -- What is shown of marks, channels and links stays shown where what it looks at stays.
 use Rattle.std.proofs.Common.{◌⊎◌, inl, inr, ◌≡◌, ℕ, refl, sym, ap, ◌∙◌, List, [], ◌∷◌, length, pos, false, All}
-use Rattle.std.proofs.Common.{Contains, get_or, arith, Option, Some, None, true}
+use Rattle.std.proofs.Common.{Contains, get_or, arith, subst, Option, Some, None, true}
 use Rattle.std.proofs.lemmas.List.Elements.{All-cons, All-nil, Contains-get_or}
 use Rattle.tword.specs.Stores.{word_at}
 use Rattle.tword.specs.Words.{word_below}
@@ -14,17 +14,20 @@ use Rattle.tproc.specs.ProcessStatus.{reason_of}
 use Rattle.tproc.specs.LinkChannels.{link_end}
 use Rattle.tnet.specs.Rendezvous.{Node, was_copied}
 use Rattle.tplan.specs.Wires.{end_at}
-use Rattle.tprocesses.specs.Places.{Name, WordAt, Sending, Half, LinkHalf}
-use Rattle.tprocesses.specs.Values.{Value, Saved, Receiving, Engaged, Offered, IsAmount, IsLink, word_in, unknown}
+use Rattle.tprocesses.specs.Places.{Name, WordAt, Sending, Half, LinkHalf, Unfinished}
+use Rattle.tprocesses.specs.Values.{Value, Saved, Receiving, Engaged, Offered, IsAmount, IsLink, word_in, link_in}
+use Rattle.tprocesses.specs.Values.{unknown}
 use Rattle.tprocesses.specs.Touching.{word_number}
 use Rattle.tprocesses.specs.Machine.{awaits_successor}
 use Rattle.tseen.specs.Seats.{Seat, Waiting}
 use Rattle.tseen.specs.Outputs.{Pending, sendings}
 use Rattle.tseen.specs.Words.{AreMarked, AreSavedWords, use_at, cells_at, is_set_aside}
-use Rattle.tseen.specs.Halves.{ShowsChannels, ShowsLink, request_of, half_asking}
+use Rattle.tseen.specs.Choices.{unfired, input_at, descriptor_at}
+use Rattle.tseen.specs.Halves.{ShowsChannels, ShowsLink, IsInput, request_of}
 use Rattle.tseen.proofs.After.{State}
 use Rattle.tseen.proofs.Cells.{use_of}
 use Rattle.tseen.proofs.ChannelsKept.{channels_kept}
+use Rattle.tseen.proofs.InputChannels.{remembered_stays}
 
 module _ (s : State) (n w : ℕ) where
   -- the saved words below a workspace, one by one
@@ -115,12 +118,12 @@ module _ (s s' : State) (n : ℕ) where
         })
 
 -- what asks at a link, where those that offer there have the same names
-pub asking_alike : (named named' : Seat → Name) (o : Option Offer)
-    → ((e : Offer) → o ≡ Some e → named' (Waiting e.wdesc) ≡ named (Waiting e.wdesc))
-    → half_asking named' o ≡ half_asking named o
-asking_alike named named' None h = refl
-asking_alike named named' (Some e) h =
-    ap (λ y. Offered (record { process = y; buffer = buffer_of e })) (h e refl)
+pub input_renamed : (named named' : Seat → Name) (o : Option Offer) (v v' : Value)
+    → ((e : Offer) → o ≡ Some e → named' (Waiting e.wdesc) ≡ named (Waiting e.wdesc)) → v' ≡ v → IsInput named o v
+    → IsInput named' o v'
+input_renamed named named' None v v' h e (l, f, g) = (l, e ∙ f, g)
+input_renamed named named' (Some o) v v' h e f =
+    e ∙ f ∙ ap (λ y. IsLink (Offered (record { process = y; buffer = buffer_of o }))) (sym (h o refl))
 
 -- a link
 pub link_renamed : (s s' : State) (n : ℕ) (named named' : Seat → Name) (sent : ℕ → Option Pending) (node node' : Node)
@@ -128,14 +131,18 @@ pub link_renamed : (s s' : State) (n : ℕ) (named named' : Seat → Name) (sent
     → ((e : Offer) → ((link_end node.machine.control l).input ≡ Some e)
     ⊎ ((link_end node.machine.control l).output ≡ Some e) → named' (Waiting e.wdesc) ≡ named (Waiting e.wdesc))
     → ((side : Side) → s' (LinkHalf (end_at n l) side) ≡ s (LinkHalf (end_at n l) side))
+    → s' (Unfinished (end_at n l)) ≡ s (Unfinished (end_at n l))
+    → ((x : Name) → unfired (input_at s n l) ≡ Some x → descriptor_at s' n x ≡ descriptor_at s n x)
     → link_end node'.machine.control l ≡ link_end node.machine.control l → was_copied node' l ≡ was_copied node l
     → ShowsLink s n named sent node l → ShowsLink s' n named' sent node' l
-link_renamed s s' n named named' sent node node' l waits halves same copied k =
+link_renamed s s' n named named' sent node node' l waits halves flag descriptors same copied k =
     record {
-      input = halves Input ∙ k.input
-          ∙ ap IsLink (sym (asking_alike named named' (link_end node.machine.control l).input (λ e f. waits e (inl f))))
-          ∙ ap (λ (e : LinkEnd). IsLink (half_asking named' e.input)) (sym same);
+      input = subst (λ (e : LinkEnd). IsInput named' e.input (s' (LinkHalf (end_at n l) Input))) (sym same)
+          (input_renamed named named' (link_end node.machine.control l).input _ _ (λ e f. waits e (inl f))
+          (halves Input)
+          k.input);
       output = halves Output ∙ k.output;
+      unfinished = flag ∙ k.unfinished;
       offered = λ o e. (let f : (link_end node.machine.control l).output ≡ Some o =
           sym (ap (λ (e : LinkEnd). e.output) same) ∙ e in
           k.offered o f
@@ -145,19 +152,23 @@ link_renamed s s' n named named' sent node node' l waits halves same copied k =
             copied = was_copied node' l;
           })) (sym (waits o (inr f))));
       fresh = λ e. copied ∙ k.fresh (sym (ap (λ (e : LinkEnd). e.output) same) ∙ e);
-      forgotten = ap (λ (e : LinkEnd). e.remembered) same ∙ k.forgotten;
+      unnoticed = λ o e. ap (λ (e : LinkEnd). e.noticed) same
+          ∙ k.unnoticed o (sym (ap (λ (e : LinkEnd). e.input) same) ∙ e);
+      remembered = λ e. ap (λ (e : LinkEnd). e.remembered) same
+          ∙ k.remembered (sym (ap (λ (e : LinkEnd). e.noticed) same) ∙ e)
+          ∙ sym (remembered_stays s s' n l (ap link_in (halves Input)) descriptors);
+      forgotten = λ e. ap (λ (e : LinkEnd). e.remembered) same
+          ∙ k.forgotten (sym (ap (λ (e : LinkEnd). e.noticed) same) ∙ e);
+      fired = λ x e. ap (λ (e : LinkEnd). e.noticed) same ∙ k.fired x (sym (halves Input) ∙ e);
       pending = λ p e f. (let o = k.pending p e f in (o.0, ap (λ (e : LinkEnd). e.output) same ∙ o.1));
     }
-
-pub half_asking_stays : (named named' : Seat → Name) (o : Option Offer)
-    → ((w : ℕ) → named' (Waiting w) ≡ named (Waiting w))
-    → half_asking named' o ≡ half_asking named o
-half_asking_stays named named' o h = asking_alike named named' o (λ e f. h e.wdesc)
 
 pub link_stays : (s s' : State) (n : ℕ) (named named' : Seat → Name) (sent : ℕ → Option Pending) (node node' : Node)
     (l : ℕ) → ((w : ℕ) → named' (Waiting w) ≡ named (Waiting w))
     → ((side : Side) → s' (LinkHalf (end_at n l) side) ≡ s (LinkHalf (end_at n l) side))
+    → s' (Unfinished (end_at n l)) ≡ s (Unfinished (end_at n l))
+    → ((x : Name) → unfired (input_at s n l) ≡ Some x → descriptor_at s' n x ≡ descriptor_at s n x)
     → link_end node'.machine.control l ≡ link_end node.machine.control l → was_copied node' l ≡ was_copied node l
     → ShowsLink s n named sent node l → ShowsLink s' n named' sent node' l
-link_stays s s' n named named' sent node node' l waits halves same copied k =
-    link_renamed s s' n named named' sent node node' l (λ e f. waits e.wdesc) halves same copied k
+link_stays s s' n named named' sent node node' l waits =
+    link_renamed s s' n named named' sent node node' l (λ e f. waits e.wdesc)

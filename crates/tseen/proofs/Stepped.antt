@@ -29,12 +29,15 @@ use Rattle.treduction.proofs.PlainSteps.{follows, running}
 use Rattle.treduction.proofs.Effects.{decode-plain, effect-plain}
 use Rattle.tplan.specs.declared.plan.Plan.{Plan}
 use Rattle.tnet.specs.Rendezvous.{Node, Configuration}
-use Rattle.tprocesses.specs.Places.{Place, Name, WordAt, Standing, Error, HaltOnError, Life, FlagChanged, same_name}
+use Rattle.tprocesses.specs.Places.{Place, Name, WordAt, Standing, LinkHalf, Error, HaltOnError, Life, FlagChanged}
+use Rattle.tprocesses.specs.Places.{same_name}
+use Rattle.tproc.specs.declared.channels.Side.TheVariants.{Output}
+use Rattle.tplan.specs.Wires.{end_at}
 use Rattle.tprocesses.specs.Values.{Value, Context, Runs, Free, stand_in}
 use Rattle.tprocesses.specs.Parts.{require, SawTheScheduler}
 use Rattle.tprocesses.specs.Touching.{Site}
 use Rattle.tprocesses.specs.Performing.{Performed, perform}
-use Rattle.tprocesses.specs.Machine.{Process, site_of, step_of, at_site, process_step}
+use Rattle.tprocesses.specs.Machine.{Process, site_of, step_of, at_site, stepped}
 use Rattle.tprocesses.specs.Instructions.{runs}
 use Rattle.tseen.specs.Known.{HasRegisters}
 use Rattle.tseen.specs.Seats.{Seat, Interrupted}
@@ -53,6 +56,7 @@ use Rattle.tseen.proofs.Executed.{IsExecuted, executed_then}
 use Rattle.tseen.proofs.Completed.{is_own, WentOn, Follows, completed_then, left_context}
 use Rattle.tseen.proofs.Frames.{node_at}
 use Rattle.tseen.proofs.Nets.{leads_by}
+use Rattle.tseen.proofs.NoticedOffers.{KeepsOffers, outputs_stay}
 use Rattle.tseen.proofs.Own.{own_shown}
 use Rattle.tseen.proofs.Running.{RunsThere, runs_there, interrupted_apart}
 
@@ -178,8 +182,8 @@ module _ (p : Plan) (c : Configuration) (s : State) (n : ℕ) (x : Name) (k : Is
       ≡ Ok (i, k.node.machine.store) → (pp : Performed Outcome) (t : State) → Followed i pp t Q)
       → After (step_of p (Process x)) s Q
   step_then Q h =
-      subst (λ (v : Value). After (at_site p x.node (process_step x (stand_in v))) s Q) (sym there.stood)
-      (subst (λ j. After (at_site p j (process_step x (Runs there.context))) s Q) (sym there.home) at_node)
+      subst (λ (v : Value). After (at_site p x.node (stepped p x (stand_in v))) s Q) (sym there.stood)
+      (subst (λ j. After (at_site p j (stepped p x (Runs there.context))) s Q) (sym there.home) at_node)
     where
       whole_step : After (runs site x there.context) s Q
       whole_step =
@@ -204,7 +208,7 @@ module _ (p : Plan) (c : Configuration) (s : State) (n : ℕ) (x : Name) (k : Is
               (subst (λ a. run (decode k.plan.kind a) k.node.machine.store claims ≡ Ok (d.value, k.node.machine.store))
               there.registers.iptr (g known))
 
-      at_node : After (at_site p n (process_step x (Runs there.context))) s Q
+      at_node : After (at_site p n (stepped p x (Runs there.context))) s Q
       at_node = rw (k.planned, After) whole_step
 
   -- the effect is that of the kind of the node
@@ -224,10 +228,11 @@ module _ (p : Plan) (c : Configuration) (s : State) (n : ℕ) (x : Name) (k : Is
   pub leads_there : (m' : Machine) (s' : State) (named : Seat → Name) (sent : ℕ → Option Pending)
       → step k.node.machine ≡ Ok (m', ran.Instruction) → hidden m' ≡ m'
       → ShowsNode s' n k.plan named sent (record k.node { machine = m' })
-      → ((q : Place) → node_at q ≢ n → s' q ≡ s q) → LeadsTo p c n s'
-  leads_there m' s' named sent stepped same shown others =
+      → ((q : Place) → node_at q ≢ n → s' q ≡ s q)
+      → KeepsOffers s s' n k.node (record k.node { machine = m' }) → LeadsTo p c n s'
+  leads_there m' s' named sent stepped same shown others offers =
       leads_by p c s s' k.shows n k.plan k.planned k.node k.here shown_node.works m' ran.Instruction
-      ((λ e. cc), (λ e. cc)) stepped same named sent shown others
+      ((λ e. cc), (λ e. cc)) stepped same named sent shown others offers
 
   -- the machine where the process goes on
   abbrev pub made : (after : Registers) (store' : Store) (count : ℕ) → Machine
@@ -242,6 +247,9 @@ module _ (p : Plan) (c : Configuration) (s : State) (n : ℕ) (x : Name) (k : Is
   leads after store' count s' u stepped on c' knows same_choice went =
       leads_there (made after store' count) s' (k.shows.named n) (k.shows.sent n) stepped same own
       (elsewhere site k.plan.memory x there.context.wptr after c' s u s' k.node.machine.store store' there.home on went)
+      (outputs_stay s s' n k.node (record k.node { machine = made after store' count })
+      (λ l. went.others (LinkHalf (end_at n l) Output) refl ∙ on.keeps.others (LinkHalf (end_at n l) Output) refl)
+      (λ l. refl))
     where
       own : ShowsNode s' n k.plan (k.shows.named n) (k.shows.sent n)
           (record k.node { machine = made after store' count })

@@ -16,7 +16,7 @@ use Rattle.tproc.specs.Steps.{step}
 use Rattle.tplan.specs.declared.plan.Plan.{Plan}
 use Rattle.tnet.specs.Rendezvous.{Configuration}
 use Rattle.tprocesses.specs.Places.{Place, Name, After as Succeeds, WordAt, Standing, Life, Successions, Population}
-use Rattle.tprocesses.specs.Places.{HasRun, Error, HaltOnError, FlagChanged}
+use Rattle.tprocesses.specs.Places.{HasRun, Error, HaltOnError, FlagChanged, LinkHalf}
 use Rattle.tprocesses.specs.Values.{Value, Free, Last, Spoilt, Runs, IsWord, IsFlag, IsCount, word_in, amount_in}
 use Rattle.tprocesses.specs.Values.{count_in}
 use Rattle.tprocesses.specs.Changes.{Put, Raise, apply, are_known, known_word, free_word, used_word}
@@ -48,6 +48,9 @@ use Rattle.tseen.proofs.Ends.{HasCounted, number, a, m, store, site, running, le
 use Rattle.tseen.proofs.Ends.{unsent_then, other_word_counted, count_lies, counted, lowered}
 use Rattle.tseen.proofs.DispatchShown.{running_named}
 use Rattle.tseen.proofs.Ended.{has_left, reads_there, writes_there, due, spoilt_then}
+use Rattle.tseen.proofs.NoticedOffers.{outputs_stay}
+use Rattle.tproc.specs.declared.channels.Side.TheVariants.{Output}
+use Rattle.tplan.specs.Wires.{end_at}
 
 -- a word that is known is that of its bytes
 known_is : (cells : Store) (v : ℕ) → known_word cells ≡ Some v
@@ -321,6 +324,9 @@ module _ (p : Plan) (c : Configuration) (s : State) (n : ℕ) (x : Name) (k : Is
               ∙ left_stays p c s n x k freed last the_left (HaltOnError n) refl refl refl
               ∙ (running p c s n x k).flags.halting;
         }) refl arrived) elsewhere
+        (outputs_stay s t n k.node (record k.node { machine = made })
+        (λ l. arrived.others (LinkHalf (end_at n l) Output) refl
+        ∙ left_stays p c s n x k freed last the_left (LinkHalf (end_at n l) Output) refl refl refl) (λ l. refl))
       where
         aligned : a p c s n x k % 4 ≡ 0
         aligned = eqb-true _ _ (word_placed k.plan.memory (a p c s n x k) h.read.placed).0

@@ -294,7 +294,8 @@ module _ (p : Plan) (c : Configuration) (s : State) (n : ℕ) (x : Name) (k : Is
       by : (b : Bool) → is_sent s n channel ≡ b → ⊥
       by false f =
           let own = shown.choices.owner y channel it.home it.port in
-          let there : HasChoice s n store y own.0 = shown.choices.choices y own.0 it.home own.1 in
+          let there : HasChoice s n k.node.machine.control.links store y own.0 =
+          shown.choices.choices y own.0 it.home own.1 in
           let l : (place (word_below own.0.wptr 3) ≡ 4 * word_number (word_below own.0.wptr 3))
           × (most_neg ≤ word_below own.0.wptr 3)
           × (4 * word_number (word_below own.0.wptr 3) + 4 ≤ k.plan.memory) =

@@ -1,18 +1,17 @@
--- An output of a link that is over: its buffer is in one pending output less, and its half of the link is empty.
+-- An output of a link that is over: its buffer is in one pending output less, and its process has gone on.
 use Rattle.std.proofs.Common.{◌≡◌, ℕ, ℤ, zero, suc, ◌+◌, ◌<◌, ◌≤◌, refl, sym, ap, ◌∙◌, Bool, true, false}
 use Rattle.std.proofs.Common.{true≢false, Option, Some, None, arith, ◌⊎◌, inl, inr, pos, cond}
 use Rattle.std.specs.Prelude.{◌==◌, ◌&&◌, nat_le, nat_lt, negsuc, if◌then◌else◌}
 use Rattle.std.proofs.lemmas.Bool.{eq-eqb, ne_eqb, cases_eq, and_parts, and_from, leb-true, ltb-true, le-leb, lt-ltb}
 use Rattle.std.proofs.lemmas.Int.{ints}
-use Rattle.tproc.specs.declared.channels.Side.TheVariants.{Input, Output}
-use Rattle.tplan.specs.declared.plan.End.{End}
+use Rattle.tproc.specs.declared.channels.Side.TheVariants.{Output}
 use Rattle.tplan.specs.Wires.{end_at, same_end}
-use Rattle.tprocesses.specs.Places.{Place, Sending, LinkHalf}
-use Rattle.tprocesses.specs.Values.{Value, Lent, Empty, IsAmount, IsLink, link_in}
+use Rattle.tprocesses.specs.Places.{Place, Sending, LinkHalf, Unfinished}
+use Rattle.tprocesses.specs.Values.{Value, Lent, IsAmount, IsFlag, flag_in}
 use Rattle.tprocesses.specs.Changes.{Add, Put, apply}
 use Rattle.tprocesses.specs.Parts.{HasNoStep, require}
 use Rattle.tprocesses.specs.Touching.{Site, word_number, word_count, count_words, count_outputs}
-use Rattle.tprocesses.specs.Standing.{takes_back, is_copied}
+use Rattle.tprocesses.specs.Standing.{takes_back}
 use Rattle.tseen.specs.Outputs.{Pending, covers, is_sending, sendings}
 use Rattle.tseen.proofs.After.{State, changed, After, after_bind, after_require}
 use Rattle.tseen.proofs.Nets.{chosen}
@@ -38,10 +37,16 @@ abbrev pub is_sending_of : ℕ → Place → Bool
 is_sending_of n (Sending m k) = n == m
 is_sending_of n _ = false
 
--- a place is the output of a link of a node
+-- a place is the output of a link of a node, or tells whether its process has gone on
 abbrev pub is_output_of : (n l : ℕ) → Place → Bool
 is_output_of n l (LinkHalf e Output) = same_end (end_at n l) e
+is_output_of n l (Unfinished e) = same_end (end_at n l) e
 is_output_of n l _ = false
+
+-- a place tells whether the process of the last output of a link has gone on
+abbrev pub is_flag_of : (n l : ℕ) → Place → Bool
+is_flag_of n l (Unfinished e) = same_end (end_at n l) e
+is_flag_of n l _ = false
 
 module _ (site : Site) where
   abbrev n : ℕ
@@ -95,58 +100,52 @@ module _ (site : Site) where
               k.sending j ∙ rw same (ap (λ b. chosen b (apply (Add z) (s (Sending n j))) (s (Sending n j)))
               (alike j e (within (suc first) count j) refl))
 
-  -- what becomes of a number of outputs, and of the output of a link
+  -- what becomes of a number of outputs, and of the flag of a link
   abbrev pub sent_back : Option Lent → ℕ → Value → Value
   sent_back None j v = v
   sent_back (Some l) j v = chosen (covers j l.buffer) (apply (Add (negsuc 0)) v) v
 
-  abbrev pub emptied : Option Lent → ℕ → Value → Value
-  emptied None j v = v
-  emptied (Some l) j v = chosen (l.link == j) (IsLink Empty) v
+  abbrev pub settled : Option Lent → ℕ → Value → Value
+  settled None j v = v
+  settled (Some l) j v = chosen (l.link == j) (IsFlag false) v
 
   abbrev pub is_lent : Option Lent → Place → Bool
   is_lent None q = false
-  is_lent (Some l) q = is_output_of n l.link q
+  is_lent (Some l) q = is_flag_of n l.link q
 
   -- an output was taken back
   pub record IsTakenBack (lent : Option Lent) (s t : State) : Type 0 where
     pub sending : (j : ℕ) → t (Sending n j) ≡ sent_back lent j (s (Sending n j))
-    pub half : (l : ℕ) → t (LinkHalf (end_at n l) Output) ≡ emptied lent l (s (LinkHalf (end_at n l) Output))
+    pub unfinished : (l : ℕ) → t (Unfinished (end_at n l)) ≡ settled lent l (s (Unfinished (end_at n l)))
     pub others : (q : Place) → is_sending_of n q ≡ false → is_lent lent q ≡ false → t q ≡ s q
 
   pub takes_back_then : (lent : Option Lent) (s : State) (Q : Unit {0} → State → Type 0)
       → ((t : State) → IsTakenBack lent s t → Q tt t) → After (takes_back site lent) s Q
-  takes_back_then None s Q h = h s (record { sending = λ j. refl; half = λ l. refl; others = λ q a b. refl })
+  takes_back_then None s Q h = h s (record { sending = λ j. refl; unfinished = λ l. refl; others = λ q a b. refl })
   takes_back_then (Some l) s Q h =
       after_bind (count_outputs site (negsuc 0) l.buffer) _ s Q
       (count_words_then (negsuc 0) (word_count l.buffer) (word_number l.buffer.start) s _ (λ t k.
-      after_bind (require (is_copied (link_in (t (LinkHalf (end_at n l.link) Output)))) HasNoStep) _ t Q
-      (after_require (is_copied (link_in (t (LinkHalf (end_at n l.link) Output)))) HasNoStep t _ (λ e.
-      h (changed (LinkHalf (end_at n l.link) Output) (Put (IsLink Empty)) t) (more t k)))))
+      after_bind (require (flag_in (t (Unfinished (end_at n l.link)))) HasNoStep) _ t Q
+      (after_require (flag_in (t (Unfinished (end_at n l.link)))) HasNoStep t _ (λ e.
+      h (changed (Unfinished (end_at n l.link)) (Put (IsFlag false)) t) (more t k)))))
     where
       more : (t : State) → AreCounted (negsuc 0) (word_number l.buffer.start) (word_count l.buffer) s t
-          → IsTakenBack (Some l) s (changed (LinkHalf (end_at n l.link) Output) (Put (IsLink Empty)) t)
-      more t k = record { sending = k.sending; half = half; others = others }
+          → IsTakenBack (Some l) s (changed (Unfinished (end_at n l.link)) (Put (IsFlag false)) t)
+      more t k = record { sending = k.sending; unfinished = flag; others = others }
         where
-          half : (j : ℕ) → changed (LinkHalf (end_at n l.link) Output) (Put (IsLink Empty)) t
-              (LinkHalf (end_at n j) Output)
-              ≡ emptied (Some l) j (s (LinkHalf (end_at n j) Output))
-          half j = by (l.link == j) refl
+          flag : (j : ℕ) → changed (Unfinished (end_at n l.link)) (Put (IsFlag false)) t (Unfinished (end_at n j))
+              ≡ settled (Some l) j (s (Unfinished (end_at n j)))
+          flag j = by (l.link == j) refl
             where
               by : (b : Bool) → (l.link == j) ≡ b
-                  → changed (LinkHalf (end_at n l.link) Output) (Put (IsLink Empty)) t (LinkHalf (end_at n j) Output)
-                  ≡ emptied (Some l) j (s (LinkHalf (end_at n j) Output))
+                  → changed (Unfinished (end_at n l.link)) (Put (IsFlag false)) t (Unfinished (end_at n j))
+                  ≡ settled (Some l) j (s (Unfinished (end_at n j)))
               by true e = rw (eq-eqb n n refl, e) refl
-              by false e = rw (eq-eqb n n refl, e) (k.others (LinkHalf (end_at n j) Output) refl)
-
-          input : (b : Bool) (e : End) → cond (b && false) (IsLink Empty) (t (LinkHalf e Input)) ≡ s (LinkHalf e Input)
-          input true e = k.others (LinkHalf e Input) refl
-          input false e = k.others (LinkHalf e Input) refl
+              by false e = rw (eq-eqb n n refl, e) (k.others (Unfinished (end_at n j)) refl)
 
           others : (q : Place) → is_sending_of n q ≡ false → is_lent (Some l) q ≡ false
-              → changed (LinkHalf (end_at n l.link) Output) (Put (IsLink Empty)) t q ≡ s q
-          others (LinkHalf e Output) a b = rw b (k.others (LinkHalf e Output) a)
-          others (LinkHalf e Input) a b = input (same_end (end_at n l.link) e) e
+              → changed (Unfinished (end_at n l.link)) (Put (IsFlag false)) t q ≡ s q
+          others (Unfinished e) a b = rw b (k.others (Unfinished e) a)
           others q a b = k.others q a
 
 -- how many outputs have a byte of a word, where one of them is over

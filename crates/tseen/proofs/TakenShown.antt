@@ -6,7 +6,8 @@ use Rattle.std.proofs.Common.{is_none}
 use Rattle.tseen.proofs.Unclaimed.{aside_not_free}
 use Rattle.tprocesses.specs.Values.{stand_in}
 use Rattle.tprocesses.specs.Places.{Ports}
-use Rattle.tseen.specs.Choices.{alternative_of, alternative_at, is_quiet}
+use Rattle.tseen.specs.Choices.{alternative_of, alternative_at, is_quiet, unfired, link_enabler, input_at, enabler_on}
+use Rattle.tseen.specs.Choices.{remembered_at}
 use Rattle.tseen.proofs.Choices.{is_lasting, lasting_not_free, stands_alike, quiet_alike}
 use Rattle.tseen.proofs.Choices.{alternative_none, no_choice, choices_stay}
 use Rattle.std.proofs.Common.{◌≡◌, ◌≢◌, ℕ, zero, suc, ◌+◌, ◌-◌, ◌*◌, ◌<◌, ◌≤◌, ◌%◌, ◌^◌, refl, sym, ap, subst, ◌∙◌}
@@ -42,20 +43,21 @@ use Rattle.tplan.specs.declared.plan.Plan.{Plan}
 use Rattle.tnet.specs.Rendezvous.{Node, Configuration, put_node, was_copied, IsStep}
 use Rattle.tplan.specs.Wires.{end_at, same_end}
 use Rattle.tprocesses.specs.Places.{Place, Name, WordAt, Sending, Standing, Half, LinkHalf, Error, HaltOnError, Life}
-use Rattle.tprocesses.specs.Places.{Population, HasRun, same_name, same_side}
+use Rattle.tprocesses.specs.Places.{Population, HasRun, Unfinished, same_name, same_side}
 use Rattle.tprocesses.specs.Values.{Value, Use, Free, Saved, Receiving, Engaged, Context, Lent, Stand, Rests, Runs}
-use Rattle.tprocesses.specs.Values.{Waits, Request as Asked, Offered, IsStand, IsFlag, IsAmount, IsLink, link_in}
+use Rattle.tprocesses.specs.Values.{Waits, Request as Asked, Link, Empty, Offered, Enabled, Awaited, Fired, IsStand}
+use Rattle.tprocesses.specs.Values.{IsFlag, IsAmount, IsLink, link_in, flag_in}
 use Rattle.tprocesses.specs.Values.{word_in}
 use Rattle.tprocesses.specs.Changes.{Add, Put, apply}
 use Rattle.tprocesses.specs.LinkMessages.{is_empty}
 use Rattle.tprocesses.specs.Standing.{forget}
 use Rattle.tprocesses.specs.Touching.{word_number, word_count}
-use Rattle.tprocesses.specs.Machine.{site_of, awaits_successor}
+use Rattle.tprocesses.specs.Machine.{site_of, awaits_successor, is_passable}
 use Rattle.tseen.specs.Known.{HasRegisters}
 use Rattle.tseen.specs.Seats.{Seat, Current, Interrupted, Queued, Waiting, is_taken}
-use Rattle.tseen.specs.Outputs.{Pending, covers, half_with, is_sending, sendings}
+use Rattle.tseen.specs.Outputs.{Pending, covers, half_with, has_passed, is_sending, sendings}
 use Rattle.tseen.specs.Words.{AreMarked, AreSavedWords, use_at}
-use Rattle.tseen.specs.Halves.{ShowsLink, half_asking, reason_at, request_of}
+use Rattle.tseen.specs.Halves.{ShowsLink, IsInput, reason_at, request_of}
 use Rattle.tseen.specs.Processes.{IsSeated, IsGone, HasFlags, ShowsProcesses}
 use Rattle.tseen.specs.Shown.{ShowsNode}
 use Rattle.tseen.specs.Steps.{IsCurrent, LeadsTo}
@@ -78,7 +80,9 @@ use Rattle.tseen.proofs.Renamed.{waiting_named}
 use Rattle.tseen.proofs.Running.{RunsThere}
 use Rattle.tseen.proofs.Saving.{below, no_word}
 use Rattle.tseen.proofs.Sending.{sendings_alike}
-use Rattle.tseen.proofs.Staying.{saved_words_stay, each_contained, used_one}
+use Rattle.tseen.proofs.InputChannels.{KeepsInputs, descriptors_stay, remembered_stays, remembers_nobody}
+use Rattle.tseen.proofs.NoticedOffers.{KeepsOffers, own_notices}
+use Rattle.tseen.proofs.Staying.{saved_words_stay, each_contained, input_renamed, used_one}
 use Rattle.tseen.proofs.Stepped.{shown_node, there, apart}
 use Rattle.tseen.proofs.Stored.{GoesOn}
 use Rattle.tseen.proofs.LinkTaken.{process, request, before, control', store'', made, ask, l, own_saved, unfree_stays}
@@ -86,7 +90,7 @@ use Rattle.tseen.proofs.LinkTaken.{used_now, receiving_now, free_in_span, lent_a
 use Rattle.tseen.proofs.LinkTaken.{size'', unfree_cell, tells_now, iptr_there}
 use Rattle.tseen.proofs.TakenBack.{is_sending_of, fewer_at, without}
 use Rattle.tseen.proofs.DispatchShown.{found_waiting}
-use Rattle.tseen.proofs.Taking.{IsAsked}
+use Rattle.tseen.proofs.Taking.{IsAsked, IsSettled}
 use Rattle.tseen.proofs.Writing.{word_lies}
 use Rattle.tseen.proofs.Written.{is_word_of}
 
@@ -186,6 +190,14 @@ module _ (p : Plan) (c : Configuration) (s : State) (n : ℕ) (x : Name) (k : Is
   half_before : is_empty (link_in (s (LinkHalf (end_at n link) side))) ≡ true
   half_before = ap (λ z. is_empty (link_in z)) (sym (on.keeps.others (LinkHalf (end_at n link) side) refl)) ∙ a.empty
 
+  -- the process of the last output has gone on
+  not_passed : side ≡ Output → has_passed (sent link) ≡ false
+  not_passed e =
+      ap flag_in (sym (shown.links link link_small).unfinished)
+      ∙ ap flag_in (sym (on.keeps.others (Unfinished (end_at n link)) refl))
+      ∙ subst (IsSettled (site_of n k.plan) (there p c s n x k).whole x d side channel buffer v on.tells.words) e
+      a.settled
+
   nothing_sent : side ≡ Output → sent link ≡ None
   nothing_sent e = by (sent link) refl
     where
@@ -195,9 +207,7 @@ module _ (p : Plan) (c : Configuration) (s : State) (n : ℕ) (x : Name) (k : Is
           ∙ ap (λ z. is_empty (link_in (s (LinkHalf (end_at n link) z)))) (sym e) ∙ half_before
 
       of : (b : Bool) (t : Pending) → sent link ≡ Some t → t.copied ≡ b → ⊥
-      of true t f g =
-          true≢false (sym shut ∙ ap (λ o. is_empty (half_with o)) f
-          ∙ ap (λ z. is_empty (half_with (Some (record { request = t.request; copied = z })))) g)
+      of true t f g = true≢false (sym g ∙ sym (ap has_passed f) ∙ not_passed e)
       of false t f g =
           true≢false (sym shut ∙ ap (λ o. is_empty (half_with o)) f
           ∙ ap (λ z. is_empty (half_with (Some (record { request = t.request; copied = z })))) g)
@@ -216,17 +226,38 @@ module _ (p : Plan) (c : Configuration) (s : State) (n : ℕ) (x : Name) (k : Is
           differ : {t : Pending} → None ≡ Some t → ⊥
           differ e = cc
 
+  empty_is : (h : Link) → is_empty h ≡ true → h ≡ Empty
+  empty_is Empty e = refl
+  empty_is (Offered g) e = absurd (true≢false (sym e))
+  empty_is (Enabled y) e = absurd (true≢false (sym e))
+  empty_is (Awaited y) e = absurd (true≢false (sym e))
+  empty_is (Fired y) e = absurd (true≢false (sym e))
+
+  empty_before : side ≡ Input → input_at s n link ≡ Empty
+  empty_before e =
+      empty_is (input_at s n link)
+      (ap (λ z. is_empty (link_in (s (LinkHalf (end_at n link) z)))) (sym e) ∙ half_before)
+
   no_input : side ≡ Input → (link_end m link).input ≡ None
   no_input e = by (link_end m link).input refl
     where
-      shut : is_empty (half_asking named (link_end m link).input) ≡ true
-      shut =
-          ap (λ z. is_empty (link_in z)) (sym (shown.links link link_small).input)
-          ∙ ap (λ z. is_empty (link_in (s (LinkHalf (end_at n link) z)))) (sym e) ∙ half_before
+      differ : {g : Asked} → Empty ≡ Offered g → ⊥
+      differ e = cc
 
       by : (o : Option Offer) → (link_end m link).input ≡ o → (link_end m link).input ≡ None
       by None f = f
-      by (Some o) f = absurd (true≢false (sym shut ∙ ap (λ z. is_empty (half_asking named z)) f))
+      by (Some o) f =
+          absurd (differ (sym (empty_before e) ∙ ap link_in
+          (subst (λ z. IsInput named z (s (LinkHalf (end_at n link) Input))) f (shown.links link link_small).input)))
+
+  -- nobody has enabled it
+  nobody_remembered : side ≡ Input → (link_end m link).remembered ≡ None
+  nobody_remembered e = by (link_end m link).noticed refl
+    where
+      by : (t : Bool) → (link_end m link).noticed ≡ t → (link_end m link).remembered ≡ None
+      by true f = (shown.links link link_small).forgotten f
+      by false f =
+          (shown.links link link_small).remembered f ∙ remembers_nobody s n link (ap unfired (empty_before e))
 
   -- so the processor may take it, whatever its count
   free : (count : ℕ) → is_free side (link_end m link) (record m { registers = r; count = count }) ≡ true
@@ -241,8 +272,7 @@ module _ (p : Plan) (c : Configuration) (s : State) (n : ℕ) (x : Name) (k : Is
           ap (λ z. is_free z (link_end m link) (record m { registers = r; count = count })) e
           ∙ ap (λ o. is_none o && not (is_enabled_by_other (record m { registers = r; count = count })
           (link_end m link).remembered)) (no_input e)
-          ∙ ap (λ o. not (is_enabled_by_other (record m { registers = r; count = count }) o))
-          (shown.links link link_small).forgotten
+          ∙ ap (λ o. not (is_enabled_by_other (record m { registers = r; count = count }) o)) (nobody_remembered e)
 
   pub may_take_it : (count : ℕ)
       → MayTake asks (record m { registers = r; count = count }) (length store) (claims_of m)
@@ -507,11 +537,6 @@ module _ (p : Plan) (c : Configuration) (s : State) (n : ℕ) (x : Name) (k : Is
       (subst (λ (z : Option Offer). IfSome z (λ o. WaitsFor m o.wdesc (LinkOutput j) × IsBuffer (length store) o)) e
       (k.steady.placed.claimed.outputs j)).0))
 
-  asking_same : (j : ℕ) (o : Option Offer) → (link_end m j).input ≡ o → half_asking named' o ≡ half_asking named o
-  asking_same j None e = refl
-  asking_same j (Some o) e =
-      ap (λ y. Offered (record { process = y; buffer = buffer_of o })) (input_named j o e)
-
   side_apart : (sd other : Side) → same_side sd other ≡ false → side ≡ sd
       → s' (LinkHalf (end_at n link) other) ≡ s (LinkHalf (end_at n link) other)
   side_apart sd other h e =
@@ -523,43 +548,151 @@ module _ (p : Plan) (c : Configuration) (s : State) (n : ℕ) (x : Name) (k : Is
       both true = refl
       both false = refl
 
+  -- the input of a link stays, or is that which was taken
+  record IsKeptInput (j : ℕ) : Type 0 where
+    input : (link_end now j).input ≡ (link_end m j).input
+    noticed : (link_end now j).noticed ≡ (link_end m j).noticed
+    remembered : (link_end now j).remembered ≡ (link_end m j).remembered
+    half : s' (LinkHalf (end_at n j) Input) ≡ s (LinkHalf (end_at n j) Input)
+
+  abbrev IsOwnInput : ℕ → Type 0
+  IsOwnInput j = (side ≡ Input) × (j ≡ link)
+
+  input_cases : (j : ℕ) → IsKeptInput j ⊎ IsOwnInput j
+  input_cases j = by (cases_eq j link) side refl
+    where
+      alike : (e : j ≡ link) → (f : side ≡ Output)
+          → link_end now j ≡ record (link_end m j) { output = Some (offer_of asks) }
+      alike e f =
+          ap (link_end now) e ∙ end_at_side Output f
+          ∙ ap (λ i. record (link_end m i) { output = Some (offer_of asks) }) (sym e)
+
+      by : (j ≡ link) ⊎ (j ≡ link → ⊥) → (sd : Side) → side ≡ sd → IsKeptInput j ⊎ IsOwnInput j
+      by (inr e) sd f =
+          let same : link_end now j ≡ link_end m j = other_link asks side first_control now q j e in
+          inl (record {
+            input = ap (λ (z : LinkEnd). z.input) same;
+            noticed = ap (λ (z : LinkEnd). z.noticed) same;
+            remembered = ap (λ (z : LinkEnd). z.remembered) same;
+            half = other_link_half j Input e;
+          })
+      by (inl e) Output f =
+          inl (record {
+            input = ap (λ (z : LinkEnd). z.input) (alike e f);
+            noticed = ap (λ (z : LinkEnd). z.noticed) (alike e f);
+            remembered = ap (λ (z : LinkEnd). z.remembered) (alike e f);
+            half = ap (λ i. s' (LinkHalf (end_at n i) Input)) e ∙ side_apart Output Input refl f
+                ∙ ap (λ i. s (LinkHalf (end_at n i) Input)) (sym e);
+          })
+      by (inl e) Input f = inr (f, e)
+
+  own_end : (j : ℕ) → IsOwnInput j → link_end now j ≡ link_with Input (offer_of asks) (link_end m link)
+  own_end j (f, e) = ap (link_end now) e ∙ end_at_side Input f
+
+  own_input : (j : ℕ) → IsOwnInput j → s' (LinkHalf (end_at n j) Input) ≡ IsLink (Offered own_request)
+  own_input j (f, e) =
+      ap (λ i. s' (LinkHalf (end_at n i) Input)) e ∙ ap (λ z. s' (LinkHalf (end_at n link) z)) (sym f) ∙ own_half
+
+  own_before : (j : ℕ) → IsOwnInput j → input_at s n j ≡ Empty
+  own_before j (f, e) = ap (λ i. input_at s n i) e ∙ empty_before f
+
+  inputs_kept : KeepsInputs s s' n m.links now.links
+  inputs_kept = record { inputs = λ j. inputs j (input_cases j); noticed = λ j y e. noticed j y e (input_cases j) }
+    where
+      inputs : (j : ℕ) → IsKeptInput j ⊎ IsOwnInput j
+          → (input_at s' n j ≡ input_at s n j) ⊎ ((enabler_on s' n j ≡ None) × (enabler_on s n j ≡ None))
+      inputs j (inl e) = inl (ap link_in e.half)
+      inputs j (inr e) =
+          inr (ap (λ z. link_enabler (link_in z)) (own_input j e), ap link_enabler (own_before j e))
+
+      noticed : (j : ℕ) (y : Name) → enabler_on s n j ≡ Some y → IsKeptInput j ⊎ IsOwnInput j
+          → (link_end now j).noticed ≡ (link_end m j).noticed
+      noticed j y e (inl f) = f.noticed
+      noticed j y e (inr f) = absurd (differ (sym (ap link_enabler (own_before j f)) ∙ e))
+        where
+          differ : {y : Name} → None ≡ Some y → ⊥
+          differ e = cc
+
+  -- the alternatives stay
+  no_alternative : running.context.choice ≡ None
+  no_alternative =
+      no_choice s n m.links store x running.context shown.choices running.home running.stood
+      (subst (λ z. use_of s n (word_number (word_below z 3)) ≡ Free) (same_wptr ∙ sym running.registers.wptr)
+      (free_three p c s n x k v store1 on r same_wptr small d knows side channel buffer s' a))
+
+  alternative_now : alternative_at s' n x ≡ None
+  alternative_now = ap (λ (z : Value). alternative_of (stand_in z)) a.waits.is
+
+  alternative_before : alternative_at s n x ≡ None
+  alternative_before =
+      ap (λ (z : Value). alternative_of (stand_in z)) running.stood
+      ∙ alternative_none true false running.context no_alternative
+
+  alternatives : (y : Name) → alternative_at s' n y ≡ alternative_at s n y
+  alternatives = stands_alike p s s' n x stand_stays (alternative_now ∙ sym alternative_before)
+
   link_shown : (j : ℕ) → j < 4 → ShowsLink s' n named' sent' node' j
   link_shown j b =
       record {
-        input = input (cases_eq j link) side refl;
+        input = input (input_cases j);
         output = output (cases_eq j link) side refl;
+        unfinished = stays (Unfinished (end_at n j)) refl ∙ old.unfinished
+            ∙ ap (λ z. IsFlag z) (passed (cases_eq j link) side refl);
         offered = λ o e. offered o (still_output j o e);
         fresh = λ e. fresh e (cases_eq j link) side refl;
-        forgotten = forgotten (cases_eq j link) side refl;
+        unnoticed = λ o e. unnoticed o e (input_cases j);
+        remembered = λ e. remembered e (input_cases j);
+        forgotten = λ e. forgotten e (input_cases j);
+        fired = λ y e. fired y e (input_cases j);
         pending = λ t e f. pending t e f (cases_eq j link) side refl;
       }
     where
       old : ShowsLink s n named sent k.node j
       old = shown.links j b
 
-      same_input : link_end now j ≡ link_end m j → IsLink (half_asking named (link_end m j).input)
-          ≡ IsLink (half_asking named' (link_end now j).input)
-      same_input e =
-          ap IsLink (sym (asking_same j (link_end m j).input refl))
-          ∙ ap (λ (z : LinkEnd). IsLink (half_asking named' z.input)) (sym e)
+      input : IsKeptInput j ⊎ IsOwnInput j
+          → IsInput named' (link_end now j).input (s' (LinkHalf (end_at n j) Input))
+      input (inl e) =
+          subst (λ o. IsInput named' o (s' (LinkHalf (end_at n j) Input))) (sym e.input)
+          (input_renamed named named' (link_end m j).input _ _ (λ o f. input_named j o f) e.half old.input)
+      input (inr e) =
+          subst (λ o. IsInput named' o (s' (LinkHalf (end_at n j) Input)))
+          (sym (ap (λ (z : LinkEnd). z.input) (own_end j e)))
+          (own_input j e ∙ ap (λ y. IsLink (Offered (record { process = y; buffer = buffer }))) (sym own_named))
 
-      input : (j ≡ link) ⊎ (j ≡ link → ⊥) → (sd : Side) → side ≡ sd
-          → s' (LinkHalf (end_at n j) Input) ≡ IsLink (half_asking named' (link_end now j).input)
-      input (inr e) sd f =
-          other_link_half j Input e ∙ old.input ∙ same_input (other_link asks side first_control now q j e)
-      input (inl e) Output f =
-          ap (λ i. s' (LinkHalf (end_at n i) Input)) e ∙ side_apart Output Input refl f
-          ∙ ap (λ i. s (LinkHalf (end_at n i) Input)) (sym e) ∙ old.input
-          ∙ ap IsLink (sym (asking_same j (link_end m j).input refl))
-          ∙ ap (λ i. IsLink (half_asking named' (link_end m i).input)) e
-          ∙ ap (λ (z : LinkEnd). IsLink (half_asking named' z.input)) (sym (end_at_side Output f))
-          ∙ ap (λ i. IsLink (half_asking named' (link_end now i).input)) (sym e)
-      input (inl e) Input f =
-          ap (λ i. s' (LinkHalf (end_at n i) Input)) e
-          ∙ ap (λ z. s' (LinkHalf (end_at n link) z)) (sym f) ∙ own_half
-          ∙ ap (λ y. IsLink (Offered (record { process = y; buffer = buffer }))) (sym own_named)
-          ∙ ap (λ (z : LinkEnd). IsLink (half_asking named' z.input)) (sym (end_at_side Input f))
-          ∙ ap (λ i. IsLink (half_asking named' (link_end now i).input)) (sym e)
+      passed : (j ≡ link) ⊎ (j ≡ link → ⊥) → (sd : Side) → side ≡ sd → has_passed (sent j) ≡ has_passed (sent' j)
+      passed (inr e) sd f = ap has_passed (sym (sent_other j e))
+      passed (inl e) Input f = ap has_passed (sym (sent_input f j))
+      passed (inl e) Output f =
+          ap (λ i. has_passed (sent i)) e ∙ ap has_passed (nothing_sent f) ∙ sym (ap has_passed (sent_own f))
+          ∙ ap (λ i. has_passed (sent' i)) (sym e)
+
+      unnoticed : (o : Offer) → (link_end now j).input ≡ Some o → IsKeptInput j ⊎ IsOwnInput j
+          → (link_end now j).noticed ≡ false
+      unnoticed o e (inl f) = f.noticed ∙ old.unnoticed o (sym f.input ∙ e)
+      unnoticed o e (inr f) = ap (λ (z : LinkEnd). z.noticed) (own_end j f)
+
+      remembered : (link_end now j).noticed ≡ false → IsKeptInput j ⊎ IsOwnInput j
+          → (link_end now j).remembered ≡ remembered_at s' n j
+      remembered e (inl f) =
+          f.remembered ∙ old.remembered (sym f.noticed ∙ e)
+          ∙ sym (remembered_stays s s' n j (ap link_in f.half)
+          (descriptors_stay s s' n m.links store shown.choices (λ y h. alternatives y) j b))
+      remembered e (inr f) =
+          ap (λ (z : LinkEnd). z.remembered) (own_end j f)
+          ∙ sym (remembers_nobody s' n j (ap (λ z. unfired (link_in z)) (own_input j f)))
+
+      forgotten : (link_end now j).noticed ≡ true → IsKeptInput j ⊎ IsOwnInput j → (link_end now j).remembered ≡ None
+      forgotten e (inl f) = f.remembered ∙ old.forgotten (sym f.noticed ∙ e)
+      forgotten e (inr f) = ap (λ (z : LinkEnd). z.remembered) (own_end j f)
+
+      fired : (y : Name) → s' (LinkHalf (end_at n j) Input) ≡ IsLink (Fired y) → IsKeptInput j ⊎ IsOwnInput j
+          → (link_end now j).noticed ≡ true
+      fired y e (inl f) = f.noticed ∙ old.fired y (sym f.half ∙ e)
+      fired y e (inr f) = absurd (differ (sym (own_input j f) ∙ e))
+        where
+          differ : {g : Asked} → IsLink (Offered g) ≡ IsLink (Fired y) → ⊥
+          differ e = cc
 
       output : (j ≡ link) ⊎ (j ≡ link → ⊥) → (sd : Side) → side ≡ sd
           → s' (LinkHalf (end_at n j) Output) ≡ IsLink (half_with (sent' j))
@@ -602,15 +735,6 @@ module _ (p : Plan) (c : Configuration) (s : State) (n : ℕ) (x : Name) (k : Is
           old.fresh (ap (λ i. (link_end m i).output) e ∙ ap (λ (z : LinkEnd). z.output) (sym (end_at_side Input f))
           ∙ ap (λ i. (link_end now i).output) (sym e) ∙ h)
       fresh h (inl e) Output f = old.fresh (ap (λ i. (link_end m i).output) e ∙ no_output f)
-
-      forgotten : (j ≡ link) ⊎ (j ≡ link → ⊥) → (sd : Side) → side ≡ sd → (link_end now j).remembered ≡ None
-      forgotten (inr e) sd f =
-          ap (λ (z : LinkEnd). z.remembered) (other_link asks side first_control now q j e) ∙ old.forgotten
-      forgotten (inl e) Input f =
-          ap (λ i. (link_end now i).remembered) e ∙ ap (λ (z : LinkEnd). z.remembered) (end_at_side Input f)
-      forgotten (inl e) Output f =
-          ap (λ i. (link_end now i).remembered) e ∙ ap (λ (z : LinkEnd). z.remembered) (end_at_side Output f)
-          ∙ ap (λ i. (link_end m i).remembered) (sym e) ∙ old.forgotten
 
       pending : (t : Pending) → sent' j ≡ Some t → t.copied ≡ false → (j ≡ link) ⊎ (j ≡ link → ⊥) → (sd : Side)
           → side ≡ sd → (o : Offer) × ((link_end now j).output ≡ Some o)
@@ -999,28 +1123,13 @@ module _ (p : Plan) (c : Configuration) (s : State) (n : ℕ) (x : Name) (k : Is
         }) shown.channels;
         links = link_shown;
         processes = processes_now;
-        choices = choices_stay s s' n store seen_store
-            (λ y h. stands_alike p s s' n x stand_stays (alternative_now ∙ sym alternative_before) y)
+        choices = choices_stay s s' n m.links now.links store seen_store inputs_kept (λ y h. alternatives y)
             (λ y h e. quiet_alike p s s' n x stand_stays quiet_now y e) (λ y h. stays (Ports y) refl)
             (λ b sd. stays (Half n b sd) refl) unsent_still
             (λ j e. unfree_stays_here j (lasting_not_free e)) size_now
             lasting_word shown.choices;
       }
     where
-      no_alternative : running.context.choice ≡ None
-      no_alternative =
-          no_choice s n store x running.context shown.choices running.home running.stood
-          (subst (λ z. use_of s n (word_number (word_below z 3)) ≡ Free) (same_wptr ∙ sym running.registers.wptr)
-          (free_three p c s n x k v store1 on r same_wptr small d knows side channel buffer s' a))
-
-      alternative_now : alternative_at s' n x ≡ None
-      alternative_now = ap (λ (z : Value). alternative_of (stand_in z)) a.waits.is
-
-      alternative_before : alternative_at s n x ≡ None
-      alternative_before =
-          ap (λ (z : Value). alternative_of (stand_in z)) running.stood
-          ∙ alternative_none true false running.context no_alternative
-
       quiet_now : is_quiet (stand_in (s' (Standing x))) ≡ true
       quiet_now = ap (λ (z : Value). is_quiet (stand_in z)) a.waits.is ∙ ap is_none (same_choice ∙ no_alternative)
 
@@ -1033,6 +1142,29 @@ module _ (p : Plan) (c : Configuration) (s : State) (n : ℕ) (x : Name) (k : Is
       other (LinkHalf e sd) h = ne_eqb n e.node (λ f. h (sym f))
       other (Standing y) h = rw (ne_eqb x.node y.node (λ e. h (sym e ∙ running.home))) refl
       other _ h = refl
+
+  -- it keeps what it offers, and notices nothing
+  keeps_offers : KeepsOffers s s' n k.node node'
+  keeps_offers =
+      record { offers = λ j h. offers j h (cases_eq j link) side refl; notices = λ j h. notices j h (input_cases j) }
+    where
+      Sends : State → ℕ → Type 0
+      Sends t j = is_passable (LinkHalf (end_at n j) Output) (t (LinkHalf (end_at n j) Output)) ≡ true
+
+      offers : (j : ℕ) → Sends s j → (j ≡ link) ⊎ (j ≡ link → ⊥) → (sd : Side) → side ≡ sd → Sends s' j
+      offers j h (inr e) sd f = ap (is_passable (LinkHalf (end_at n j) Output)) (other_link_half j Output e) ∙ h
+      offers j h (inl e) Input f =
+          subst (Sends s') (sym e)
+          (ap (is_passable (LinkHalf (end_at n link) Output)) (side_apart Input Output refl f) ∙ subst (Sends s) e h)
+      offers j h (inl e) Output f =
+          subst (Sends s') (sym e)
+          (ap (is_passable (LinkHalf (end_at n link) Output)) (ap (λ z. s' (LinkHalf (end_at n link) z)) (sym f)
+          ∙ own_half))
+
+      notices : (j : ℕ) → (link_end now j).noticed ≡ true → IsKeptInput j ⊎ IsOwnInput j
+          → (link_end m j).noticed ≡ true
+      notices j h (inl e) = sym e.noticed ∙ h
+      notices j h (inr e) = absurd (true≢false (sym h ∙ ap (λ (z : LinkEnd). z.noticed) (own_end j e)))
 
   -- and the step of the node leads there
   pub take_leads : step k.node.machine ≡ Ok (
@@ -1055,7 +1187,8 @@ module _ (p : Plan) (c : Configuration) (s : State) (n : ℕ) (x : Name) (k : Is
           is_step = is_step side;
           after = refl;
         };
-        shows = net_shown p c s s' k.shows n k.plan k.planned k.node k.here node' named' sent' taken_shown elsewhere;
+        shows = net_shown p c s s' k.shows n k.plan k.planned k.node k.here node' named' sent' taken_shown elsewhere
+            (own_notices p c s s' n k.plan k.node node' k.planned k.here k.shows.noticed keeps_offers elsewhere);
       }
     where
       is_step : (sd : Side) → IsStep (ran_link sd (link_of side channel))

@@ -196,7 +196,8 @@ module _ (p : Plan) (c : Configuration) (s : State) (n : ℕ) (x : Name) (k : Is
   -- the process has no alternative
   no_alternative : running.context.choice ≡ None
   no_alternative =
-      no_choice s n store x running.context (shown_node p c s n x k).choices running.home running.stood
+      no_choice s n k.node.machine.control.links store x running.context (shown_node p c s n x k).choices running.home
+      running.stood
       (subst (λ z. use_of s n (word_number (word_below z 3)) ≡ Free) (sym running.registers.wptr)
       (third_free p c s n x k v h))
 

@@ -14,14 +14,14 @@ use Rattle.tproc.specs.declared.channels.Side.TheVariants.{Input, Output}
 use Rattle.tproc.specs.Channels.{mode_of}
 use Rattle.tproc.specs.LinkChannels.{link_of, is_right_end}
 use Rattle.tplan.specs.Wires.{end_at}
-use Rattle.tprocesses.specs.Places.{Place, Name, WordAt, LinkHalf}
+use Rattle.tprocesses.specs.Places.{Place, Name, WordAt, LinkHalf, Unfinished}
 use Rattle.tprocesses.specs.Values.{Saved, Receiving, Context, Waits, Offered, Request, IsLink, link_in}
-use Rattle.tprocesses.specs.Values.{word_in, unknown}
+use Rattle.tprocesses.specs.Values.{word_in, flag_in, unknown}
 use Rattle.tprocesses.specs.Changes.{Put}
 use Rattle.tprocesses.specs.Parts.{Breaks, require}
 use Rattle.tprocesses.specs.Touching.{Site, word_number, word_count, touch, replaced, save, kept}
 use Rattle.tprocesses.specs.Standing.{forget}
-use Rattle.tprocesses.specs.LinkMessages.{takes_link, lends, is_empty}
+use Rattle.tprocesses.specs.LinkMessages.{takes_link, lends, finished, is_empty}
 use Rattle.tseen.proofs.After.{State, After, changed, after_bind, after_require}
 use Rattle.tseen.proofs.Cells.{IsWhole, four_of}
 use Rattle.tseen.proofs.Finished.{StandsNow, stands_then}
@@ -55,12 +55,18 @@ module _ (site : Site) (whole : site.size % 4 ≡ 0) (x : Name) (c : Context) (s
       AreLaidFor Receiving site.number (word_number buffer.start) (word_count buffer)
       (replaced buffer words (replicate buffer.size None)) v2 v3
 
+  -- the process of the last output has gone on
+  abbrev pub IsSettled : Side → Type 0
+  IsSettled Output = flag_in (v (Unfinished (end_at site.number (link_of side channel)))) ≡ false
+  IsSettled Input = Unit {0}
+
   -- the half was taken
   pub record IsAsked (s' : State) : Type 0 where
     pub aligned : is_aligned channel ≡ true
     pub right : is_right_end side channel ≡ true
     pub some : (buffer.size == 0) ≡ false
     pub empty : is_empty (link_in (v half)) ≡ true
+    pub settled : IsSettled side
     pub v2 : State
     pub saved : IsSaved site whole taken v2 c.wptr kept
     pub v3 : State
@@ -115,6 +121,13 @@ module _ (site : Site) (whole : site.size % 4 ≡ 0) (x : Name) (c : Context) (s
           (span_read v2 site.number site.size Writes buffer words t) (replicate buffer.size None)
           (length-replicate buffer.size None)) (λ v3 k. h words v3 t k)))
 
+  finished_then : (sd : Side) (Q : Unit {0} → State → Type 0) → (IsSettled sd → Q tt v)
+      → After (finished sd (end_at site.number (link_of side channel))) v Q
+  finished_then Output Q h =
+      after_require (not (flag_in (v (Unfinished (end_at site.number (link_of side channel)))))) (Breaks LinkBusy) v Q
+      (λ e. h (not_zero _ e))
+  finished_then Input Q h = h tt
+
   pub takes_link_then : Plan → (Q : Unit {0} → State → Type 0) → ((s' : State) → IsAsked s' → Q tt s')
       → After (takes_link site x c side channel buffer) v Q
   takes_link_then p Q h =
@@ -126,6 +139,7 @@ module _ (site : Site) (whole : site.size % 4 ≡ 0) (x : Name) (c : Context) (s
       (after_require (not (buffer.size == 0)) (Breaks ZeroLength) v _ (λ some.
       after_bind (require (is_empty (link_in (v half))) (Breaks LinkBusy)) _ v Q
       (after_require (is_empty (link_in (v half))) (Breaks LinkBusy) v _ (λ empty.
+      after_bind (finished side (end_at site.number (link_of side channel))) _ v Q (finished_then side _ (λ settled.
       after_bind (save site c.wptr kept) _ taken Q
       (save_then site whole c.wptr kept taken _ (λ v2 saved.
       after_bind (lends side site buffer) _ v2 Q
@@ -136,6 +150,7 @@ module _ (site : Site) (whole : site.size % 4 ≡ 0) (x : Name) (c : Context) (s
         right = right;
         some = not_zero (buffer.size == 0) some;
         empty = empty;
+        settled = settled;
         v2 = v2;
         saved = saved;
         v3 = v3;
@@ -143,4 +158,4 @@ module _ (site : Site) (whole : site.size % 4 ≡ 0) (x : Name) (c : Context) (s
         touched = touched;
         lent = lent;
         waits = waits;
-      }))))))))))))))
+      }))))))))))))))))

@@ -8,7 +8,7 @@ use Rattle.tplan.specs.declared.plan.NodePlan.{NodePlan}
 use Rattle.tplan.specs.declared.plan.Plan.{Plan}
 use Rattle.tnet.specs.Rendezvous.{Node}
 use Rattle.tprocesses.specs.Places.{Name, Standing, HasRun, same_name}
-use Rattle.tprocesses.specs.Values.{Chosen, Chooses, Value, Context, Stand, Absent, Rests, Runs, Waits, Ended}
+use Rattle.tprocesses.specs.Values.{Chosen, Listens, Chooses, Value, Context, Stand, Absent, Rests, Runs, Waits, Ended}
 use Rattle.tprocesses.specs.Values.{IsStand, IsFlag}
 use Rattle.tseen.specs.Known.{HasSaved}
 use Rattle.tseen.specs.Seats.{Seat, Queued, Waiting}
@@ -79,6 +79,7 @@ module _ (s : State) (n : ℕ) (node : Node) where
       by (Runs d) e f r = absurd f
       by Ended e f r = absurd f
       by (Chosen d) e f r = absurd f
+      by (Listens channel d) e f r = absurd f
 
   -- what a process that is queued or waits will go on with
   saved_in : (q : Seat) (process : ℕ) (stand : Stand) → (q ≡ Queued process) ⊎ (q ≡ Waiting process)
@@ -94,6 +95,7 @@ module _ (s : State) (n : ℕ) (node : Node) where
       by (Waits d) f = absurd f
       by Ended f = absurd f
       by (Chooses d) f = absurd f
+      by (Listens channel d) f = absurd f
   saved_in q process stand (inr e) f = by stand (subst (λ (z : Seat). Fits node z stand) e f)
     where
       by : (stand : Stand) → Fits node (Waiting process) stand
@@ -105,6 +107,7 @@ module _ (s : State) (n : ℕ) (node : Node) where
       by (Runs d) f = absurd f
       by Ended f = absurd f
       by (Chosen d) f = absurd f
+      by (Listens channel d) f = absurd f
 
   -- two that are queued or wait under one name are the same
   pub one_process : (q r : Seat) (a b : ℕ) (x : Name) → (q ≡ Queued a) ⊎ (q ≡ Waiting a)

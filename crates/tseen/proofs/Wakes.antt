@@ -37,14 +37,15 @@ use Rattle.tproc.proofs.SavedWords.{saved_words_stand}
 use Rattle.tproc.proofs.Waiters.{found_waiter}
 use Rattle.tnet.specs.Rendezvous.{Node, Configuration, node_of, put_node, marked, was_copied}
 use Rattle.treduction.proofs.LinkActions.{finish_output_is, linked, last_before, without_out}
-use Rattle.tprocesses.specs.Places.{Name, Standing}
-use Rattle.tprocesses.specs.Values.{Saved, Receiving, Context, Rests, Waits, IsStand, IsLink}
+use Rattle.tplan.specs.Wires.{end_at}
+use Rattle.tprocesses.specs.Places.{Name, Standing, LinkHalf}
+use Rattle.tprocesses.specs.Values.{Saved, Receiving, Context, Rests, Waits, IsStand}
 use Rattle.tprocesses.specs.Touching.{word_number}
 use Rattle.tprocesses.specs.Machine.{site_of}
 use Rattle.tseen.specs.Seats.{Seat, Waiting}
 use Rattle.tseen.specs.Outputs.{Pending}
 use Rattle.tseen.specs.Words.{AreSavedWords, use_at}
-use Rattle.tseen.specs.Halves.{ShowsLink, half_asking, reason_at, request_of}
+use Rattle.tseen.specs.Halves.{ShowsLink, IsInput, reason_at, request_of}
 use Rattle.tseen.specs.Processes.{HasPassed}
 use Rattle.tseen.specs.Shown.{Shows, ShowsNode}
 use Rattle.tseen.specs.Steps.{IsSteady}
@@ -55,11 +56,12 @@ use Rattle.tseen.proofs.Built.{lies_below}
 use Rattle.tseen.proofs.Cells.{use_of, tells_from, shows_from}
 use Rattle.tseen.proofs.ChannelsKept.{channels_kept}
 use Rattle.tseen.proofs.Nets.{net_shown}
-use Rattle.tseen.proofs.Notices.{alike}
+use Rattle.tseen.proofs.SetLinks.{alike}
 use Rattle.tseen.proofs.QueueLinks.{IsLinked, linked_then, linked_tells, word_alike}
 use Rattle.tseen.proofs.Receives.{input_receives}
 use Rattle.tseen.proofs.Rejoined.{joins, reason_before, reason_now, no_reason, same_queue, still_there}
-use Rattle.tseen.proofs.Staying.{marks_from, half_asking_stays}
+use Rattle.tseen.proofs.NoticedOffers.{has_noticed, own_notices}
+use Rattle.tseen.proofs.Staying.{marks_from, input_renamed}
 use Rattle.tseen.proofs.Stepped.{hidden_if}
 use Rattle.tseen.proofs.Waiting.{IsWaiting}
 use Rattle.tseen.proofs.Woken.{IsWoken, control', node', waiting, named', processes_woken}
@@ -189,6 +191,13 @@ module _ (p : Plan) (s : State) (n : ℕ) (plan : NodePlan) (named : Seat → Na
   input_is : (j : ℕ) → (link_end now j).input ≡ (link_end m j).input
   input_is j = ap (λ (e : LinkEnd). e.input) (link_now j) ∙ alike (λ (e : LinkEnd). e.input) m.links l j _ refl
 
+  noticed_is : (j : ℕ) → (link_end now j).noticed ≡ (link_end m j).noticed
+  noticed_is j = ap (λ (e : LinkEnd). e.noticed) (link_now j) ∙ alike (λ (e : LinkEnd). e.noticed) m.links l j _ refl
+
+  remembered_is : (j : ℕ) → (link_end now j).remembered ≡ (link_end m j).remembered
+  remembered_is j =
+      ap (λ (e : LinkEnd). e.remembered) (link_now j) ∙ alike (λ (e : LinkEnd). e.remembered) m.links l j _ refl
+
   other_link : (j : ℕ) → (j ≡ l → ⊥) → link_end now j ≡ link_end m j
   other_link j h = link_now j ∙ get_or-set_other m.links l j ended quiet_end h
 
@@ -241,18 +250,20 @@ module _ (p : Plan) (s : State) (n : ℕ) (plan : NodePlan) (named : Seat → Na
   abbrev renamed_to : Seat → Name
   renamed_to =
       named' p s s n plan named sent node shown placed process (LinkOutput l) waits ls store' flags
-      there.context.lent woken_there
 
   link_awake : (j : ℕ) → j < 4 → ShowsLink s n renamed_to sent awake j
   link_awake j b =
       record {
-        input = old.input ∙ ap (λ (o : Option Offer). IsLink (half_asking named o)) (sym (input_is j))
-            ∙ ap IsLink (sym (half_asking_stays named renamed_to (link_end now j).input (λ v. refl)));
+        input = subst (λ (o : Option Offer). IsInput renamed_to o (s (LinkHalf (end_at n j) Input))) (sym (input_is j))
+            (input_renamed named renamed_to (link_end m j).input _ _ (λ o e. refl) refl old.input);
         output = old.output;
+        unfinished = old.unfinished;
         offered = λ o e. offered o e (cases_eq j l);
         fresh = λ e. fresh e (cases_eq j l);
-        forgotten = ap (λ (e : LinkEnd). e.remembered) (link_now j)
-            ∙ alike (λ (e : LinkEnd). e.remembered) m.links l j _ refl ∙ old.forgotten;
+        unnoticed = λ o e. noticed_is j ∙ old.unnoticed o (sym (input_is j) ∙ e);
+        remembered = λ e. remembered_is j ∙ old.remembered (sym (noticed_is j) ∙ e);
+        forgotten = λ e. remembered_is j ∙ old.forgotten (sym (noticed_is j) ∙ e);
+        fired = λ x e. noticed_is j ∙ old.fired x e;
         pending = λ q e f. pending q e f (cases_eq j l);
       }
     where
@@ -376,7 +387,9 @@ module _ (p : Plan) (s : State) (n : ℕ) (plan : NodePlan) (named : Seat → Na
         links = link_awake;
         processes = processes_woken p s s n plan named sent node shown placed process (LinkOutput l) waits ls store'
             flags there.context.lent woken_there;
-        choices = choices_stay s s n store store' (λ x h. refl) (λ x h e. e) (λ x h. refl) (λ a side. refl)
+        choices = choices_stay s s n m.links now.links store store'
+            (record { inputs = λ j. inl refl; noticed = λ j x e. noticed_is j }) (λ x h. refl) (λ x h e. e)
+            (λ x h. refl) (λ a side. refl)
             (λ j e z. z) (λ j e. refl) linked_store.size lasting_word shown.choices;
       }
     where
@@ -394,6 +407,10 @@ module _ (p : Plan) (s : State) (n : ℕ) (plan : NodePlan) (named : Seat → Na
         role = role_woken node.role;
         machine = hidden (woken node.role l node.machine);
       })) renamed_to sent (subst (ShowsNode s n plan renamed_to sent) (sym awake_is) awake_shown) (λ q h. refl)
+      (own_notices p c s s n plan node _ planned here shows.noticed (record {
+        offers = λ j h. h;
+        notices = λ j h. sym (noticed_is j) ∙ ap (λ (z : Node). has_noticed z j) (sym awake_is) ∙ h;
+      }) (λ q h. refl))
 
 -- wakes of processors
 pub wakes_are_seen : WakesAreSeen

@@ -2,25 +2,30 @@
 use Rattle.std.proofs.Common.{◌≡◌, ◌≢◌, ℕ, zero, suc, ◌+◌, ◌*◌, ◌<◌, ◌≤◌, refl, sym, ap, subst, ◌∙◌, List, [], ◌∷◌}
 use Rattle.std.proofs.Common.{length}
 use Rattle.std.proofs.Common.{Bool, true, false, not, set, get_or, Result, Ok, Option, Some, None, arith}
-use Rattle.std.specs.Prelude.{is_some, slice_get}
+use Rattle.std.specs.Prelude.{is_some, slice_get, slice_index_or}
 use Rattle.std.proofs.lemmas.List.{get_or-set_same, get_or-set_other}
 use Rattle.std.proofs.lemmas.Option.{same_Some}
 use Rattle.tproc.specs.declared.offer.Offer.{Offer}
 use Rattle.tproc.specs.declared.ran.Ran.TheVariants as ran
 use Rattle.tproc.specs.declared.waiter.LinkEnd.{LinkEnd}
 use Rattle.tproc.specs.declared.waiter.Suspended.{Suspended}
-use Rattle.tproc.specs.Machine.{Control, Machine, workspace_of, priority_of}
+use Rattle.tword.specs.Claims.{Claims}
+use Rattle.tword.proofs.Leads.{Leads, leads_run}
+use Rattle.tproc.specs.Machine.{Control, Machine, claims_of, workspace_of, priority_of}
 use Rattle.tproc.specs.Hidden.{hidden}
 use Rattle.tproc.specs.LinkChannels.{link_end, quiet_end}
-use Rattle.tproc.specs.Links.{notice, finish_output}
-use Rattle.tproc.specs.Queues.{appended, without_waiter, resumed}
+use Rattle.tproc.specs.Links.{notice, wakes, finish_output}
+use Rattle.tproc.specs.Queues.{appended, without_waiter, release, resumed}
 use Rattle.tproc.specs.Steps.{step}
+use Rattle.tproc.proofs.ClaimMoves.{enqueue_to}
+use Rattle.tproc.proofs.Leaving.{notify-gives}
 use Rattle.tproc.proofs.LinkClaims.{noticing}
+use Rattle.tproc.proofs.Noticing.{notice-links}
 use Rattle.tlink.specs.Roles.{Role, Processor, Source, woken}
 use Rattle.tnet.specs.Rendezvous.{Node, Configuration, node_of, put_node, marked, was_copied, IsLocal}
 use Rattle.treduction.proofs.LinkActions.{finish_output_is, without_out}
 use Rattle.tseen.proofs.Copies.{some_is}
-use Rattle.tseen.proofs.Notices.{alike}
+use Rattle.tseen.proofs.SetLinks.{alike}
 
 abbrev one_if : Bool → ℕ
 one_if true = 1
@@ -95,13 +100,42 @@ four_less f g (suc (suc (suc (suc l)))) h e o = absurd (omega (arith, h))
 four_same : (f g : ℕ → ℕ) → ((j : ℕ) → g j ≡ f j) → of_four g ≡ of_four f
 four_same f g o = omega (arith, o 0, o 1, o 2, o 3)
 
+-- releasing a process, or telling one of a notice, leaves whoever was interrupted
+held_stays : (w q : ℕ) (m : Control) → (appended w q m).interrupted ≡ m.interrupted
+held_stays w zero m = refl
+held_stays w (suc q) m = refl
+
+abbrev HeldAs : Option Suspended → Claims → Control → Type 0
+HeldAs o d m = m.interrupted ≡ o
+
+release_held : (n process : ℕ) (m : Control) (c : Claims) → Leads n (HeldAs m.interrupted) c (release process m)
+unfolding release
+release_held n process m c =
+    enqueue_to n (λ m'. m'.interrupted ≡ m.interrupted) process (without_waiter process m) c
+    (held_stays (workspace_of process) (priority_of process) (without_waiter process m))
+
+notice_held : (l : ℕ) (n : Machine) → (notice l n).control.interrupted ≡ n.control.interrupted
+unfolding notice
+notice_held l n =
+    notify-gives (λ (z : Machine). z.control.interrupted ≡ n.control.interrupted) (noticing l n) refl
+    (λ process m t s e. (leads_run (HeldAs n.control.interrupted) (wakes process (noticing l n).control)
+    (noticing l n).store (noticing l n).store (claims_of (noticing l n).control) m t
+    (release_held (length (noticing l n).store) process (noticing l n).control (claims_of (noticing l n).control)) e).1)
+    (λ A x a t e. refl) (link_end n.control l).remembered
+
 -- a notice
 pub notice_lighter : (node : Node) (l : ℕ) → l < 4 → length node.machine.control.links ≡ 4
-    → notice l node.machine ≡ noticing l node.machine → (link_end node.machine.control l).noticed ≡ false
+    → (link_end node.machine.control l).noticed ≡ false
     → suc (weight (record node { machine = hidden (notice l node.machine) })) ≡ weight node
-notice_lighter node l small four is fresh =
-    subst (λ (z : Machine). suc (weight (record node { machine = hidden z })) ≡ weight node) (sym is)
-    (omega (arith, less))
+notice_lighter node l small four fresh =
+    omega (
+      arith,
+      less,
+      four_same (quiet (noticing l node.machine).control) (quiet (notice l node.machine).control)
+          (λ j. ap (λ (ls : List LinkEnd). one_if (not (slice_index_or ls j quiet_end).noticed))
+          (notice-links l node.machine)),
+      ap (λ (o : Option Suspended). one_if (is_some o)) (notice_held l node.machine),
+    )
   where
     m : Control
     m = node.machine.control
@@ -156,10 +190,6 @@ wake_lighter node role m l small four copied noticed held =
 links_stay : (w q : ℕ) (m : Control) → (appended w q m).links ≡ m.links
 links_stay w zero m = refl
 links_stay w (suc q) m = refl
-
-held_stays : (w q : ℕ) (m : Control) → (appended w q m).interrupted ≡ m.interrupted
-held_stays w zero m = refl
-held_stays w (suc q) m = refl
 
 pub processor_lighter : (node : Node) (l : ℕ) (o : Offer) → node.role ≡ Processor
     → (link_end node.machine.control l).output ≡ Some o → l < 4 → length node.copied ≡ 4 → was_copied node l ≡ true

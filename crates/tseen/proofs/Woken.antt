@@ -19,10 +19,10 @@ use Rattle.tplan.specs.declared.plan.Plan.{Plan}
 use Rattle.tnet.specs.Rendezvous.{Node}
 use Rattle.tprocesses.specs.Places.{Place, Name, WordAt, Standing, LinkHalf, Error, HaltOnError, Life, Population}
 use Rattle.tprocesses.specs.Places.{HasRun, FlagChanged, same_name}
-use Rattle.tprocesses.specs.Values.{Chosen, Chooses, Value, Context, Lent, Stand, Absent, Rests, Runs, Waits, Ended}
+use Rattle.tprocesses.specs.Values.{Chosen, Listens, Chooses, Context, Lent, Stand, Absent, Rests, Runs, Waits, Ended}
 use Rattle.tprocesses.specs.Values.{IsStand, IsFlag}
 use Rattle.tprocesses.specs.Values.{IsAmount}
-use Rattle.tseen.specs.Known.{HasRegisters, HasSaved}
+use Rattle.tseen.specs.Known.{HasRegisters}
 use Rattle.tseen.specs.Seats.{Seat, Current, Interrupted, Queued, Waiting, is_taken}
 use Rattle.tseen.specs.Outputs.{Pending}
 use Rattle.tseen.specs.Processes.{Fits, IsSeated, IsGone, HasFlags, KeepsFlags, HasPassed, ShowsProcesses, context_in}
@@ -70,23 +70,25 @@ module _ (p : Plan) (s s' : State) (n : ℕ) (plan : NodePlan) (named : Seat →
   pub waiting : IsWaiting s n node process x
   waiting = waits_there p s n plan named sent node shown process taken_before
 
-  -- what holds besides
-  pub record IsWoken (lent : Option Lent) : Type 0 where
-    pub rests : s' (Standing x) ≡ IsStand (Rests (record waiting.context { lent = lent }))
+  -- how it stands once it is queued, and what holds besides
+  pub record IsAwake (stand : Stand) : Type 0 where
+    pub stands : s' (Standing x) ≡ IsStand stand
+    pub fits : Fits node' (Queued process) stand
+    pub has_run : IfSome (context_in stand) (λ d. s' (HasRun n d.priority) ≡ IsFlag true)
     pub stays : (q : Place) → may_change n x q ≡ false → s' q ≡ s q
     pub iptrs : (a : ℕ) → Contains (descheduled m) a
         → word_at store' (word_below a iptr_word) ≡ word_at node.machine.store (word_below a iptr_word)
     pub passes : (b : ℕ) → (b ≡ process → ⊥) → HasPassed node b → HasPassed node' b
-    pub lent_sent : (t : Lent) → lent ≡ Some t → (t.link < 4)
+    pub lent_sent : (d : Context) (t : Lent) → stand ≡ Rests d → d.lent ≡ Some t → (t.link < 4)
         × (sent t.link ≡ Some (record { request = record { process = x; buffer = t.buffer }; copied = true }))
     pub passed : (l : ℕ) (q : Pending) → sent l ≡ Some q → q.copied ≡ true
         → (q.request.process.node ≡ n) × (k : Context) × (s' (Standing q.request.process) ≡ IsStand (Rests k))
         × (k.lent ≡ Some (record { link = l; buffer = q.request.buffer }))
 
-  module _ (lent : Option Lent) (k : IsWoken lent) where
-    abbrev pub named' : Seat → Name
-    named' = renamed process x named
+  abbrev pub named' : Seat → Name
+  named' = renamed process (named (Waiting process)) named
 
+  module _ (stand : Stand) (k : IsAwake stand) where
     stand_stays : (y : Name) → same_name x y ≡ false → s' (Standing y) ≡ s (Standing y)
     stand_stays y h = k.stays (Standing y) h
 
@@ -129,6 +131,7 @@ module _ (p : Plan) (s s' : State) (n : ℕ) (plan : NodePlan) (named : Seat →
         by Ended e f r = absurd f
         by (Chooses d) e f r = absurd f
         by (Chosen d) e f r = absurd f
+        by (Listens channel d) e f r = absurd f
 
     interrupted_seated : (y : Name) → IsSeated s n node Interrupted y → IsSeated s' n node' Interrupted y
     interrupted_seated y q = by q.stand q.stands q.fits q.has_run
@@ -151,22 +154,16 @@ module _ (p : Plan) (s s' : State) (n : ℕ) (plan : NodePlan) (named : Seat →
         by Ended e f r = absurd f
         by (Chooses d) e f r = absurd f
         by (Chosen d) e f r = absurd f
+        by (Listens channel d) e f r = absurd f
 
     own_seated : (b : ℕ) → b ≡ process → IsSeated s' n node' (Queued b) x
     own_seated b e =
         record {
           home = waiting.home;
-          stand = Rests (record waiting.context { lent = lent });
-          stands = k.rests;
-          fits = subst (λ z. HasSaved store' z (record waiting.context { lent = lent })) (sym e) (record {
-            priority = waiting.saved.priority;
-            wptr = waiting.saved.wptr;
-            iptr = waiting.saved.iptr ∙ sym (k.iptrs (workspace_of process) (waits_descheduled m process taken_before));
-            a = waiting.saved.a;
-            b = waiting.saved.b;
-            c = waiting.saved.c;
-          });
-          has_run = run_stays waiting.context.priority ∙ waiting.has_run;
+          stand = stand;
+          stands = k.stands;
+          fits = subst (λ z. Fits node' (Queued z) stand) (sym e) k.fits;
+          has_run = k.has_run;
         }
 
     was_waiting : (b : ℕ) → is_some (reason_of control' b) ≡ true
@@ -259,17 +256,13 @@ module _ (p : Plan) (s s' : State) (n : ℕ) (plan : NodePlan) (named : Seat →
     lent_now y d t h e f false n' = shown.processes.lent y d t h (sym (stand_stays y n') ∙ e) f
     lent_now y d t h e f true same =
         let name : x ≡ y = one_name p x y same in
-        let g = k.lent_sent t (lent_of (sym k.rests ∙ ap (λ z. s' (Standing z)) name ∙ e) ∙ f) in (
+        let g = k.lent_sent d t (one_stand (sym k.stands ∙ ap (λ z. s' (Standing z)) name ∙ e)) f in (
           g.0,
           g.1 ∙ ap (λ z. Some (record { request = record { process = z; buffer = t.buffer }; copied = true })) name,
         )
       where
-        lent_in : Value → Option Lent
-        lent_in (IsStand (Rests b)) = b.lent
-        lent_in _ = None
-
-        lent_of : IsStand (Rests (record waiting.context { lent = lent })) ≡ IsStand (Rests d) → lent ≡ d.lent
-        lent_of e = ap lent_in e
+        one_stand : {a b : Stand} → IsStand a ≡ IsStand b → a ≡ b
+        one_stand e = cc
 
     keeps_flags : KeepsFlags s' n → KeepsFlags s n
     keeps_flags h =
@@ -283,8 +276,8 @@ module _ (p : Plan) (s s' : State) (n : ℕ) (plan : NodePlan) (named : Seat →
         }
 
     -- the processes
-    pub processes_woken : ShowsProcesses s' n named' sent node'
-    processes_woken =
+    pub processes_awake : ShowsProcesses s' n named' sent node'
+    processes_awake =
         record {
           seated = seated;
           there = there;
@@ -308,3 +301,40 @@ module _ (p : Plan) (s s' : State) (n : ℕ) (plan : NodePlan) (named : Seat →
               (IfSome_then m.interrupted (shown.processes.kept_flags (keeps_flags h)) (λ t e.
               has_flags t.registers e));
         }
+
+  -- one whose message has passed rests
+  pub record IsWoken (lent : Option Lent) : Type 0 where
+    pub rests : s' (Standing x) ≡ IsStand (Rests (record waiting.context { lent = lent }))
+    pub stays : (q : Place) → may_change n x q ≡ false → s' q ≡ s q
+    pub iptrs : (a : ℕ) → Contains (descheduled m) a
+        → word_at store' (word_below a iptr_word) ≡ word_at node.machine.store (word_below a iptr_word)
+    pub passes : (b : ℕ) → (b ≡ process → ⊥) → HasPassed node b → HasPassed node' b
+    pub lent_sent : (t : Lent) → lent ≡ Some t → (t.link < 4)
+        × (sent t.link ≡ Some (record { request = record { process = x; buffer = t.buffer }; copied = true }))
+    pub passed : (l : ℕ) (q : Pending) → sent l ≡ Some q → q.copied ≡ true
+        → (q.request.process.node ≡ n) × (k : Context) × (s' (Standing q.request.process) ≡ IsStand (Rests k))
+        × (k.lent ≡ Some (record { link = l; buffer = q.request.buffer }))
+
+  pub processes_woken : (lent : Option Lent) → IsWoken lent → ShowsProcesses s' n named' sent node'
+  processes_woken lent k =
+      processes_awake (Rests (record waiting.context { lent = lent })) (record {
+        stands = k.rests;
+        fits = record {
+          priority = waiting.saved.priority;
+          wptr = waiting.saved.wptr;
+          iptr = waiting.saved.iptr ∙ sym (k.iptrs (workspace_of process) (waits_descheduled m process taken_before));
+          a = waiting.saved.a;
+          b = waiting.saved.b;
+          c = waiting.saved.c;
+        };
+        has_run = k.stays (HasRun n waiting.context.priority) refl ∙ waiting.has_run;
+        stays = k.stays;
+        iptrs = k.iptrs;
+        passes = k.passes;
+        lent_sent = λ d t e f. k.lent_sent t (ap lent_in e ∙ f);
+        passed = k.passed;
+      })
+    where
+      lent_in : Stand → Option Lent
+      lent_in (Rests b) = b.lent
+      lent_in _ = None

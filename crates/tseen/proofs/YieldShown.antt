@@ -1,5 +1,5 @@
 -- A jump at which a process yields is seen as the jump alone.
-use Rattle.tprocesses.specs.Places.{Sending}
+use Rattle.tprocesses.specs.Places.{Sending, Unfinished}
 use Rattle.tprocesses.specs.Values.{amount_in}
 use Rattle.tseen.proofs.YieldWords.{words}
 use Rattle.tseen.proofs.SavedThen.{third_free}
@@ -66,6 +66,9 @@ use Rattle.tseen.proofs.Others.{other_name, queued_seated, waiting_seated, is_ru
 use Rattle.tseen.proofs.Others.{waiting_not_running}
 use Rattle.tseen.proofs.Yielding.{made, stepped, aligned, iptr_there, hidden_still, size_after}
 use Rattle.tseen.proofs.YieldWords.{at, used, unfree, tells_now, lasting_stays, marks_now, new_there}
+use Rattle.tseen.proofs.InputChannels.{descriptors_stay, inputs_stay}
+use Rattle.tproc.specs.declared.channels.Side.TheVariants.{Input, Output}
+use Rattle.tseen.proofs.NoticedOffers.{outputs_stay}
 
 -- names where a process has another seat
 abbrev pub renamed : (process : ℕ) → Name → (Seat → Name) → Seat → Name
@@ -392,11 +395,12 @@ module _ (p : Plan) (c : Configuration) (s : State) (n : ℕ) (x : Name) (k : Is
             a h (ap is_lasting e))
             (shown_node p c s n x k).channels;
         links = λ l h. link_stays s s' n named named' (k.shows.sent n) k.node node' l (λ a. refl)
-            (λ side. stay (LinkHalf (end_at n l) side) refl refl) refl refl ((shown_node p c s n x k).links l h);
+            (λ side. stay (LinkHalf (end_at n l) side) refl refl) (stay (Unfinished (end_at n l)) refl refl)
+            (descriptors_stay s s' n m.links k.node.machine.store (shown_node p c s n x k).choices alternatives l h)
+            refl refl ((shown_node p c s n x k).links l h);
         processes = processes_now;
-        choices = choices_stay s s' n k.node.machine.store now.store
-            (λ y h. stands_alike p s s' n x (λ y other. stay (Standing y) other refl)
-            (alternative_now ∙ sym alternative_before) y)
+        choices = choices_stay s s' n m.links m.links k.node.machine.store now.store
+            (inputs_stay s s' n m.links m.links (λ l. stay (LinkHalf (end_at n l) Input) refl refl) refl) alternatives
             (λ y h e. quiet_alike p s s' n x (λ y other. stay (Standing y) other refl) quiet_now y e)
             (λ y h. stay (Ports y) refl refl) (λ a side. stay (Half n a side) refl refl)
             (λ j e z. ap amount_in (stay (Sending n j) refl refl) ∙ z)
@@ -410,8 +414,8 @@ module _ (p : Plan) (c : Configuration) (s : State) (n : ℕ) (x : Name) (k : Is
     where
       no_alternative : running.context.choice ≡ None
       no_alternative =
-          no_choice_moved s n k.node.machine.store x running.context d.after.wptr (shown_node p c s n x k).choices
-          running.home running.stood still
+          no_choice_moved s n m.links k.node.machine.store x running.context d.after.wptr
+          (shown_node p c s n x k).choices running.home running.stood still
           (third_free (words p c s n x k i decodes pp t d jumps low yields_now u v moved_on saved rest s' rests))
 
       alternative_now : alternative_at s' n x ≡ None
@@ -425,6 +429,11 @@ module _ (p : Plan) (c : Configuration) (s : State) (n : ℕ) (x : Name) (k : Is
       quiet_now : is_quiet (stand_in (s' (Standing x))) ≡ true
       quiet_now = ap (λ (z : Value). is_quiet (stand_in z)) rests.is ∙ ap is_none no_alternative
 
+      alternatives : (y : Name) → y.node ≡ n → alternative_at s' n y ≡ alternative_at s n y
+      alternatives y h =
+          stands_alike p s s' n x (λ y other. stay (Standing y) other refl)
+          (alternative_now ∙ sym alternative_before) y
+
   pub yield_leads : LeadsTo p c n s'
   yield_leads =
       leads_there p c s n x k now s' named' (k.shows.sent n)
@@ -432,6 +441,7 @@ module _ (p : Plan) (c : Configuration) (s : State) (n : ℕ) (x : Name) (k : Is
       (ap (λ (z : Store). record { control = now.control; store = z })
       (hidden_still p c s n x k i decodes pp t d jumps low yields_now u v moved_on saved))
       node_now (elsewhere_if n x s s' running.home stay)
+      (outputs_stay s s' n k.node node' (λ l. stay (LinkHalf (end_at n l) Output) refl refl) (λ l. refl))
 
 -- jumps at which a process yields are seen
 pub yields_are_seen : YieldsAreSeen

@@ -1,11 +1,12 @@
 -- Steps of any agent of the process machine, and states in which none stops.
 -- Source: own choice.
-use Rattle.std.specs.Prelude.{◌≡◌, false, List}
+use Rattle.std.specs.Prelude.{◌≡◌, false, List, None}
+use Rattle.tplan.specs.declared.plan.End.{End}
 use Rattle.tplan.specs.declared.plan.Plan.{Plan}
 use Rattle.tagents.specs.Agents.{Does, IsRun}
 use Rattle.tprocesses.specs.Places.{Place}
 use Rattle.tprocesses.specs.Values.{Value}
-use Rattle.tprocesses.specs.Machine.{Agent}
+use Rattle.tprocesses.specs.Machine.{Agent, Wire}
 use Rattle.tprocesses.specs.Opening.{opening_state}
 use Rattle.tprocesses.specs.Certified.{ProcessStep, machine_of, IsCertificate}
 
@@ -22,6 +23,10 @@ pub record AgentMakes (p : Plan) (a : Agent) (s s' : Place → Value) : Type 0 w
   pub agent : label.agent ≡ a
   pub step : Does (machine_of p) s label s'
   pub goes_on : (machine_of p).stops label ≡ false
+
+-- the step hands over no message, if the agent is a wire
+abbrev pub HandsNone : {p : Plan} {a : Agent} {s s' : Place → Value} → AgentMakes p a s s' → Type 0
+HandsNone {a} m = (e : End) → a ≡ Wire e → m.label.deed.message ≡ None
 
 -- an agent has no step, or one that does not stop
 abbrev pub NeverStops : Plan → Agent → (Place → Value) → Type 0

@@ -1,7 +1,8 @@
 -- The messages that wires have carried: what a run of the net tells of them, and what a run of the process machine
 -- hands over.
 -- Source: own choice.
-use Rattle.std.specs.Prelude.{ℕ, ◌≡◌, List, [], ◌∷◌, ◌++◌, map, Option, Some, IfSome, if◌then◌else◌}
+use Rattle.std.specs.Prelude.{ℕ, ◌≡◌, List, [], ◌∷◌, ◌++◌, IfSome, if◌then◌else◌}
+use Rattle.std.specs.List.{filter_map}
 use Rattle.tword.specs.Stores.{Store}
 use Rattle.tplan.specs.declared.plan.End.{End}
 use Rattle.tplan.specs.declared.plan.Plan.{Plan}
@@ -21,9 +22,10 @@ abbrev pub arrived : End → List Note → List (List ℕ)
 arrived e [] = []
 arrived e (note ∷ rest) = arrived_in e note ++ arrived e rest
 
--- the messages that the steps of the wire to an end hand over, in their order
-abbrev pub handed : Plan → End → List ProcessStep → List (Option Store)
-handed p e steps = map (λ l. l.deed.message) (own (machine_of p) (Wire e) steps)
+-- the messages that the steps of the wire to an end hand over, in their order. A step that makes a process go on that
+-- waits for its alternative hands over none
+abbrev pub handed : Plan → End → List ProcessStep → List Store
+handed p e steps = filter_map (λ l. l.deed.message) (own (machine_of p) (Wire e) steps)
 
 -- there are as many bytes, and each that is known is this one
 abbrev pub KnowsBytes : Store → List ℕ → Type 0
@@ -32,7 +34,7 @@ KnowsBytes (known ∷ rest) (byte ∷ bytes) = IfSome known (λ b. byte ≡ b) �
 KnowsBytes _ _ = ⊥
 
 -- there are as many messages, and each is known to be this one
-abbrev pub AreKnownAs : List (Option Store) → List (List ℕ) → Type 0
+abbrev pub AreKnownAs : List Store → List (List ℕ) → Type 0
 AreKnownAs [] [] = Unit {0}
-AreKnownAs (Some known ∷ rest) (bytes ∷ messages) = KnowsBytes known bytes × AreKnownAs rest messages
+AreKnownAs (known ∷ rest) (bytes ∷ messages) = KnowsBytes known bytes × AreKnownAs rest messages
 AreKnownAs _ _ = ⊥

@@ -1,6 +1,6 @@
 -- The halves of channels and links of a node: who waits there.
 -- Source: own choice.
-use Rattle.std.specs.Prelude.{ℕ, ◌≡◌, ◌⊎◌, false, length, Option, Some, None}
+use Rattle.std.specs.Prelude.{ℕ, ◌≡◌, ◌⊎◌, true, false, length, Option, Some, None}
 use Rattle.tword.specs.Stores.{word_at}
 use Rattle.tword.specs.declared.span.Span.{Span}
 use Rattle.tword.specs.Touches.{word_place_break}
@@ -14,13 +14,14 @@ use Rattle.tproc.specs.ProcessStatus.{reason_of}
 use Rattle.tproc.specs.LinkChannels.{link_end}
 use Rattle.tnet.specs.Rendezvous.{Node, was_copied}
 use Rattle.tplan.specs.Wires.{end_at}
-use Rattle.tprocesses.specs.Places.{Place, Name, WordAt, Half, LinkHalf}
-use Rattle.tprocesses.specs.Values.{Holder, TakenBy, Value, Request, Engaged, Link, Empty, Offered, IsHalf, IsLink}
-use Rattle.tprocesses.specs.Values.{word_in}
-use Rattle.tseen.specs.Choices.{enabler_at}
+use Rattle.tprocesses.specs.Places.{Place, Name, WordAt, Half, LinkHalf, Unfinished}
+use Rattle.tprocesses.specs.Values.{Holder, TakenBy, Value, Request, Engaged, Link, Offered, Fired, IsHalf, IsLink}
+use Rattle.tprocesses.specs.Values.{IsFlag, word_in}
+use Rattle.tprocesses.specs.Machine.{is_offered}
+use Rattle.tseen.specs.Choices.{enabler_at, remembered_at}
 use Rattle.tprocesses.specs.Touching.{word_number}
 use Rattle.tseen.specs.Seats.{Seat, Waiting}
-use Rattle.tseen.specs.Outputs.{Pending, half_with}
+use Rattle.tseen.specs.Outputs.{Pending, half_with, has_passed}
 use Rattle.tseen.specs.Words.{use_at}
 
 -- what a process waits for that waits at a half of an internal channel
@@ -32,10 +33,10 @@ reason_at Output channel buffer = Sends channel buffer.start buffer.size
 abbrev pub request_of : (Seat → Name) → Offer → Request
 request_of named o = record { process = named (Waiting o.wdesc); buffer = buffer_of o }
 
--- what stands at the half of a link that has the input
-abbrev pub half_asking : (Seat → Name) → Option Offer → Link
-half_asking named None = Empty
-half_asking named (Some o) = Offered (request_of named o)
+-- what stands at the half of a link that has the input: an offer that is pending, or whether a process has enabled it
+abbrev pub IsInput : (Seat → Name) → Option Offer → Value → Type 0
+IsInput named None v = (h : Link) × (v ≡ IsLink h) × (is_offered h ≡ false)
+IsInput named (Some o) v = v ≡ IsLink (Offered (request_of named o))
 
 module _ (s : Place → Value) (n : ℕ) (named : Seat → Name) where
   -- a half of an internal channel is taken by a process that waits for it: its descriptor is in the channel
@@ -71,15 +72,26 @@ module _ (s : Place → Value) (n : ℕ) (named : Seat → Name) where
 
   -- a link
   pub record ShowsLink (sent : ℕ → Option Pending) (node : Node) (l : ℕ) : Type 0 where
-    pub input : s (LinkHalf (end_at n l) Input) ≡ IsLink (half_asking named (link_end node.machine.control l).input)
+    pub input : IsInput named (link_end node.machine.control l).input (s (LinkHalf (end_at n l) Input))
     pub output : s (LinkHalf (end_at n l) Output) ≡ IsLink (half_with (sent l))
+    -- whether the process of the last output has still to go on
+    pub unfinished : s (Unfinished (end_at n l)) ≡ IsFlag (has_passed (sent l))
     -- an output that is pending is not over
     pub offered : (o : Offer) → (link_end node.machine.control l).output ≡ Some o
         → sent l ≡ Some (record { request = request_of named o; copied = was_copied node l })
     -- an output that was copied is pending
     pub fresh : (link_end node.machine.control l).output ≡ None → was_copied node l ≡ false
-    -- no alternative has enabled the link
-    pub forgotten : (link_end node.machine.control l).remembered ≡ None
+    -- no byte is noticed where an input is pending
+    pub unnoticed : (o : Offer) → (link_end node.machine.control l).input ≡ Some o
+        → (link_end node.machine.control l).noticed ≡ false
+    -- a process that has enabled the input is remembered, until a byte is noticed
+    pub remembered : (link_end node.machine.control l).noticed ≡ false
+        → (link_end node.machine.control l).remembered ≡ remembered_at s n l
+    pub forgotten : (link_end node.machine.control l).noticed ≡ true
+        → (link_end node.machine.control l).remembered ≡ None
+    -- an input that made its process go on has noticed a byte
+    pub fired : (x : Name) → s (LinkHalf (end_at n l) Input) ≡ IsLink (Fired x)
+        → (link_end node.machine.control l).noticed ≡ true
     -- one whose message has not gone over is pending
     pub pending : (p : Pending) → sent l ≡ Some p → p.copied ≡ false
         → (o : Offer) × ((link_end node.machine.control l).output ≡ Some o)

@@ -3,7 +3,7 @@
 use Rattle.std.specs.Prelude.{ℕ, ◌+◌, Bool, true, false, ◌&&◌, nat_le, nat_lt, [], ◌∷◌, Option, Some, None}
 use Rattle.std.specs.List.{count_by}
 use Rattle.tword.specs.declared.span.Span.{Span}
-use Rattle.tprocesses.specs.Values.{Request, Link, Empty, Offered, Copied}
+use Rattle.tprocesses.specs.Values.{Request, Link, Empty, Offered}
 use Rattle.tprocesses.specs.Touching.{word_number, word_count}
 
 -- an output of a link, and whether its message has gone over
@@ -17,8 +17,13 @@ half_with None = Empty
 half_with (Some p) = half_of p.copied p.request
   where
     half_of : Bool → Request → Link
-    half_of true q = Copied
+    half_of true q = Empty
     half_of false q = Offered q
+
+-- its message has gone over
+abbrev pub has_passed : Option Pending → Bool
+has_passed None = false
+has_passed (Some p) = p.copied
 
 -- a span has a byte of a word
 abbrev pub covers : ℕ → Span → Bool

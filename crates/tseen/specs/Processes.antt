@@ -9,7 +9,7 @@ use Rattle.tproc.specs.ProcessStatus.{live, reason_of}
 use Rattle.tnet.specs.Rendezvous.{Node, was_copied}
 use Rattle.tprocesses.specs.Places.{Place, Name, Standing, Error, HaltOnError, Life, Population, HasRun, FlagChanged}
 use Rattle.tprocesses.specs.Values.{Chosen, Chooses, Value, Context, Lent, Stand, Absent, Rests, Runs, Waits, Ended}
-use Rattle.tprocesses.specs.Values.{IsStand, IsFlag}
+use Rattle.tprocesses.specs.Values.{Listens, IsStand, IsFlag}
 use Rattle.tprocesses.specs.Values.{IsAmount, flag_in}
 use Rattle.tseen.specs.Known.{HasRegisters, HasSaved}
 use Rattle.tseen.specs.Seats.{Seat, Current, Interrupted, Queued, Waiting, is_taken}
@@ -29,6 +29,7 @@ context_in Absent = None
 context_in Ended = None
 context_in (Chooses k) = Some k
 context_in (Chosen k) = Some k
+context_in (Listens channel k) = Some k
 
 -- how a process stands that has a seat
 abbrev pub Fits : Node → Seat → Stand → Type 0

@@ -8,8 +8,9 @@ use Rattle.tlink.specs.Roles.{Source, Sink, first_offer}
 use Rattle.tplan.specs.declared.plan.End.{End}
 use Rattle.tproc.specs.LinkChannels.{link_end}
 use Rattle.tnet.specs.Rendezvous.{Node, was_copied}
-use Rattle.tprocesses.specs.Places.{Place, Messages, Kept}
-use Rattle.tprocesses.specs.Values.{Value, AreMessages, AreKept}
+use Rattle.tproc.specs.declared.channels.Side.TheVariants.{Output}
+use Rattle.tprocesses.specs.Places.{Place, LinkHalf, Messages, Kept}
+use Rattle.tprocesses.specs.Values.{Value, Empty, IsLink, AreMessages, AreKept}
 use Rattle.tseen.specs.Known.{KnowsMessages}
 
 -- messages of these lengths that lie one behind another from an address on
@@ -50,6 +51,8 @@ module _ (s : Place → Value) (e : End) where
     pub input : (link_end node.machine.control 0).input
         ≡ Some (record { wdesc = 0; buffer = most_neg + sum kept; length = room })
     pub output : (link_end node.machine.control 0).output ≡ None
+    -- it offers nothing
+    pub silent : s (LinkHalf e Output) ≡ IsLink Empty
     -- its other links ask for nothing
     pub alone : (l : ℕ) → (link_end node.machine.control (suc l)).input ≡ None
     -- what it asks for lies in its memory

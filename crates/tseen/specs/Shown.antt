@@ -2,6 +2,7 @@
 -- Source: own choice.
 use Rattle.std.specs.Prelude.{ℕ, ◌≡◌, ◌+◌, ◌*◌, ◌<◌, ◌≤◌, pos, true, false, length, Option, Some, None, slice_get}
 use Rattle.tlink.specs.Roles.{Processor}
+use Rattle.tplan.specs.declared.plan.End.{End}
 use Rattle.tplan.specs.declared.plan.NodePlan.{NodePlan}
 use Rattle.tplan.specs.declared.plan.SourcePlan.{SourcePlan}
 use Rattle.tplan.specs.declared.plan.SinkPlan.{SinkPlan}
@@ -17,8 +18,10 @@ use Rattle.tword.specs.Words.{most_neg}
 use Rattle.tword.specs.Touches.{Reads, Writes, word_span, claim_break}
 use Rattle.tproc.specs.Machine.{claims_of}
 use Rattle.tproc.specs.Placement.{IsPlaced}
+use Rattle.tproc.specs.LinkChannels.{link_end}
 use Rattle.tprocesses.specs.Places.{Place, Name, WordAt, Sending, Standing}
 use Rattle.tprocesses.specs.Values.{Value, Absent, Free, IsStand, word_in, amount_in}
+use Rattle.tprocesses.specs.Machine.{is_passable, offer_place, role_at, sender_to}
 use Rattle.tprocesses.specs.Opening.{opening_state}
 use Rattle.tseen.specs.Seats.{Seat}
 use Rattle.tseen.specs.Outputs.{Pending}
@@ -41,7 +44,13 @@ pub record ShowsNode (s : Place → Value) (n : ℕ) (plan : NodePlan) (named : 
   pub channels : ShowsChannels s n named node.machine
   pub links : (l : ℕ) → l < 4 → ShowsLink s n named sent node l
   pub processes : ShowsProcesses s n named sent node
-  pub choices : ShowsChoices s n node.machine.store
+  pub choices : ShowsChoices s n node.machine.control.links node.machine.store
+
+-- somebody sends to an end
+pub record HasSender (p : Plan) (s : Place → Value) (e : End) : Type 0 where
+  pub from : End
+  pub joined : sender_to p e ≡ Some from
+  pub sends : is_passable (offer_place (role_at p from.node) from) (s (offer_place (role_at p from.node) from)) ≡ true
 
 -- the whole net. named: the name of the process at each seat of a node; sent: the outputs of its links that are not
 -- over
@@ -57,6 +66,9 @@ pub record Shows (p : Plan) (c : Configuration) (s : Place → Value) : Type 0 w
   pub sinks : (k : ℕ) (sink : SinkPlan) → slice_get p.sinks k ≡ Some sink
       → (node : Node) × (node_of c (length p.nodes + length p.sources + k) ≡ Some node)
       × ShowsSink s (end_at (length p.nodes + length p.sources + k) 0) node
+  -- a byte that was noticed comes from somebody who sends
+  pub noticed : (n l : ℕ) (plan : NodePlan) (node : Node) → slice_get p.nodes n ≡ Some plan
+      → node_of c n ≡ Some node → (link_end node.machine.control l).noticed ≡ true → HasSender p s (end_at n l)
   -- no process is anywhere else
   pub nobody : (x : Name) → slice_get p.nodes x.node ≡ None → s (Standing x) ≡ IsStand Absent
 

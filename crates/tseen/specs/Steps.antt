@@ -2,7 +2,7 @@
 -- process do not stop, as none of a certified run does.
 -- Source: own choice.
 use Rattle.std.specs.Prelude.{ℕ, zero, suc, ◌+◌, ◌≡◌, ◌≢◌, ◌&&◌, List, [], ◌∷◌, Bool, true, false, Option, Some, None}
-use Rattle.std.specs.Prelude.{Ok, Result, Err, slice_get, nat_le, nat_lt, length}
+use Rattle.std.specs.Prelude.{Ok, Result, Err, slice_get, nat_le, nat_lt, length, option_map}
 use Rattle.tword.specs.declared.breaks.Break.{Break}
 use Rattle.tword.specs.Stores.{Store, HoldsBytes}
 use Rattle.tword.specs.Actions.{run}
@@ -20,6 +20,7 @@ use Rattle.tproc.specs.Hidden.{hidden}
 use Rattle.tproc.specs.Kinds.{IsSized}
 use Rattle.tproc.specs.Placement.{IsPlaced}
 use Rattle.tproc.specs.Scheduler.{raised}
+use Rattle.tproc.specs.declared.channels.Side.TheVariants.{Input}
 use Rattle.tproc.specs.declared.waiter.Suspended.{Suspended}
 use Rattle.tplan.specs.declared.event.Note.{Note}
 use Rattle.tplan.specs.declared.plan.End.{End}
@@ -30,10 +31,10 @@ use Rattle.tlink.specs.Roles.{Processor}
 use Rattle.tnet.specs.Building.{fault_of, opening_configuration, ArePlanWords}
 use Rattle.tnet.specs.Rendezvous.{Node, Configuration, Step, Lawful, node_of, IsLocal, IsNotice, IsRun, IsWake}
 use Rattle.tplan.specs.Wires.{end_at}
-use Rattle.tprocesses.specs.Places.{Place, Name}
-use Rattle.tprocesses.specs.Values.{Value}
-use Rattle.tprocesses.specs.Machine.{Process}
-use Rattle.tseen.specs.AgentSteps.{AgentMakes}
+use Rattle.tprocesses.specs.Places.{Place, Name, Standing, LinkHalf}
+use Rattle.tprocesses.specs.Values.{Value, Stand, Chooses, stand_in, link_in}
+use Rattle.tprocesses.specs.Machine.{Process, Wire, awaiting}
+use Rattle.tseen.specs.AgentSteps.{AgentMakes, HasStep, HandsNone}
 use Rattle.tseen.specs.Seats.{Current, Queued}
 use Rattle.tseen.specs.Processes.{KeepsFlags}
 use Rattle.tseen.specs.Shown.{Shows}
@@ -217,11 +218,21 @@ RunsStaySteady =
     (p : Plan) (c : Configuration) (steps : List Step) (notes : List Note) → fault_of p ≡ None → ArePlanWords p
     → IsRun (opening_configuration p) steps notes c → AreSteady c
 
--- a notice changes nothing that is shown
+-- where the process stands that awaits the input of an end and others, if one does
+abbrev pub stand_at : (Place → Value) → End → Option Stand
+stand_at s e = option_map (λ x. stand_in (s (Standing x))) (awaiting (link_in (s (LinkHalf e Input))))
+
+-- by where it stands: if it waits, the step of the wire follows, which hands over no message, and if not, none
+abbrev pub IsNoticeSeen : Option Stand → Plan → Configuration → End → (Place → Value) → Type 0
+IsNoticeSeen (Some (Chooses k)) p c e s =
+    HasStep p (Wire e) s × ((t : Place → Value) → (m : AgentMakes p (Wire e) s t) → HandsNone m × Shows p c t)
+IsNoticeSeen _ p c e s = Shows p c s
+
+-- a notice is seen as no step, or, if a process waits there for its alternative, as the step of the wire
 abbrev pub NoticesAreSeen : Type 0
 NoticesAreSeen =
     (p : Plan) (c c' : Configuration) (s : Place → Value) (e : End)
-    → fault_of p ≡ None → Shows p c s → AreSteady c → IsNotice c e c' → Shows p c' s
+    → fault_of p ≡ None → Shows p c s → AreSteady c → IsNotice c e c' → IsNoticeSeen (stand_at s e) p c' e s
 
 -- where the output of a source that was copied is over, nothing changes that is shown
 abbrev pub SourceWakesAreSeen : Type 0

@@ -1,6 +1,6 @@
 -- What a certificate of a plan tells of all runs of its net.
 -- Source: own choice.
-use Rattle.std.specs.Prelude.{◌++◌, Option, ℕ, suc, ◌≡◌, ◌+◌, ◌*◌, ◌≤◌, false, List, length, Some, None, slice_get}
+use Rattle.std.specs.Prelude.{◌++◌, ℕ, suc, ◌≡◌, ◌+◌, ◌*◌, ◌≤◌, false, List, length, Some, None, slice_get}
 use Rattle.std.specs.Prelude.{slice_range}
 use Rattle.tword.specs.Stores.{Store}
 use Rattle.tword.specs.Words.{most_neg}
@@ -73,8 +73,8 @@ most_steps p steps = suc (length steps) * suc (9 * node_count p)
 
 -- the messages that came in at an end are the first of those that its wire hands over in the certificate
 pub record HasCarried (p : Plan) (steps : List ProcessStep) (e : End) (notes : List Note) : Type 0 where
-  pub first : List (Option Store)
-  pub others : List (Option Store)
+  pub first : List Store
+  pub others : List Store
   pub all : first ++ others ≡ handed p e steps
   pub known : AreKnownAs first (arrived e notes)
 

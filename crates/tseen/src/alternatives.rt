@@ -1,8 +1,9 @@
-//! Laws of alternatives over internal channels, as the process machine shows them, each as the contract of a function
+//! Laws of alternatives, as the process machine shows them, each as the contract of a function
 //! that does nothing.
 
-ghost use Rattle.tcode.specs.declared.instruction.Operation.TheVariants.{Alt, Altend, Disc, Diss, Enbc, Enbs};
-ghost use Rattle.tseen.specs.Alternatives.{AwaitsAreSeen, EnabledMessagesAreSeen, IsSeenAtOnce};
+ghost use Rattle.tcode.specs.declared.instruction.Operation.TheVariants.{Alt, Altend, Diss, Enbc, Enbs};
+ghost use Rattle.tseen.specs.Alternatives.{AwaitsAreSeen, DisabledChannelsAreSeen, EnabledMessagesAreSeen};
+ghost use Rattle.tseen.specs.Alternatives.{IsSeenAtOnce};
 
 /// What `alt` leads to is shown by the state after the step of its process.
 pub fn alts_are_seen()
@@ -19,9 +20,10 @@ pub fn enabled_skips_are_seen()
     ensures { IsSeenAtOnce Enbs }
 {}
 
-/// The same holds for `disc`.
+/// What `disc` leads to is shown by the state after the step of its process, or, if the process listens there, by that
+/// after one more step of it.
 pub fn disabled_channels_are_seen()
-    ensures { IsSeenAtOnce Disc }
+    ensures { DisabledChannelsAreSeen }
 {}
 
 /// The same holds for `diss`.
@@ -35,7 +37,7 @@ pub fn ends_of_alternatives_are_seen()
 {}
 
 /// What `altwt` leads to is shown by the state after the step of its process, or, where a sender was there before, by
-/// that after the step of the channel and after the process has gone on.
+/// that after the step of an enabled channel, or of the wire to such a link, and after the process has gone on.
 pub fn awaits_are_seen()
     ensures { AwaitsAreSeen }
 {}

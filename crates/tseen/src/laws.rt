@@ -138,7 +138,8 @@ pub fn runs_stay_steady()
     ensures { RunsStaySteady }
 {}
 
-/// Where an end notices an offer, the state of the process machine that showed the net before shows it after.
+/// Where an end notices an offer, the state of the process machine that showed the net before shows it after; or, if a
+/// process waits there for its alternative, the wire has a step, without a message, and the state after that shows it.
 pub fn notices_are_seen()
     ensures { NoticesAreSeen }
 {}

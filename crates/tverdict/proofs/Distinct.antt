@@ -11,8 +11,8 @@ use Rattle.tcertify.specs.declared.process.Process.{Process}
 use Rattle.tcertify.specs.Finding.{IsFound}
 use Rattle.tcertify.specs.Processes.{name_of}
 use Rattle.tcertify.proofs.NodeStands.{name_is}
-use Rattle.tfollow.specs.Numbering.{AreApart, HasNumber, IsNew}
-use Rattle.tfollow.proofs.Numbered.{new_agents_are_others}
+use Rattle.tfollow.specs.Numbering.{HasNumber, IsNew, number_in}
+use Rattle.tfollow.proofs.Numbered.{new-nowhere, number-there, some_plan, there-or-not}
 use Rattle.tverdict.specs.declared.agent.Agent.{Agent}
 use Rattle.tverdict.specs.declared.agent.Agent.TheVariants as agent
 use Rattle.tverdict.specs.Agents.{HasChannel, HasProcess, IsThere, address_there, agent_of, name_there}
@@ -24,6 +24,18 @@ pub at_low : {X : Type 0} (xs : List X) (k : ℕ) → k < length xs → (x : X) 
 at_low xs k low = elim (slice_get_cases xs k).1 [
   | inl (x, within, at, g) ↦ (x, at)
   | inr (past, none) ↦ absurd (omega (arith, low, past))
+]
+
+-- whoever stands in the list is not new
+pub not_new : (agents : List machine.Agent) (a : machine.Agent) (k : ℕ) → HasNumber agents a k → IsNew agents a → ⊥
+not_new agents a k at new = new-nowhere some_plan agents a k new at
+
+-- and whoever stands nowhere is
+pub others_new : (agents : List machine.Agent) (a : machine.Agent)
+    → ((k : ℕ) (b : machine.Agent) → HasNumber agents b k → b ≡ a → ⊥) → IsNew agents a
+others_new agents a others = elim (there-or-not some_plan agents a) as (λ _. IsNew agents a) [
+  | inl there ↦ absurd (others (number_in agents a) a (number-there some_plan agents a there) refl)
+  | inr new ↦ new
 ]
 
 module _ (nodes : List Node)
@@ -83,11 +95,9 @@ module _ (nodes : List Node)
   agents_apart a b h g e = cc
 
   -- one that was not found is new
-  pub agent_new : (found : List Agent) (a : Agent) → AreApart (map (agent_of nodes) found) → All (IsThere nodes) found
-      → IsThere nodes a → IsFound (λ (x : Agent). x) a found None
-      → IsNew (map (agent_of nodes) found) (agent_of nodes a)
-  agent_new found a apart all there none =
-      (new_agents_are_others (map (agent_of nodes) found) (agent_of nodes a) apart).1 others
+  pub agent_new : (found : List Agent) (a : Agent) → All (IsThere nodes) found → IsThere nodes a
+      → IsFound (λ (x : Agent). x) a found None → IsNew (map (agent_of nodes) found) (agent_of nodes a)
+  agent_new found a all there none = others_new (map (agent_of nodes) found) (agent_of nodes a) others
     where
       by : (k : ℕ) (b : machine.Agent) (o : Option Agent) → slice_get found k ≡ o
           → option_map (agent_of nodes) o ≡ Some b → b ≡ agent_of nodes a → ⊥

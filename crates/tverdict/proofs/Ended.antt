@@ -92,13 +92,13 @@ module _ (plan : Plan) (m : Machine) (f : Follows plan m) where
     by_had n few =
         had_few_is_enough plan n (reverse steps) (machine_at plan m)
         (only_run plan (reverse steps) (machine_at plan m)
-        (certified plan (places m) (agents m) steps m.check (machine_at plan m) (f.1).followed over)) few
+        (certified plan (places m) (f.1).group (agents m) steps m.check (machine_at plan m) (f.1).followed over)) few
 
     by_berths : (n : ℕ) (o : Option Lodging) → slice_get m.lodgings.items n ≡ o → is_crowded o ≡ false
         → LiveFewAt plan n
     by_berths n None at roomy = absurd (true≢false roomy)
     by_berths n (Some l) at roomy =
-        berths_let_few_live plan n (places m) (agents m) (lodgers nodes n l) l.homes.items steps m.check
+        berths_let_few_live plan n (places m) (f.1).group (agents m) (lodgers nodes n l) l.homes.items steps m.check
         (machine_at plan m) l.berths.items (f.1).followed over ((f.1).housed.housed n l at roomy).lodged
 
     by_node : (n : ℕ) (x : Node) → slice_get nodes n ≡ Some x → (b : Bool) → had_many x ≡ b
@@ -146,8 +146,8 @@ module _ (plan : Plan) (m : Machine) (f : Follows plan m) where
       record {
         steps = f.0;
         count = (f.1).count;
-        certified = followed_runs_are_certificates plan (places m) (agents m) (f.0) m.check (machine_at plan m)
-            (f.1).followed over (λ n. few_by over room n ((slice_get_cases nodes n).1))
+        certified = followed_runs_are_certificates plan (places m) (f.1).group (agents m) (f.0) m.check
+            (machine_at plan m) (f.1).followed over (λ n. few_by over room n ((slice_get_cases nodes n).1))
             (λ n. kept_by kept n ((slice_get_cases nodes n).1));
       }
 

@@ -17,11 +17,12 @@ use Rattle.tprocesses.proofs.Tally.{count_front, one_if}
 use Rattle.tcertify.specs.declared.node.Node.{Node}
 use Rattle.tcertify.specs.Running.{State}
 use Rattle.tfollow.specs.declared.berth.Berth.{Berth}
+use Rattle.tfollow.specs.Numbering.{AgentNumbers}
 use Rattle.tfollow.proofs.Lodged.{lodging_begins}
 use Rattle.tverdict.specs.declared.lodging.Lodging.{Lodging}
 use Rattle.tverdict.specs.declared.machine.Machine.{Machine}
 use Rattle.tverdict.specs.Lodging.{AreFirstLodgings, AreHoused, IsFirst, IsHoused, first_berth, lodgers}
-use Rattle.tverdict.specs.Machines.{agents, machine_at}
+use Rattle.tverdict.specs.Machines.{machine_at}
 use Rattle.tverdict.proofs.Distinct.{at_low}
 use Rattle.tverdict.proofs.Housed.{all_lodge, homes_of, names_long, population_at}
 
@@ -64,7 +65,7 @@ none_moved count a (suc n) =
     All-cons (λ (b : Berth). b.last ≡ None) (first_berth count a)
     (map (first_berth count) (range_with_len (a + 1) n)) refl (none_moved count (a + 1) n)
 
-module _ (plan : Plan) (m : Machine)
+module _ (plan : Plan) (m : Machine) (group : AgentNumbers)
     (numbers : (k : ℕ) (node : Node) → slice_get m.nodes.items k ≡ Some node → node.words.number ≡ k)
     (opens : machine_at plan m ≡ opening_state plan) where
   opened : (n : ℕ) (node : Node) → slice_get m.nodes.items n ≡ Some node → opened_processes plan n ≡ node.population
@@ -75,7 +76,7 @@ module _ (plan : Plan) (m : Machine)
       in omega (arith, ints, same)
 
   first_housed : (n : ℕ) (node : Node) (l : Lodging) → slice_get m.nodes.items n ≡ Some node → IsFirst node l
-      → l.is_crowded ≡ false → IsHoused plan [] m.nodes.items (agents m) n l
+      → l.is_crowded ≡ false → IsHoused plan [] m.nodes.items group n l
   first_housed n node l there is free =
       let homes = is.homes free in let numbered = numbers n node there in
       let all = all_lodge m.nodes.items n node there numbered l homes in
@@ -83,7 +84,7 @@ module _ (plan : Plan) (m : Machine)
       record {
         homes = homes_of m.nodes.items n node there l homes;
         lodged =
-            lodging_begins plan n (agents m) (lodgers m.nodes.items n l) l.homes.items l.berths.items
+            lodging_begins plan n group (lodgers m.nodes.items n l) l.homes.items l.berths.items
             (subst (λ (bs : List Berth).
             opened_processes plan n + count_by (λ (b : Berth). b.is_free) bs ≤ most_processes) (sym is.berths)
             (few_together (opened_processes plan n) node.population
@@ -95,7 +96,7 @@ module _ (plan : Plan) (m : Machine)
       }
 
   pub all_first : AreFirstLodgings m.nodes.items m.lodgings.items
-      → AreHoused plan [] m.nodes.items (agents m) m.lodgings.items
+      → AreHoused plan [] m.nodes.items group m.lodgings.items
   all_first first =
       record {
         many = first.many;

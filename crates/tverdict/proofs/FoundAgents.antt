@@ -352,7 +352,7 @@ module _ (plan : Plan) (nodes : List Node) (found : List Agent) (h : AreAgents (
   pub all_found : AreFound plan nodes found
   all_found =
       record {
-        processes = λ n k x. in_nodes _ (of_all.processes n k (omega arith) x);
+        processes = λ n k x. inl (in_nodes _ (of_all.processes n k (omega arith) x));
         channels = λ n k x. in_nodes _ (of_all.channels n k (omega arith) x);
         wires = λ e f is.
             let (w, c, one) = sent_known plan e f (far_end (all_wires plan) e) refl is in by_end e w c one;

@@ -4,8 +4,8 @@ use Rattle.std.specs.Prelude.{◌==◌, pos, slice_get, slice_set, if◌then◌e
 use Rattle.std.proofs.lemmas.Bool.{eq-eqb, eqb-true, false≢true}
 use Rattle.tplan.specs.declared.plan.Plan.{Plan}
 use Rattle.tprocesses.specs.Opening.{opening_state}
-use Rattle.tprocesses.specs.Places.{Place, WordAt, Sending, Standing, Ports, Half, LinkHalf, Error, HaltOnError, Life}
-use Rattle.tprocesses.specs.Places.{Successions, Messages, Kept, Population, HasRun, FlagChanged}
+use Rattle.tprocesses.specs.Places.{Place, WordAt, Sending, Standing, Ports, Half, LinkHalf, Unfinished, Error}
+use Rattle.tprocesses.specs.Places.{HaltOnError, Life, Successions, Messages, Kept, Population, HasRun, FlagChanged}
 use Rattle.tprocesses.specs.Values.{Value, IsStand, IsHalf, IsLink, IsFlag, IsAmount, IsCount, ArePorts}
 use Rattle.tcertify.specs.declared.node.Node.{Node}
 use Rattle.tcertify.specs.Nodes.{board_of, node_at}
@@ -41,6 +41,9 @@ elsewhere n s (Half m c side) ne =
     (λ e. ne (eqb-true n.words.number m e))
 elsewhere n s (LinkHalf f side) ne =
     same_if (n.words.number == f.node) (IsLink ((board_of n).link f.link side)) (s (LinkHalf f side))
+    (λ e. ne (eqb-true n.words.number f.node e))
+elsewhere n s (Unfinished f) ne =
+    same_if (n.words.number == f.node) (IsFlag ((board_of n).unfinished f.link)) (s (Unfinished f))
     (λ e. ne (eqb-true n.words.number f.node e))
 elsewhere n s (Error m) ne =
     same_if (n.words.number == m) (IsFlag n.error) (s (Error m)) (λ e. ne (eqb-true n.words.number m e))
@@ -79,6 +82,8 @@ locally n r s (Half m c side) e =
     ap (λ (v : Value). if n.words.number == m then IsHalf ((board_of n).half c side) else v) e
 locally n r s (LinkHalf f side) e =
     ap (λ (v : Value). if n.words.number == f.node then IsLink ((board_of n).link f.link side) else v) e
+locally n r s (Unfinished f) e =
+    ap (λ (v : Value). if n.words.number == f.node then IsFlag ((board_of n).unfinished f.link) else v) e
 locally n r s (Error m) e = ap (λ (v : Value). if n.words.number == m then IsFlag n.error else v) e
 locally n r s (HaltOnError m) e = ap (λ (v : Value). if n.words.number == m then IsFlag n.halt_on_error else v) e
 locally n r s (FlagChanged m) e = ap (λ (v : Value). if n.words.number == m then IsFlag n.is_flag_changed else v) e
@@ -130,6 +135,7 @@ over_scripts plan sent sinks n r (Standing x) = refl
 over_scripts plan sent sinks n r (Ports x) = refl
 over_scripts plan sent sinks n r (Half m c side) = refl
 over_scripts plan sent sinks n r (LinkHalf f side) = refl
+over_scripts plan sent sinks n r (Unfinished f) = refl
 over_scripts plan sent sinks n r (Error m) = refl
 over_scripts plan sent sinks n r (HaltOnError m) = refl
 over_scripts plan sent sinks n r (FlagChanged m) = refl

@@ -2,8 +2,8 @@
 use Rattle.std.proofs.Common.{◌≡◌, ◌<◌, ◌⊎◌, ℕ, inl, inr, refl, sym, ap, ◌∙◌, subst, List, Some, Ok, Err}
 use Rattle.std.proofs.Common.{Contains, Result}
 use Rattle.std.proofs.Common.{arith, length}
-use Rattle.std.proofs.Common.{◌≤◌, ◌-◌, ◌+◌, Bool, true, false}
-use Rattle.std.specs.Prelude.{nat_lt, slice_get, slice_set, if◌then◌else◌}
+use Rattle.std.proofs.Common.{◌≤◌, ◌-◌, ◌+◌, Bool, true, false, Option, None}
+use Rattle.std.specs.Prelude.{nat_lt, option_map, slice_get, slice_set, if◌then◌else◌}
 use Rattle.std.proofs.lemmas.Bool.{cases_eq, le-ltb, lt-ltb}
 use Rattle.std.proofs.lemmas.List.Elements.{All-nil}
 use Rattle.std.proofs.lemmas.Option.{same_Some, slice_get_within}
@@ -13,14 +13,18 @@ use Rattle.tplan.specs.declared.plan.Plan.{Plan}
 use Rattle.tword.specs.Stores.{Store}
 use Rattle.tplan.specs.Wires.{end_at}
 use Rattle.tprocesses.specs.LinkMessages.{node_receives, node_sends}
-use Rattle.tprocesses.specs.Machine.{Nothing, Processor, Role, Sink, Source, receives, role_at, sends, site_of}
-use Rattle.tprocesses.specs.Parts.{HasNoStep, Part, Reason, stopping}
+use Rattle.tprocesses.specs.Choosing.{fires}
+use Rattle.tprocesses.specs.Machine.{Nothing, Processor, Role, Sink, Source, asks, is_passable, offer_place, offers}
+use Rattle.tprocesses.specs.Machine.{receives, role_at, sends, site_of}
+use Rattle.tprocesses.specs.Parts.{HasNoStep, Part, Reason, gives, see, stopping, ◌>>=◌}
+use Rattle.tprocesses.specs.Places.{Name}
 use Rattle.tcertify.specs.declared.fault.Fault.{Fault}
 use Rattle.tcertify.specs.declared.fault.Fault.TheVariants as fault
 use Rattle.tcertify.specs.declared.lead.Lead.{Lead}
 use Rattle.tcertify.specs.declared.node.Node.{Node}
 use Rattle.tcertify.specs.declared.notes.Notes.{Notes}
-use Rattle.tcertify.specs.Nodes.{Does, IsLed, RunsAt, node_at, node_site}
+use Rattle.tcertify.specs.Choosing.{offers_at}
+use Rattle.tcertify.specs.Nodes.{Does, IsLed, RunsAt, name_at, node_at, node_site}
 use Rattle.tcertify.specs.Notes.{AreNoted, IsNoted, Keeps, Numbering}
 use Rattle.tcertify.specs.Running.{State, run_part}
 use Rattle.tcertify.specs.Seeing.{sights}
@@ -30,6 +34,7 @@ use Rattle.tcertify.proofs.NodeRunning.{grows_not, keeps_all}
 use Rattle.tcertify.proofs.Places.{set_elsewhere, set_here}
 use Rattle.tfollow.proofs.Sited.{steps_are_at_sites}
 use Rattle.tverdict.specs.declared.machine.Machine.{Machine}
+use Rattle.tverdict.specs.Agents.{name_there}
 use Rattle.tverdict.specs.Apart.{IsApart}
 use Rattle.tverdict.specs.Machines.{machine_at, state_of}
 use Rattle.tverdict.specs.Passing.{DoesHalf, GoesOn, NodesGrow, NumbersMachine, RunsHalf, notes_at, notes_or}
@@ -37,7 +42,7 @@ use Rattle.tverdict.specs.Stepping.{Fits}
 use Rattle.tverdict.proofs.Distinct.{at_low}
 use Rattle.tverdict.proofs.Frames.{calls_at_nodes_run, chosen, nodes_are_apart, not_chosen}
 use Rattle.tverdict.proofs.Over.{is_processor}
-use Rattle.tverdict.proofs.Staying.{set_grows}
+use Rattle.tverdict.proofs.Staying.{name_or, set_grows}
 
 module _ (plan : Plan) (m m' : Machine) (n : ℕ) (notes : Notes) (fits : Fits plan m) (old new : Node)
     (there : slice_get m.nodes.items n ≡ Some old) (set : m'.nodes.items ≡ slice_set m.nodes.items n new) where
@@ -156,6 +161,49 @@ module _ (plan : Plan) (m : Machine) (fits : Fits plan m) (e : End) (node : Node
       (steps_are_at_sites plan).to_node e planned.0 message (is_processor plan m e.node node fits there) planned.1
       ∙ ap (node_receives message e) site ∙ ap (λ (f : End). node_receives message f (node_site node)) end_is
 
+  -- who waits at a node for a message and for others, and what is offered there
+  processor : role_at plan e.node ≡ Processor
+  processor = is_processor plan m e.node node fits there
+
+  pub asks_are : asks (role_at plan e.node) e ≡ asks Processor (end_at node.words.number e.link)
+  asks_are = ap (λ (r : Role). asks r e) processor ∙ ap (asks Processor) end_is
+
+  pub offers_are : offers plan e ≡ offers_at (end_at node.words.number e.link)
+  offers_are =
+      ap (λ (r : Role). see (offer_place r e) >>= (λ offered. gives (is_passable (offer_place r e) offered))) processor
+      ∙ ap offers_at end_is
+
+  pub fires_are : (x : Name) → fires e x ≡ fires (end_at node.words.number e.link) x
+  fires_are x = ap (λ (f : End). fires f x) end_is
+
+-- the names of the processes of a node that is there
+pub name_there_is : (nodes : List Node) (n : ℕ) (node : Node) (k : ℕ) → slice_get nodes n ≡ Some node
+    → name_there nodes n k ≡ name_at node k
+name_there_is nodes n node k there = ap (name_or n k) there
+
+pub names_there_are : (nodes : List Node) (n : ℕ) (node : Node) (o : Option ℕ) → slice_get nodes n ≡ Some node
+    → option_map (name_there nodes n) o ≡ option_map (name_at node) o
+names_there_are nodes n node o there = ap (λ (a : Option Node). option_map (λ k. name_or n k a) o) there
+
+-- a half that only answers
+pub half_gives : {A : Type 0} (plan : Plan) (n : ℕ) (m : Machine) (notes : Notes) (x : A)
+    → RunsHalf plan (gives x) n m notes (Ok x) m notes
+half_gives plan n m notes x =
+    record {
+      runs = refl;
+      goes = record {
+        nodes = record { many = refl; grow = λ k a at. (a, at, grows_not a) };
+        others = λ k other. refl;
+        sent = refl;
+        sinks = refl;
+        places = λ k p has. has;
+        same = refl;
+      };
+      keeps = λ k. keeps_all (notes_at m notes k);
+      noted = λ numbering nm kept. All-nil (IsNoted numbering (notes_at m notes n).items.items);
+      led = λ k b l at has. inl (b, at, has);
+    }
+
 -- a half that nobody does
 pub half_stops : {A : Type 0} (plan : Plan) (n : ℕ) (m : Machine) (notes : Notes) (why : Reason)
     → RunsHalf {A = A} plan (stopping why) n m notes (Err why) m notes
@@ -179,6 +227,20 @@ half_stops plan n m notes why =
 role_past : (plan : Plan) (n : ℕ) → length plan.nodes ≤ n → nat_lt n (length plan.nodes) ≡ false
 role_past plan n past = le-ltb n (length plan.nodes) past
 
+-- nobody waits at a source or a sink for a message and for others
+pub nobody_asks : (plan : Plan) (e : End) → length plan.nodes ≤ e.node
+    → asks (role_at plan e.node) e ≡ gives None
+nobody_asks plan e past =
+    ap (λ (r : Role). asks r e)
+    (not_chosen (nat_lt e.node (length plan.nodes)) Processor _ (role_past plan e.node past))
+    ∙ by (nat_lt e.node (length plan.nodes + length plan.sources))
+    (nat_lt e.node (length plan.nodes + length plan.sources + length plan.sinks))
+  where
+    by : (t u : Bool) → asks (if t then Source else if u then Sink else Nothing) e ≡ gives None
+    by true u = refl
+    by false true = refl
+    by false false = refl
+
 pub role_source : (plan : Plan) (n : ℕ) → length plan.nodes ≤ n → n - length plan.nodes < length plan.sources
     → role_at plan n ≡ Source
 role_source plan n past low =
@@ -186,7 +248,7 @@ role_source plan n past low =
     ∙ chosen (nat_lt n (length plan.nodes + length plan.sources)) Source _
     (lt-ltb n (length plan.nodes + length plan.sources) (omega (arith, past, low)))
 
-past_sources : (plan : Plan) (n : ℕ) → length plan.nodes ≤ n → length plan.sources ≤ n - length plan.nodes
+pub past_sources : (plan : Plan) (n : ℕ) → length plan.nodes ≤ n → length plan.sources ≤ n - length plan.nodes
     → role_at plan n
     ≡ (if nat_lt n (length plan.nodes + length plan.sources + length plan.sinks) then Sink else Nothing)
 past_sources plan n past high =

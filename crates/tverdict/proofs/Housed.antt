@@ -8,6 +8,7 @@ use Rattle.std.proofs.lemmas.Int.{ints}
 use Rattle.std.proofs.lemmas.List.{length-map, length_push, take_all, take_more}
 use Rattle.std.proofs.lemmas.Option.{get_or_from_slice_get, same_Some, slice_get-map, slice_get_within}
 use Rattle.tplan.specs.declared.plan.Plan.{Plan}
+use Rattle.tagents.specs.Groups.{AgreeOn}
 use Rattle.tclocks.specs.Checks.{last_step}
 use Rattle.tclocks.proofs.Lists.{contains-first, contains-rest}
 use Rattle.tprocesses.specs.Opening.{opening_state}
@@ -33,7 +34,8 @@ use Rattle.tcertify.proofs.OwnWorkspaces.{among_first}
 use Rattle.tcertify.proofs.Telling.{same_name-self, same_name-true}
 use Rattle.tfollow.specs.declared.berth.Berth.{Berth}
 use Rattle.tfollow.specs.Lodging.{AreLodged, HasCountedIfAny, IsNewName, number_of_name}
-use Rattle.tfollow.specs.Numbering.{number_in}
+use Rattle.tfollow.specs.Following.{number_by}
+use Rattle.tfollow.specs.Numbering.{AgentNumbers}
 use Rattle.tfollow.proofs.Lodged.{beginnings_take_berths, ends_leave_berths, lodged_agents_may_come}
 use Rattle.tfollow.proofs.Lodged.{others_keep_berths}
 use Rattle.tverdict.specs.declared.agent.Agent.{Agent}
@@ -116,13 +118,14 @@ number_there (y ∷ ys) (suc k) x at none =
     by false e rest = ap suc rest
 
 -- who has ended
-ended_so : (s : Stand) → stand_of s ≡ value.Ended → s ≡ stand.Ended
+pub ended_so : (s : Stand) → stand_of s ≡ value.Ended → s ≡ stand.Ended
 ended_so stand.Absent e = cc
 ended_so (stand.Rests c) e = cc
 ended_so (stand.Runs c) e = cc
 ended_so (stand.Waits c) e = cc
 ended_so (stand.Chooses c) e = cc
 ended_so (stand.Chosen c) e = cc
+ended_so (stand.Listens channel c) e = cc
 ended_so stand.Ended e = refl
 
 -- the node of a number has berths for all
@@ -178,7 +181,7 @@ module _ (nodes : List Node) (n : ℕ) (node : Node) (there : slice_get nodes n 
         ∙ ap (λ (o : Option Node). at_node o (opening_state plan) (Standing x)) there
         ∙ chosen (node.words.number == x.node) _ _ (eq-eqb node.words.number x.node (numbered ∙ sym at_n))
 
-    stand_at : (k : ℕ) (p : Process) → slice_get processes k ≡ Some p
+    pub stand_at : (k : ℕ) (p : Process) → slice_get processes k ≡ Some p
         → stand_in (now (Standing (name_of n p))) ≡ stand_of p.stand
     stand_at k p at =
         ap stand_in (stands_at (name_of n p) refl)
@@ -208,8 +211,8 @@ module _ (plan : Plan) (steps : List ProcessStep) (m : Machine) (done : HasDone 
     (g : NodesGrow m.nodes.items nodes) (changed : List ℕ)
     (stays : (k : ℕ) → (Contains changed k → ⊥) → slice_get nodes k ≡ slice_get m.nodes.items k) where
   was_housed : (n : ℕ) (l : Lodging) (node : Node) → slice_get m.nodes.items n ≡ Some node
-      → IsHoused plan steps m.nodes.items (agents m) n l
-      → WasHoused plan changed steps (machine_at plan m) nodes (agents m) n l
+      → IsHoused plan steps m.nodes.items done.group n l
+      → WasHoused plan changed steps (machine_at plan m) nodes done.group n l
   was_housed n l node there h =
       let numbered = done.sound.nodes.numbers n node there in let homes = h.homes node there in
       let all = all_lodge m.nodes.items n node there numbered l homes in
@@ -220,7 +223,7 @@ module _ (plan : Plan) (steps : List ProcessStep) (m : Machine) (done : HasDone 
       ∙ take_same (length l.homes.items) (names node) (names new) (omega (arith, long, homes.known)) grows.names
       ∙ ap (take (length l.homes.items)) (sym (names_are m.nodes.items n node there numbered)) in
       record {
-        lodged = subst (λ (xs : List Name). AreLodged plan n (agents m) xs l.homes.items steps l.berths.items)
+        lodged = subst (λ (xs : List Name). AreLodged plan n done.group xs l.homes.items steps l.berths.items)
             (sym same) h.lodged;
         had = ap amount_in (population_at m.nodes.items n node there numbered plan m.sent.items m.sinks.items)
             ∙ ap pos homes.had;
@@ -230,7 +233,7 @@ module _ (plan : Plan) (steps : List ProcessStep) (m : Machine) (done : HasDone 
       }
 
   pub were_housed : (a : machine.Agent) → ((x : Name) → a ≡ machine.Process x → Contains changed x.node)
-      → WereHoused plan changed a steps (machine_at plan m) nodes (agents m) m.lodgings.items
+      → WereHoused plan changed a steps (machine_at plan m) nodes done.group m.lodgings.items
   were_housed a home =
       record {
         many = done.housed.many ∙ sym g.many;
@@ -242,31 +245,31 @@ module _ (plan : Plan) (steps : List ProcessStep) (m : Machine) (done : HasDone 
             was_housed n l node there (done.housed.housed n l has free);
       }
 
--- agents may come
-pub housed_more : (plan : Plan) (steps : List ProcessStep) (nodes : List Node) (all more : List machine.Agent)
-    (lodgings : List Lodging) → AreHoused plan steps nodes all lodgings
-    → AreHoused plan steps nodes (all ++ more) lodgings
-housed_more plan steps nodes all more lodgings h =
+-- agents that have done no step may have other numbers
+pub housed_more : (plan : Plan) (steps : List ProcessStep) (nodes : List Node) (group more : AgentNumbers)
+    (lodgings : List Lodging) → AgreeOn (number_by group) (number_by more) steps
+    → AreHoused plan steps nodes group lodgings → AreHoused plan steps nodes more lodgings
+housed_more plan steps nodes group more lodgings agree h =
     record {
       many = h.many;
       housed = λ n l has free. let is = h.housed n l has free in record {
         homes = is.homes;
-        lodged = lodged_agents_may_come plan n all more (lodgers nodes n l) l.homes.items steps l.berths.items
-            is.lodged;
+        lodged = lodged_agents_may_come plan n group more (lodgers nodes n l) l.homes.items steps l.berths.items
+            is.lodged agree;
       };
     }
 
 pub were_more : (plan : Plan) (changed : List ℕ) (a : machine.Agent) (steps : List ProcessStep) (s : State)
-    (nodes : List Node) (all more : List machine.Agent) (lodgings : List Lodging)
-    → WereHoused plan changed a steps s nodes all lodgings
-    → WereHoused plan changed a steps s nodes (all ++ more) lodgings
-were_more plan changed a steps s nodes all more lodgings h =
+    (nodes : List Node) (group more : AgentNumbers) (lodgings : List Lodging)
+    → AgreeOn (number_by group) (number_by more) steps → WereHoused plan changed a steps s nodes group lodgings
+    → WereHoused plan changed a steps s nodes more lodgings
+were_more plan changed a steps s nodes group more lodgings agree h =
     record {
       many = h.many;
       home = h.home;
       housed = λ n l has free. let was = h.housed n l has free in record {
-        lodged = lodged_agents_may_come plan n all more (lodgers nodes n l) l.homes.items steps l.berths.items
-            was.lodged;
+        lodged = lodged_agents_may_come plan n group more (lodgers nodes n l) l.homes.items steps l.berths.items
+            was.lodged agree;
         had = was.had;
         others = was.others;
         elsewhere = was.elsewhere;
@@ -276,7 +279,7 @@ were_more plan changed a steps s nodes all more lodgings h =
 -- the berths of one node follow the last step, which was told
 module _ (plan : Plan) (number : ℕ) (at : List ℕ) (m : Machine) (t : HasTold plan number at m) (n : ℕ) (node : Node)
     (there : slice_get m.nodes.items n ≡ Some node) (old : Lodging)
-    (was : WasHoused plan at t.earlier t.before m.nodes.items (agents m) n old) where
+    (was : WasHoused plan at t.earlier t.before m.nodes.items t.group n old) where
   abbrev ns : List Node
   ns = m.nodes.items
 
@@ -304,26 +307,26 @@ module _ (plan : Plan) (number : ℕ) (at : List ℕ) (m : Machine) (t : HasTold
   still_housed : HasHomes node old
       → ((x : Name) → t.step.agent ≡ machine.Process x → x.node ≡ n
       → stand_in (machine_at plan m (Standing x)) ≢ value.Ended)
-      → IsHoused plan (t.step ∷ t.earlier) ns (agents m) n old
+      → IsHoused plan (t.step ∷ t.earlier) ns t.group n old
   still_housed homes none =
       record {
         homes = homes_of ns n node there old homes;
-        lodged = others_keep_berths plan n (agents m) lodging_names old.homes.items t.step t.earlier old.berths.items
+        lodged = others_keep_berths plan n t.group lodging_names old.homes.items t.step t.earlier old.berths.items
             was.lodged (none_begins homes) (tells.no_ending none);
       }
 
-  abbrev number_is : number_in (agents m) t.step.agent ≡ number
-  number_is = t.followed.apart number t.step.agent t.numbered
+  abbrev number_is : t.group t.step.agent ≡ number
+  number_is = t.followed.numbered number t.step.agent t.numbered
 
   -- the clock of the step has counted the last one at a berth, which it takes or leaves
   counted_by : (berth : Berth) → HasCountedIfAny m.check number berth.last
-      → HasCountedIfAny m.check (number_in (agents m) t.step.agent) berth.last
+      → HasCountedIfAny m.check (t.group t.step.agent) berth.last
   counted_by berth h = subst (λ (k : ℕ). HasCountedIfAny m.check k berth.last) (sym number_is) h
 
   set_by : (new : Lodging) (place : ℕ) (is_free : Bool)
       → new.berths.items ≡ slice_set old.berths.items place (moved_berth m.check number is_free)
       → slice_set old.berths.items place
-      (record { is_free = is_free; last = Some (last_step m.check (number_in (agents m) t.step.agent)) })
+      (record { is_free = is_free; last = Some (last_step m.check (t.group t.step.agent)) })
       ≡ new.berths.items
   set_by new place is_free e =
       ap (λ (k : ℕ). slice_set old.berths.items place (moved_berth m.check k is_free)) number_is ∙ sym e
@@ -377,20 +380,21 @@ module _ (plan : Plan) (number : ℕ) (at : List ℕ) (m : Machine) (t : HasTold
         ∙ ap (λ (k : ℕ). take k (names node)) (sym long)
         ∙ ap (take (length new.homes.items)) (sym (names_are ns n node there numbered))
 
-    taken_housed : IsHoused plan (t.step ∷ t.earlier) ns (agents m) n new
+    taken_housed : IsHoused plan (t.step ∷ t.earlier) ns t.group n new
     taken_housed =
         record {
           homes = homes_of ns n node there new takes.homes;
           lodged =
-              subst (λ (xs : List Name). AreLodged plan n (agents m) xs new.homes.items (t.step ∷ t.earlier)
+              subst (λ (xs : List Name). AreLodged plan n t.group xs new.homes.items (t.step ∷ t.earlier)
               new.berths.items) names_more
-              (subst (λ (hs : List ℕ). AreLodged plan n (agents m) (lodging_names ++ its_name ∷ []) hs
+              (subst (λ (hs : List ℕ). AreLodged plan n t.group (lodging_names ++ its_name ∷ []) hs
               (t.step ∷ t.earlier) new.berths.items) (sym takes.housed)
-              (subst (AreLodged plan n (agents m) (lodging_names ++ its_name ∷ [])
+              (subst (AreLodged plan n t.group (lodging_names ++ its_name ∷ [])
               (old.homes.items ++ takes.place ∷ []) (t.step ∷ t.earlier))
               (set_by new takes.place false takes.berths)
-              (beginnings_take_berths plan n (places m) (agents m) lodging_names old.homes.items t.step t.earlier
-              m.check (machine_at plan m) old.berths.items its_name takes.place takes.known.berth was.lodged t.followed
+              (beginnings_take_berths plan n (places m) t.group (agents m) lodging_names old.homes.items t.step
+              t.earlier m.check (machine_at plan m) old.berths.items its_name takes.place takes.known.berth was.lodged
+              t.followed
               begun (tells.one begun) is_lodger is_new takes.known.there takes.known.free
               (counted_by takes.known.berth takes.known.counted))));
         }
@@ -436,18 +440,18 @@ module _ (plan : Plan) (number : ℕ) (at : List ℕ) (m : Machine) (t : HasTold
           absurd (omega (arith, below, e)))
 
       left_housed : (new : Lodging) → Leaves m.check number process old new
-          → IsHoused plan (t.step ∷ t.earlier) ns (agents m) n new
+          → IsHoused plan (t.step ∷ t.earlier) ns t.group n new
       left_housed new leaves =
           let same : length new.homes.items ≡ length old.homes.items = ap length leaves.housed in
           record {
             homes = homes_of ns n node there new
                 (record { had = homes.had ∙ sym same; known = homes.known ∙ sym same });
             lodged =
-                subst (λ (hs : List ℕ). AreLodged plan n (agents m) (take (length hs) (names_in ns n)) hs
+                subst (λ (hs : List ℕ). AreLodged plan n t.group (take (length hs) (names_in ns n)) hs
                 (t.step ∷ t.earlier) new.berths.items) (sym leaves.housed)
-                (subst (AreLodged plan n (agents m) lodging_names old.homes.items (t.step ∷ t.earlier))
+                (subst (AreLodged plan n t.group lodging_names old.homes.items (t.step ∷ t.earlier))
                 (set_by new leaves.place true leaves.berths)
-                (ends_leave_berths plan n (places m) (agents m) lodging_names old.homes.items t.step t.earlier
+                (ends_leave_berths plan n (places m) t.group (agents m) lodging_names old.homes.items t.step t.earlier
                 m.check (machine_at plan m) old.berths.items gone leaves.place leaves.known.known.berth was.lodged
                 t.followed (none_begins homes) ends_now (tells.ended gone its_own ends_now)
                 (subst (λ (k : ℕ). k < length lodging_names) (sym has_number) within)
@@ -492,11 +496,11 @@ module _ (plan : Plan) (number : ℕ) (at : List ℕ) (m : Machine) (t : HasTold
 
     -- in each case all have their berths
     moved_housed : (new : Lodging) → Moves m.check number node a old new
-        → IsHoused plan (t.step ∷ t.earlier) ns (agents m) n new
+        → IsHoused plan (t.step ∷ t.earlier) ns t.group n new
     moved_housed new (inl takes) = taken_housed new takes
     moved_housed new (inr (inl (homes, (process, ended, leaves)))) = left_housed homes process ended new leaves
     moved_housed new (inr (inr (homes, none, same))) =
-        subst (λ (l : Lodging). IsHoused plan (t.step ∷ t.earlier) ns (agents m) n l) (sym same)
+        subst (λ (l : Lodging). IsHoused plan (t.step ∷ t.earlier) ns t.group n l) (sym same)
         (still_housed homes (not_ended none))
 
 -- those of all nodes
@@ -504,7 +508,7 @@ module _ (plan : Plan) (number : ℕ) (at : List ℕ) (m new : Machine) (t : Has
     (lodges : LodgesAt number at m new) where
   -- a node that has not changed
   away_housed : (n : ℕ) (l : Lodging) → (Contains at n → ⊥) → slice_get new.lodgings.items n ≡ Some l
-      → l.is_crowded ≡ false → IsHoused plan (t.step ∷ t.earlier) m.nodes.items (agents m) n l
+      → l.is_crowded ≡ false → IsHoused plan (t.step ∷ t.earlier) m.nodes.items t.group n l
   away_housed n l away has free =
       let had : slice_get m.lodgings.items n ≡ Some l = sym (lodges.others n away) ∙ has in
       let low : n < length m.nodes.items =
@@ -518,11 +522,11 @@ module _ (plan : Plan) (number : ℕ) (at : List ℕ) (m new : Machine) (t : Has
   here_by : (n : ℕ) (l old : Lodging) (node : Node) (a : Agent) → Contains at n
       → slice_get new.lodgings.items n ≡ Some l → l.is_crowded ≡ false → slice_get m.lodgings.items n ≡ Some old
       → slice_get m.nodes.items n ≡ Some node → slice_get m.agents.items number ≡ Some a
-      → IsHoused plan (t.step ∷ t.earlier) m.nodes.items (agents m) n l
+      → IsHoused plan (t.step ∷ t.earlier) m.nodes.items t.group n l
   here_by n l old node a among has free had there named = by (lodges.here n node a old among there named had)
     where
       by : (k : Lodging) × (slice_get new.lodgings.items n ≡ Some k) × Lodges m.check number node a old k
-          → IsHoused plan (t.step ∷ t.earlier) m.nodes.items (agents m) n l
+          → IsHoused plan (t.step ∷ t.earlier) m.nodes.items t.group n l
       by (k, is, follows) =
           let moves : (old.is_crowded ≡ false) × Moves m.check number node a old l =
           subst (Lodges m.check number node a old) (same_Some k l (sym is ∙ has)) follows free in
@@ -534,7 +538,7 @@ module _ (plan : Plan) (number : ℕ) (at : List ℕ) (m new : Machine) (t : Has
       (slice_get_within (agents m) number t.step.agent t.numbered)
 
   here_housed : (n : ℕ) (l : Lodging) → Contains at n → slice_get new.lodgings.items n ≡ Some l
-      → l.is_crowded ≡ false → IsHoused plan (t.step ∷ t.earlier) m.nodes.items (agents m) n l
+      → l.is_crowded ≡ false → IsHoused plan (t.step ∷ t.earlier) m.nodes.items t.group n l
   here_housed n l among has free =
       by (at_low m.lodgings.items n low)
       (at_low m.nodes.items n (subst (λ (k : ℕ). n < k) t.housed.many low)) (at_low m.agents.items number agent_low)
@@ -545,10 +549,10 @@ module _ (plan : Plan) (number : ℕ) (at : List ℕ) (m new : Machine) (t : Has
       by : (old : Lodging) × (slice_get m.lodgings.items n ≡ Some old)
           → (node : Node) × (slice_get m.nodes.items n ≡ Some node)
           → (a : Agent) × (slice_get m.agents.items number ≡ Some a)
-          → IsHoused plan (t.step ∷ t.earlier) m.nodes.items (agents m) n l
+          → IsHoused plan (t.step ∷ t.earlier) m.nodes.items t.group n l
       by (old, had) (node, there) (a, named) = here_by n l old node a among has free had there named
 
-  pub all_housed : AreHoused plan (t.step ∷ t.earlier) m.nodes.items (agents m) new.lodgings.items
+  pub all_housed : AreHoused plan (t.step ∷ t.earlier) m.nodes.items t.group new.lodgings.items
   all_housed =
       record {
         many = lodges.many ∙ t.housed.many;

@@ -11,21 +11,23 @@ use Rattle.tagents.specs.Walks.{are_open}
 use Rattle.tclocks.specs.Checks.{Check, with_agent, with_slot}
 use Rattle.tprocesses.specs.Machine as machine
 use Rattle.tprocesses.specs.Machine.{process_machine}
-use Rattle.tfollow.specs.Following.{IsFollowed}
+use Rattle.tfollow.specs.Following.{HasEnded, IsFollowed}
+use Rattle.tfollow.specs.Laws as laws
 use Rattle.tfollow.specs.Numbering.{HasNumber, IsNew}
 use Rattle.tfollow.proofs.Growing.{agents_may_come}
-use Rattle.tfollow.proofs.Numbered.{new_agents_are_others}
 use Rattle.tverdict.specs.declared.agent.Agent.{Agent}
 use Rattle.tverdict.specs.declared.agent.Agent.TheVariants as agent
 use Rattle.tverdict.specs.declared.machine.Machine.{Machine}
-use Rattle.tverdict.specs.Agents.{IsThere, agent_of}
+use Rattle.tverdict.specs.Agents.{IsMet, IsThere, agent_of}
 use Rattle.tverdict.specs.Coming.{AddsAgent}
 use Rattle.tverdict.specs.Lodging.{AreHoused}
-use Rattle.tverdict.specs.Machines.{AreFound, Follows, HasStep, IsSound, agents, machine_at, places}
+use Rattle.tverdict.specs.Machines.{AreFound, AreOwn, Follows, HasStep, IsSound, agents, machine_at, places}
 use Rattle.tverdict.specs.Next.{AreThoseWithSteps, IsLookedAt, IsLookedOver, IsNext, IsReadySuccessor}
+use Rattle.tverdict.proofs.Distinct.{others_new}
 use Rattle.tverdict.proofs.Housed.{housed_more}
 use Rattle.tverdict.proofs.Keeping.{get_last}
 use Rattle.tverdict.proofs.Opens.{has_number, successor_open}
+use Rattle.tverdict.proofs.Recalled.{no_new_steps, own_grown}
 
 pub looked_twice : (old mid new : Machine) → IsLookedAt old mid → IsLookedAt mid new → IsLookedAt old new
 looked_twice old mid new first second =
@@ -73,8 +75,17 @@ module _ (plan : Plan) (old new : Machine) (same : IsLookedAt old new) where
   pub follows_still : Follows plan old → IsSound plan new → Follows plan new
   follows_still f s =
       let sound : IsSound plan other = subst (λ (m : Machine). IsSound plan m) same s in
-      let still : Follows plan other =
-      (f.0, record { count = (f.1).count; sound = sound; followed = (f.1).followed; housed = (f.1).housed }) in
+      let still : Follows plan other = (
+        f.0,
+        record {
+          count = (f.1).count;
+          sound = sound;
+          group = (f.1).group;
+          followed = (f.1).followed;
+          housed = (f.1).housed;
+          own = (f.1).own;
+        },
+      ) in
       subst (λ (m : Machine). Follows plan m) (sym same) still
 
   pub looked_over : IsLookedOver old new
@@ -222,12 +233,20 @@ module _ (plan : Plan) (old new : Machine) (f : Follows plan old) (none : (numbe
 
   is_new : IsNew (agents old) comer
   is_new =
-      (new_agents_are_others (agents old) comer (f.1).followed.apart).1
-      (λ k b numbered same. none k (record {
+      others_new (agents old) comer (λ k b numbered same. none k (record {
         agent = b;
         numbered = numbered;
         opened = ap (λ (c : machine.Agent). are_open (process_machine plan) c (machine_at plan old)) same ∙ opened;
       }))
+
+  not_ended : HasEnded comer (machine_at plan old) → ⊥
+  not_ended ended = subst (λ (c : machine.Agent). HasEnded c (machine_at plan old)) comer_is ended
+
+  comes : laws.HasCome plan (places old) (f.1).group (agents old ++ comer ∷ []) f.0
+      (with_slot (with_agent old.check)) (machine_at plan old)
+  comes =
+      agents_may_come plan (places old) (f.1).group (agents old) f.0 old.check (machine_at plan old) comer
+      (f.1).followed is_new not_ended
 
   -- the machine with one agent more
   abbrev more : Machine
@@ -249,8 +268,11 @@ module _ (plan : Plan) (old new : Machine) (f : Follows plan old) (none : (numbe
   more_found : AreFound plan old.nodes.items new.agents.items
   more_found =
       subst (λ (xs : List Agent). AreFound plan old.nodes.items xs) (sym adds.agents) (record {
-        processes = λ n k h. Contains-append_left old.agents.items (a ∷ []) (agent.Process n k)
-            ((f.1).sound.found.processes n k h);
+        processes = λ n k h. elim ((f.1).sound.found.processes n k h) as
+            (λ _. IsMet old.nodes.items (old.agents.items ++ a ∷ []) (agent.Process n k)) [
+              | inl has ↦ inl (Contains-append_left old.agents.items (a ∷ []) (agent.Process n k) has)
+              | inr ended ↦ inr ended
+            ];
         channels = λ n k h. Contains-append_left old.agents.items (a ∷ []) (agent.Channel n k)
             ((f.1).sound.found.channels n k h);
         wires = λ e s h. Contains-append_left old.agents.items (a ∷ []) (agent.Wire e)
@@ -284,22 +306,32 @@ module _ (plan : Plan) (old new : Machine) (f : Follows plan old) (none : (numbe
         kept_places = (f.1).sound.kept_places;
       }
 
-  more_followed : IsFollowed plan (places old) (agents more) f.0 new.check (machine_at plan old)
+  more_followed : IsFollowed plan (places old) comes.group (agents more) f.0 new.check (machine_at plan old)
   more_followed =
-      subst (λ (c : Check). IsFollowed plan (places old) (agents more) f.0 c (machine_at plan old)) (sym adds.check)
-      (subst (λ (xs : List machine.Agent).
-      IsFollowed plan (places old) xs f.0 (with_slot (with_agent old.check)) (machine_at plan old)) (sym agents_more)
-      (agents_may_come plan (places old) (agents old) f.0 old.check (machine_at plan old) comer (f.1).followed is_new))
+      subst (λ (c : Check). IsFollowed plan (places old) comes.group (agents more) f.0 c (machine_at plan old))
+      (sym adds.check)
+      (subst (λ (xs : List machine.Agent). IsFollowed plan (places old) comes.group xs f.0
+      (with_slot (with_agent old.check)) (machine_at plan old)) (sym agents_more) comes.followed)
 
-  more_housed : AreHoused plan f.0 old.nodes.items (agents more) old.lodgings.items
+  more_housed : AreHoused plan f.0 old.nodes.items comes.group old.lodgings.items
   more_housed =
-      subst (λ (xs : List machine.Agent). AreHoused plan f.0 old.nodes.items xs old.lodgings.items) (sym agents_more)
-      (housed_more plan f.0 old.nodes.items (agents old) (comer ∷ []) old.lodgings.items (f.1).housed)
+      housed_more plan f.0 old.nodes.items (f.1).group comes.group old.lodgings.items comes.kept (f.1).housed
 
   pub comer_follows : Follows plan new
   comer_follows =
-      let still : Follows plan more =
-      (f.0, record { count = (f.1).count; sound = more_sound; followed = more_followed; housed = more_housed }) in
+      let still : Follows plan more = (
+        f.0,
+        record {
+          count = (f.1).count;
+          sound = more_sound;
+          group = comes.group;
+          followed = more_followed;
+          housed = more_housed;
+          own = λ j n is. subst (λ (c : Check). AreOwn old.nodes.items c j n) (sym adds.check)
+              (own_grown old.check (no_new_steps plan (places old) (f.1).group (agents old) f.0 old.check
+              (machine_at plan old) (f.1).followed).begun old.nodes.items j n ((f.1).own j n is));
+        },
+      ) in
       subst (λ (m : Machine). Follows plan m) (sym adds.same) still
 
   pub comer_steps : HasStep plan new number

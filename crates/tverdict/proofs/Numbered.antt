@@ -2,6 +2,7 @@
 use Rattle.std.proofs.Common.{◌≡◌, ℕ, refl, ap, ◌∙◌, List, Some}
 use Rattle.std.specs.Prelude.{◌==◌, find, slice_get}
 use Rattle.std.proofs.lemmas.Bool.{eq-eqb, eqb-true}
+use Rattle.tproc.specs.declared.channels.Side.{Side}
 use Rattle.tproc.specs.declared.channels.Side.TheVariants.{Input, Output}
 use Rattle.tplan.specs.Wires.{end_at}
 use Rattle.tprocesses.specs.Places as place
@@ -14,8 +15,8 @@ use Rattle.tcertify.specs.Nodes.{NumbersNode}
 use Rattle.tcertify.specs.Processes.{name_of}
 use Rattle.tcertify.proofs.Found.{find_apart}
 use Rattle.tcertify.proofs.Telling.{same_name-self, same_name-true}
-use Rattle.tverdict.specs.Numbers.{PlacesAreNumbered, half_place, node_in, number_among, number_at, numbering}
-use Rattle.tverdict.specs.Numbers.{or_beyond, process_number}
+use Rattle.tverdict.specs.Numbers.{PlacesAreNumbered, half_or, half_place, link_number, node_in, number_among}
+use Rattle.tverdict.specs.Numbers.{number_at, numbering, or_beyond, process_number}
 
 module _ (nodes : List Node) (first k : ℕ) (node : Node) (there : slice_get nodes k ≡ Some node)
     (numbered : node.words.number ≡ k) where
@@ -27,6 +28,11 @@ module _ (nodes : List Node) (first k : ℕ) (node : Node) (there : slice_get no
   own p e =
       ap (or_beyond (λ (x : Node). number_at x p))
       (ap (λ (j : ℕ). slice_get nodes j) (e ∙ numbered) ∙ there)
+
+  own_half : (j : ℕ) (side : Side)
+      → numbering nodes first (place.LinkHalf (end_at n j) side) ≡ link_number node.fixed_place side j
+  own_half j side =
+      ap (half_or first side j) (ap (λ (i : ℕ). slice_get nodes i) numbered ∙ there)
 
   process_found : (j : ℕ) (p : Process) → slice_get node.processes.items.items j ≡ Some p
       → process_number node (name_of n p) ≡ p.place
@@ -70,8 +76,9 @@ module _ (nodes : List Node) (first k : ℕ) (node : Node) (there : slice_get no
         flag_changed = own (place.FlagChanged n) refl;
         population = own (place.Population n) refl;
         has_run = λ p h. own (place.HasRun n p) refl;
-        link_input = λ j h. own (place.LinkHalf (end_at n j) Input) refl;
-        link_output = λ j h. own (place.LinkHalf (end_at n j) Output) refl;
+        link_input = λ j h. own_half j Input;
+        link_output = λ j h. own_half j Output;
+        unfinished = λ j h. own (place.Unfinished (end_at n j)) refl;
       }
 
 pub places_are_numbered : PlacesAreNumbered

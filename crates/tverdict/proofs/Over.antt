@@ -1,17 +1,19 @@
 -- A step from the call that has done it to its end.
 use Rattle.std.proofs.Common.{◌≡◌, ◌≤◌, ◌<◌, ◌+◌, ◌⊎◌, ℕ, zero, suc, inl, inr, refl, sym, ap, ◌∙◌, subst, List}
 use Rattle.std.proofs.Common.{[], ◌∷◌, Ok, Err, Some, All, Contains, arith, length, map, reverse}
-use Rattle.std.proofs.Common.{Option, false}
-use Rattle.std.specs.Prelude.{nat_lt, replicate, slice_get, unwrap_or}
+use Rattle.std.proofs.Common.{Option, None, drop, false}
+use Rattle.std.specs.Prelude.{nat_lt, replicate, slice_get, slice_index, unwrap_or}
 use Rattle.std.proofs.lemmas.Bool.{cases_eq, lt-ltb}
 use Rattle.std.proofs.lemmas.List.{length-append, length-map, length-replicate}
-use Rattle.std.proofs.lemmas.Option.{same_Some, slice_get_within}
+use Rattle.std.proofs.lemmas.Option.{none-some, same_Some, slice_get_within}
 use Rattle.tplan.specs.declared.plan.Plan.{Plan}
 use Rattle.tagents.specs.Walks.{label_of}
 use Rattle.tclocks.specs.Checks.{Check, with_cleared}
 use Rattle.tclocks.proofs.Lists.{contains-first, contains-rest}
 use Rattle.tclocks.specs.declared.step.Step.{Step}
 use Rattle.tclocks.specs.Followed.{IsStep}
+use Rattle.tclocks.specs.Own.{IsOwnYet}
+use Rattle.tclocks.specs.Owning.{HasNoNewSteps}
 use Rattle.tplan.specs.Wires.{end_at}
 use Rattle.tprocesses.specs.Places.{Name, Image}
 use Rattle.tprocesses.specs.Parts.{Reason}
@@ -21,17 +23,18 @@ use Rattle.tprocesses.proofs.Lived.{steps_tell_lives}
 use Rattle.tcertify.specs.declared.lead.Lead.{Lead}
 use Rattle.tcertify.specs.declared.lead.Lead.TheVariants as lead
 use Rattle.tcertify.specs.declared.node.Node.{Node}
+use Rattle.tcertify.specs.declared.notes.Note.{Note}
 use Rattle.tcertify.specs.declared.notes.Notes.{Notes}
 use Rattle.tcertify.specs.declared.side.Side.TheVariants.{Input, Output}
 use Rattle.tcertify.specs.Nodes.{IsLed}
 use Rattle.tcertify.specs.Running.{State}
 use Rattle.tcertify.specs.Seeing.{sights}
 use Rattle.tcertify.specs.Walked.{accesses, changes}
-use Rattle.tfollow.specs.Following.{IsFollowed, IsFollowedStep, IsRefusedStep, IsTold, KeptAccess, Told}
+use Rattle.tfollow.specs.Following.{IsFollowed, IsFollowedStep, IsRefusedStep, IsToldOrOwn, KeptAccess, Told}
 use Rattle.tfollow.specs.Laws.{HasRace}
 use Rattle.tfollow.specs.Leading.{RunLeads}
 use Rattle.tfollow.specs.Numbering.{HasNumber}
-use Rattle.tfollow.specs.Telling.{told_of}
+use Rattle.tfollow.specs.Telling.{told_mode, told_of}
 use Rattle.tfollow.proofs.Counting.{below-or-not}
 use Rattle.tfollow.proofs.Growing.{places_may_come}
 use Rattle.tfollow.proofs.Handing.{slots_may_be_cleared}
@@ -39,26 +42,28 @@ use Rattle.tfollow.proofs.Counted.{runs_tell_leads}
 use Rattle.tfollow.proofs.Opened.{steps_lead_by}
 use Rattle.tfollow.proofs.Refused.{refusals_tell_races}
 use Rattle.tfollow.proofs.Stepping.{does, goes, steps_are_followed, stops_are_told}
-use Rattle.tfollow.proofs.Telling.{notes_are_told}
+use Rattle.tfollow.proofs.Telling.{notes_are_told_or_own}
 use Rattle.tverdict.specs.declared.agent.Agent.{Agent}
 use Rattle.tverdict.specs.declared.agent.Agent.TheVariants as agent
 use Rattle.tverdict.specs.declared.halt.Halt.{Halt}
 use Rattle.tverdict.specs.declared.halt.Halt.TheVariants as halt
+use Rattle.tverdict.specs.declared.machine.LastStep.{LastStep}
 use Rattle.tverdict.specs.declared.machine.Machine.{Machine}
 use Rattle.tverdict.specs.declared.verdict.Race.{Race}
-use Rattle.tverdict.specs.Agents.{HasChannel, HasProcess, address_there, agent_of, name_there}
+use Rattle.tverdict.specs.Agents.{HasChannel, HasProcess, IsEnded, IsMet, address_there, agent_of, name_there}
 use Rattle.tverdict.specs.Lodging.{LodgesAt, WereHoused}
-use Rattle.tverdict.specs.Machines.{AreFound, Follows, agents, machine_at, places}
+use Rattle.tverdict.specs.Machines.{AreFound, AreOwn, Follows, agents, machine_at, places}
 use Rattle.tverdict.specs.Stepping.{AddsPlaces, AreFoundBefore, Closes, Fits, HasMore, HasTold, IsAnswered, IsDone}
 use Rattle.tverdict.specs.Stepping.{IsLedTo, IsUntold, KeepsAgents, KeepsTold}
 use Rattle.tverdict.specs.Told.{IsStepHalted, IsStepRefused}
 use Rattle.tverdict.specs.Wired.{IsDoneAt, IsUntoldAt}
 use Rattle.tverdict.specs.Verdicts.{EndsInRace, EndsStopped, IsStepped}
 use Rattle.tverdict.proofs.Frames.{chosen}
+use Rattle.tverdict.proofs.Recalled.{each_told_or_own, no_new_steps, own_after, own_cleared, own_placed}
 use Rattle.tverdict.proofs.Housed.{all_housed}
 use Rattle.tverdict.proofs.Staying.{address_or, name_or}
 use Rattle.tverdict.proofs.Told.{places_accessed}
-use Rattle.tverdict.proofs.Keeping.{found_more, more_same, more_twice}
+use Rattle.tverdict.proofs.Keeping.{found_more, found_still, keeps_agents, met_more, more_same, more_twice}
 
 -- a step that stops
 pub answer_stops : (plan : Plan) (number : ℕ) (why : Reason) (m : Machine) → IsAnswered plan number (Err why) m
@@ -70,8 +75,8 @@ answer_stops plan number why m a =
       agent = a.agent;
       numbered = a.numbered;
       state = a.state;
-      stopped = stops_are_told plan (places m) (agents m) a.steps a.agent m.check why a.state (machine_at plan m)
-          a.followed a.opened a.runs;
+      stopped = stops_are_told plan (places m) a.group (agents m) a.steps a.agent m.check why a.state
+          (machine_at plan m) a.followed a.opened a.runs;
       tellable = a.tellable;
     }
 
@@ -95,8 +100,10 @@ module _ (m m' : Machine) (count : ℕ) (adds : AddsPlaces m count m') where
         numbered = a.numbered;
         opened = a.opened;
         runs = a.runs;
-        followed = subst (λ (c : Check). IsFollowed plan (places m) (agents m) a.steps c a.state) (sym adds.check)
-            (places_may_come plan (places m) (places m) (agents m) a.steps m.check a.state count a.followed
+        group = a.group;
+        followed = subst (λ (c : Check). IsFollowed plan (places m) a.group (agents m) a.steps c a.state)
+            (sym adds.check)
+            (places_may_come plan (places m) (places m) a.group (agents m) a.steps m.check a.state count a.followed
             (λ p low. refl));
         tellable = record { there = a.tellable.there; numbers = a.tellable.numbers };
       }
@@ -126,6 +133,11 @@ module _ (m m' : Machine) (count : ℕ) (adds : AddsPlaces m count m') where
         there = u.there;
         noted = u.noted;
         led = u.led;
+        own = λ k note low at. subst (λ (c : Check). IsOwnYet c number note.place (told_mode note.mode))
+            (sym adds.check)
+            (own_placed m.check number note.place (told_mode note.mode) count (no_new_steps plan (places m)
+            u.answered.group (agents m) u.answered.steps m.check u.answered.state u.answered.followed).begun
+            (u.own k note low at));
         fits = fits_it plan u.fits;
         housed = u.housed;
       }
@@ -154,7 +166,7 @@ module _ (m m' : Machine) (count : ℕ) (adds : AddsPlaces m count m') where
       record {
         nodes = ap (λ (x : Machine). x.nodes.items) adds.same;
         done = ap (λ (x : Machine). x.done) adds.same;
-        kept = λ j x h. subst (λ (y : Machine). slice_get y.agents.items j ≡ Some x) (sym adds.same) h;
+        kept = keeps_agents m m' (ap (λ (x : Machine). x.agents) adds.same);
       }
 
 -- a node of the machine is one of the plan
@@ -214,21 +226,29 @@ module _ (plan : Plan) (number : ℕ) (m : Machine) (done : IsAnswered plan numb
   s = done.state
 
   pub told_step : (c : Check) (at : List ℕ) (told : List Told)
-      → WereHoused plan at a done.steps s m.nodes.items (agents m) m.lodgings.items
+      → WereHoused plan at a done.steps s m.nodes.items done.group m.lodgings.items
       → IsStep number (number ∷ []) told m.check c
-      → All (IsTold (places m) told) (accesses (step_of plan a) s)
+      → All (IsToldOrOwn (places m) m.check number told) (accesses (step_of plan a) s)
+      → ((n : ℕ) → at ≡ n ∷ [] → AreOwn m.nodes.items c number n)
       → ((n : ℕ) (l : Lead) (node : Node) → Contains at n → slice_get m.nodes.items n ≡ Some node
       → Contains node.leads.items l → IsLed node (sights (step_of plan a) s) (changes (step_of plan a) s) l)
       → HasTold plan number at (record m { check = c })
-  told_step c at told housed is covered led =
-      let step : IsFollowedStep plan (places m) (agents m) number a told m.check c s (machine_at plan m) =
-      record { listed = done.numbered; opened = done.opened; runs = done.runs; checked = is; covered = covered } in
+  told_step c at told housed is covered own led =
+      let step : IsFollowedStep plan (places m) done.group (agents m) number a told m.check c s (machine_at plan m) =
+      record {
+        listed = done.numbered;
+        opened = done.opened;
+        runs = done.runs;
+        checked = is;
+        covered = covered;
+      } in
       record {
         step = label_of (process_machine plan) a s;
         earlier = done.steps;
         count = done.count;
         numbered = done.numbered;
-        followed = steps_are_followed plan (places m) (agents m) done.steps number a told m.check c s
+        group = done.group;
+        followed = steps_are_followed plan (places m) done.group (agents m) done.steps number a told m.check c s
             (machine_at plan m) done.followed step;
         leads = λ n l x among has named other.
             runs_tell_leads plan a (agent_of m.nodes.items x) s (machine_at plan m) done.opened done.runs other
@@ -250,6 +270,7 @@ module _ (plan : Plan) (number : ℕ) (m : Machine) (done : IsAnswered plan numb
             (record { steps = reverse done.steps; run = done.followed.run })
             (does plan a s (machine_at plan m) done.runs done.opened) (goes plan a s (machine_at plan m) done.runs);
         housed = housed;
+        own = own;
       }
 
   -- or has a race
@@ -257,7 +278,7 @@ module _ (plan : Plan) (number : ℕ) (m : Machine) (done : IsAnswered plan numb
       → EndsInRace plan (record m { check = c }) race
   refused_step c race r =
       let by : number ≡ race.step.agent = sym (ap (λ (x : Step). x.agent) r.same) in
-      let refused : IsRefusedStep plan (places m) (agents m) number a r.told
+      let refused : IsRefusedStep plan (places m) done.group (agents m) number a r.told
       (record { place = race.place; mode = race.mode }) race.earlier m.check c s (machine_at plan m) =
       record { listed = done.numbered; opened = done.opened; runs = done.runs; checked = r.checked; refused = r.first }
       in
@@ -266,11 +287,13 @@ module _ (plan : Plan) (number : ℕ) (m : Machine) (done : IsAnswered plan numb
         count = done.count;
         agent = a;
         numbered = subst (HasNumber (agents m) a) by done.numbered;
+        group = done.group;
+        numbers = done.followed.numbered;
         check = c;
         state = s;
-        found = subst (λ (j : ℕ). HasRace plan (agents m) done.steps j a
+        found = subst (λ (j : ℕ). HasRace plan done.group done.steps j a
             (record { place = race.place; mode = race.mode }) race.earlier c s (machine_at plan m)) by
-            (refusals_tell_races plan (places m) (agents m) done.steps number a r.told
+            (refusals_tell_races plan (places m) done.group (agents m) done.steps number a r.told
             (record { place = race.place; mode = race.mode }) race.earlier m.check c s (machine_at plan m)
             done.followed refused);
         tellable = record { there = done.tellable.there; numbers = done.tellable.numbers };
@@ -284,25 +307,56 @@ module _ (plan : Plan) (number : ℕ) (m : Machine) (done : IsAnswered plan numb
   halted_step c (halt.Stops why) r = absurd r
 
 -- the step of an agent at one node
-pub told_at : (plan : Plan) (number n : ℕ) (m : Machine) (u : IsUntold plan number n m) (c : Check)
-    → u.node.words.notes.is_lost ≡ false
-    → IsStep number (number ∷ []) (map told_of u.node.words.notes.items.items) m.check c
-    → HasTold plan number (n ∷ []) (record m { check = c })
-told_at plan number n m u c kept is =
-    told_step plan number m u.answered u.fits c (n ∷ []) (map told_of u.node.words.notes.items.items) u.housed is
-    (notes_are_told (places m) u.node.words.notes.items.items
-    (accesses (step_of plan u.answered.agent) u.answered.state) (u.noted kept))
-    (λ k l node among there has.
-    let same : n ≡ k = only among in
-    let it : node ≡ u.node =
-    same_Some node u.node (sym there ∙ ap (λ (i : ℕ). slice_get m.nodes.items i) (sym same) ∙ u.there) in
-    subst (λ (x : Node). IsLed x (sights (step_of plan u.answered.agent) u.answered.state)
-    (changes (step_of plan u.answered.agent) u.answered.state) l) (sym it)
-    (u.led l (subst (λ (x : Node). Contains x.leads.items l) it has)))
-  where
-    only : {k : ℕ} → Contains (n ∷ []) k → n ≡ k
-    only (zero, low, e) = e
-    only (suc i, low, e) = absurd (omega (arith, low))
+module _ (plan : Plan) (number n : ℕ) (m : Machine) (u : IsUntold plan number n m) (c : Check)
+    (is : IsStep number (number ∷ [])
+    (map told_of (drop u.node.words.notes.earlier u.node.words.notes.items.items)) m.check c) where
+  abbrev notes : List Note
+  notes = u.node.words.notes.items.items
+
+  abbrev earlier : ℕ
+  earlier = u.node.words.notes.earlier
+
+  abbrev told : List Told
+  told = map told_of (drop earlier notes)
+
+  none : HasNoNewSteps m.check
+  none =
+      no_new_steps plan (places m) u.answered.group (agents m) u.answered.steps m.check u.answered.state
+      u.answered.followed
+
+  low : number < length m.check.clocks
+  low =
+      let within : number < length (agents m) =
+      slice_get_within (agents m) number u.answered.agent u.answered.numbered in
+      let clocks : length m.check.clocks ≡ length (agents m) = u.answered.followed.clocks in
+      omega (arith, within, clocks)
+
+  is_it : (node : Node) (k : ℕ) → n ≡ k → slice_get m.nodes.items k ≡ Some node → node ≡ u.node
+  is_it node k same there =
+      same_Some node u.node (sym there ∙ ap (λ (i : ℕ). slice_get m.nodes.items i) (sym same) ∙ u.there)
+
+  only : {k : ℕ} → Contains (n ∷ []) k → n ≡ k
+  only (zero, within, e) = e
+  only (suc i, within, e) = absurd (omega (arith, within))
+
+  own_told : (k : ℕ) → n ∷ [] ≡ k ∷ [] → AreOwn m.nodes.items c number k
+  own_told k among node note there no_lead has =
+      let it : node ≡ u.node = is_it node k (ap (λ (ns : List ℕ). slice_index ns 0) among) there in
+      own_after m.check c number notes earlier low none u.own is note
+      (subst (λ (x : Node). Contains x.words.notes.items.items note) it has)
+
+  pub told_at : u.node.words.notes.is_lost ≡ false → HasTold plan number (n ∷ []) (record m { check = c })
+  told_at kept =
+      told_step plan number m u.answered u.fits c (n ∷ []) told u.housed is
+      (notes_are_told_or_own (places m) m.check number notes told
+      (accesses (step_of plan u.answered.agent) u.answered.state) (u.noted kept)
+      (each_told_or_own m.check c number notes earlier low none u.own is))
+      own_told
+      (λ k l node among there has.
+      let it : node ≡ u.node = is_it node k (only among) there in
+      subst (λ (x : Node). IsLed x (sights (step_of plan u.answered.agent) u.answered.state)
+      (changes (step_of plan u.answered.agent) u.answered.state) l) (sym it)
+      (u.led l (subst (λ (x : Node). Contains x.leads.items l) it has)))
 
 -- the agent that stepped, with its clock and slot
 pub agent_there : (plan : Plan) (number : ℕ) (at : List ℕ) (m : Machine) → HasTold plan number at m
@@ -330,11 +384,11 @@ module _ (plan : Plan) (one processes channels other processes' channels' : ℕ)
     (found : AreFoundBefore plan one processes channels other processes' channels' before)
     (more : HasMore before first) (two : HasMore first second) (three : HasMore second after)
     (first_processes : (k : ℕ) → processes ≤ k → HasProcess first.nodes.items one k
-    → Contains first.agents.items (agent.Process one k))
+    → IsMet first.nodes.items first.agents.items (agent.Process one k))
     (first_channels : (k : ℕ) → channels ≤ k → HasChannel first.nodes.items one k
     → Contains first.agents.items (agent.Channel one k))
     (second_processes : (k : ℕ) → processes' ≤ k → HasProcess second.nodes.items other k
-    → Contains second.agents.items (agent.Process other k))
+    → IsMet second.nodes.items second.agents.items (agent.Process other k))
     (second_channels : (k : ℕ) → channels' ≤ k → HasChannel second.nodes.items other k
     → Contains second.agents.items (agent.Channel other k)) where
   later : HasMore first after
@@ -343,7 +397,8 @@ module _ (plan : Plan) (one processes channels other processes' channels' : ℕ)
   all_more : HasMore before after
   all_more = more_twice before first after more later
 
-  process_found : (j k : ℕ) → HasProcess after.nodes.items j k → Contains after.agents.items (agent.Process j k)
+  process_found : (j k : ℕ) → HasProcess after.nodes.items j k
+      → IsMet after.nodes.items after.agents.items (agent.Process j k)
   process_found j k has = by (cases_eq j one) (cases_eq j other) (below-or-not k processes) (below-or-not k processes')
     where
       at_first : HasProcess first.nodes.items j k
@@ -355,30 +410,35 @@ module _ (plan : Plan) (one processes channels other processes' channels' : ℕ)
       at_before : HasProcess before.nodes.items j k
       at_before = subst (λ (v : List Node). HasProcess v j k) all_more.nodes has
 
-      by_first : j ≡ one → processes ≤ k → Contains after.agents.items (agent.Process j k)
+      by_first : j ≡ one → processes ≤ k → IsMet after.nodes.items after.agents.items (agent.Process j k)
       by_first e high =
-          found_more first after later (agent.Process j k)
-          (subst (λ (i : ℕ). Contains first.agents.items (agent.Process i k)) (sym e)
+          met_more first after later (agent.Process j k)
+          (subst (λ (i : ℕ). IsMet first.nodes.items first.agents.items (agent.Process i k)) (sym e)
           (first_processes k high (subst (λ (i : ℕ). HasProcess first.nodes.items i k) e at_first)))
 
-      by_second : j ≡ other → processes' ≤ k → Contains after.agents.items (agent.Process j k)
+      by_second : j ≡ other → processes' ≤ k → IsMet after.nodes.items after.agents.items (agent.Process j k)
       by_second e high =
-          found_more second after three (agent.Process j k)
-          (subst (λ (i : ℕ). Contains second.agents.items (agent.Process i k)) (sym e)
+          met_more second after three (agent.Process j k)
+          (subst (λ (i : ℕ). IsMet second.nodes.items second.agents.items (agent.Process i k)) (sym e)
           (second_processes k high (subst (λ (i : ℕ). HasProcess second.nodes.items i k) e at_second)))
 
       by_before : (j ≡ one → k < processes) → (j ≡ other → k < processes')
-          → Contains after.agents.items (agent.Process j k)
-      by_before low low' = found_more before after all_more (agent.Process j k) (found.processes j k at_before low low')
+          → IsMet after.nodes.items after.agents.items (agent.Process j k)
+      by_before low low' = met_more before after all_more (agent.Process j k) (found.processes j k at_before low low')
 
       by : (j ≡ one) ⊎ (j ≡ one → ⊥) → (j ≡ other) ⊎ (j ≡ other → ⊥) → (k < processes) ⊎ (processes ≤ k)
-          → (k < processes') ⊎ (processes' ≤ k) → Contains after.agents.items (agent.Process j k)
+          → (k < processes') ⊎ (processes' ≤ k) → IsMet after.nodes.items after.agents.items (agent.Process j k)
       by (inl e) o (inr high) l = by_first e high
       by o (inl e) l (inr high) = by_second e high
       by (inl e) (inl d) (inl low) (inl low') = by_before (λ x. low) (λ x. low')
       by (inl e) (inr differs) (inl low) l = by_before (λ x. low) (λ x. absurd (differs x))
       by (inr differs) (inl d) l (inl low') = by_before (λ x. absurd (differs x)) (λ x. low')
       by (inr differs) (inr not) l l' = by_before (λ x. absurd (differs x)) (λ x. absurd (not x))
+
+  -- what cannot end is found still
+  still : (a : Agent) → (IsEnded after.nodes.items a → ⊥) → (m : Machine) → HasMore m after → Contains m.agents.items a
+      → Contains after.agents.items a
+  still a none m to has = found_still after.nodes.items after.agents.items a none (found_more m after to a has)
 
   channel_found : (j k : ℕ) → HasChannel after.nodes.items j k → Contains after.agents.items (agent.Channel j k)
   channel_found j k has = by (cases_eq j one) (cases_eq j other) (below-or-not k channels) (below-or-not k channels')
@@ -394,19 +454,19 @@ module _ (plan : Plan) (one processes channels other processes' channels' : ℕ)
 
       by_first : j ≡ one → channels ≤ k → Contains after.agents.items (agent.Channel j k)
       by_first e high =
-          found_more first after later (agent.Channel j k)
+          still (agent.Channel j k) (λ x. x) first later
           (subst (λ (i : ℕ). Contains first.agents.items (agent.Channel i k)) (sym e)
           (first_channels k high (subst (λ (i : ℕ). HasChannel first.nodes.items i k) e at_first)))
 
       by_second : j ≡ other → channels' ≤ k → Contains after.agents.items (agent.Channel j k)
       by_second e high =
-          found_more second after three (agent.Channel j k)
+          still (agent.Channel j k) (λ x. x) second three
           (subst (λ (i : ℕ). Contains second.agents.items (agent.Channel i k)) (sym e)
           (second_channels k high (subst (λ (i : ℕ). HasChannel second.nodes.items i k) e at_second)))
 
       by_before : (j ≡ one → k < channels) → (j ≡ other → k < channels')
           → Contains after.agents.items (agent.Channel j k)
-      by_before low low' = found_more before after all_more (agent.Channel j k) (found.channels j k at_before low low')
+      by_before low low' = still (agent.Channel j k) (λ x. x) before all_more (found.channels j k at_before low low')
 
       by : (j ≡ one) ⊎ (j ≡ one → ⊥) → (j ≡ other) ⊎ (j ≡ other → ⊥) → (k < channels) ⊎ (channels ≤ k)
           → (k < channels') ⊎ (channels' ≤ k) → Contains after.agents.items (agent.Channel j k)
@@ -422,7 +482,7 @@ module _ (plan : Plan) (one processes channels other processes' channels' : ℕ)
       record {
         processes = process_found;
         channels = channel_found;
-        wires = λ e f joined. found_more before after all_more (agent.Wire e) (found.wires e f joined);
+        wires = λ e f joined. still (agent.Wire e) (λ x. x) before all_more (found.wires e f joined);
       }
 
 -- berths change nothing else
@@ -431,7 +491,7 @@ lodged_more number at m new lodges =
     record {
       nodes = ap (λ (x : Machine). x.nodes.items) lodges.same;
       done = ap (λ (x : Machine). x.done) lodges.same;
-      kept = λ j x h. subst (λ (y : Machine). slice_get y.agents.items j ≡ Some x) (sym lodges.same) h;
+      kept = keeps_agents m new (ap (λ (x : Machine). x.agents) lodges.same);
     }
 
 pub slot_still : (plan : Plan) (number : ℕ) (at : List ℕ) (m new : Machine) → HasTold plan number at m
@@ -441,10 +501,12 @@ slot_still plan number at m new t lodges =
 
 -- a step that is over is one more of the run
 module _ (plan : Plan) (number : ℕ) (at : List ℕ) (m l m' : Machine) (lodges : LodgesAt number at m l)
-    (closes : Closes l number m') (t : HasTold plan number at m)
+    (last : Option LastStep) (closes : Closes l number last m')
+    (at_one : (x : LastStep) → last ≡ Some x → (number ≡ x.number) × (at ≡ x.node ∷ []))
+    (t : HasTold plan number at m)
     (found : AreFound plan m.nodes.items m.agents.items) where
   abbrev closed : Machine
-  closed = record m { lodgings = l.lodgings; check = m'.check; done = m'.done }
+  closed = record m { lodgings = l.lodgings; check = m'.check; spare = m'.spare; done = m'.done; last = last }
 
   cleared : m'.check ≡ with_cleared number m.check
   cleared = closes.check ∙ ap (λ (x : Machine). with_cleared number x.check) lodges.same
@@ -466,11 +528,18 @@ module _ (plan : Plan) (number : ℕ) (at : List ℕ) (m l m' : Machine) (lodges
         few = t.fits.few;
         kept_places = t.fits.kept_places;
       };
-      followed = subst (λ (c : Check). IsFollowed plan (places m) (agents m) (t.step ∷ t.earlier) c (machine_at plan m))
-          (sym cleared)
-          (slots_may_be_cleared plan (places m) (agents m) (t.step ∷ t.earlier) m.check (machine_at plan m) number
-          t.followed);
+      group = t.group;
+      followed = subst (λ (c : Check). IsFollowed plan (places m) t.group (agents m) (t.step ∷ t.earlier) c
+          (machine_at plan m)) (sym cleared)
+          (slots_may_be_cleared plan (places m) t.group (agents m) (t.step ∷ t.earlier) m.check (machine_at plan m)
+          number t.followed);
       housed = all_housed plan number at m l t lodges;
+      own = λ j n is.
+          let (same, one) = at_one (record { number = j; node = n }) is in
+          subst (λ (c : Check). AreOwn m.nodes.items c j n) (sym cleared)
+          (subst (λ (i : ℕ). AreOwn m.nodes.items (with_cleared number m.check) i n) same
+          (own_cleared m.check (no_new_steps plan (places m) t.group (agents m) (t.step ∷ t.earlier) m.check
+          (machine_at plan m) t.followed).begun m.nodes.items number n (t.own n one) number));
     },
   )
     where
@@ -480,70 +549,78 @@ module _ (plan : Plan) (number : ℕ) (at : List ℕ) (m l m' : Machine) (lodges
   pub follows_on : Follows plan m'
   follows_on =
       subst (Follows plan)
-      (sym (closes.same ∙ ap (λ (x : Machine). record x { check = m'.check; done = m'.done }) lodges.same))
+      (sym (closes.same
+      ∙ ap (λ (x : Machine). record x { check = m'.check; spare = m'.spare; done = m'.done; last = last })
+      lodges.same))
       follows_closed
 
 -- all of it at one node, after the call
-module _ (plan : Plan) (number n processes channels : ℕ) (before placed told found led lodged after : Machine)
+module _ (plan : Plan) (number n processes channels : ℕ) (before placed told led found lodged after : Machine)
     (done : IsDone plan number n processes channels before) (one : HasMore before placed) (two : HasMore placed told)
-    (t : HasTold plan number (n ∷ []) told) (three : KeepsTold number n told found)
+    (t : HasTold plan number (n ∷ []) told) (three : KeepsTold number n told led)
+    (four : KeepsTold number n led found)
     (new_processes : (k : ℕ) → processes ≤ k → HasProcess found.nodes.items n k
-    → Contains found.agents.items (agent.Process n k))
+    → IsMet found.nodes.items found.agents.items (agent.Process n k))
     (new_channels : (k : ℕ) → channels ≤ k → HasChannel found.nodes.items n k
-    → Contains found.agents.items (agent.Channel n k)) (four : KeepsTold number n found led)
-    (lodges : LodgesAt number (n ∷ []) led lodged) (closes : Closes lodged number after) where
+    → Contains found.agents.items (agent.Channel n k))
+    (lodges : LodgesAt number (n ∷ []) found lodged)
+    (closes : Closes lodged number (Some (record { number = number; node = n })) after) where
   to_found : HasMore before found
-  to_found = more_twice before told found (more_twice before placed told one two) three.more
+  to_found =
+      more_twice before led found (more_twice before told led (more_twice before placed told one two) three.more)
+      four.more
 
   pub finished : Follows plan after × (after.done ≡ before.done + 1)
   finished = (
-    follows_on plan number (n ∷ []) led lodged after lodges closes
+    follows_on plan number (n ∷ []) found lodged after lodges (Some (record { number = number; node = n })) closes
+        (λ x is.
+        let same : record { number = number; node = n } ≡ x = same_Some (record { number = number; node = n }) x is in
+        (ap (λ (y : LastStep). y.number) same, ap (λ (y : LastStep). y.node ∷ []) same))
         (four.told plan (n ∷ []) (contains-first n []) (three.told plan (n ∷ []) (contains-first n []) t))
-        (all_found plan n processes channels n processes channels before found found led done.found to_found
-        (more_same found) four.more new_processes new_channels new_processes new_channels),
-    closes.done ∙ ap (λ (x : Machine). x.done + 1) lodges.same
-        ∙ ap (λ (k : ℕ). k + 1) (more_twice before found led to_found four.more).done,
+        (all_found plan n processes channels n processes channels before found found found done.found to_found
+        (more_same found) (more_same found) new_processes new_channels new_processes new_channels),
+    closes.done ∙ ap (λ (x : Machine). x.done + 1) lodges.same ∙ ap (λ (k : ℕ). k + 1) to_found.done,
   )
 
 -- the same at two nodes, sources or sinks
 module _ (plan : Plan) (number n p c o q d : ℕ) (others : Notes)
-    (before placed told one two led over lodged after : Machine)
+    (before placed told led over one two lodged after : Machine)
     (done : IsDoneAt plan number n p c o q d others before) (more : HasMore before placed) (tells : HasMore placed told)
-    (t : HasTold plan number (n ∷ o ∷ []) told) (first : KeepsTold number n told one)
+    (t : HasTold plan number (n ∷ o ∷ []) told) (first : KeepsTold number n told led)
+    (second : KeepsTold number o led over) (third : KeepsTold number n over one)
     (first_processes : (k : ℕ) → p ≤ k → HasProcess one.nodes.items n k
-    → Contains one.agents.items (agent.Process n k))
+    → IsMet one.nodes.items one.agents.items (agent.Process n k))
     (first_channels : (k : ℕ) → c ≤ k → HasChannel one.nodes.items n k
-    → Contains one.agents.items (agent.Channel n k)) (second : KeepsTold number o one two)
+    → Contains one.agents.items (agent.Channel n k)) (fourth : KeepsTold number o one two)
     (second_processes : (k : ℕ) → q ≤ k → HasProcess two.nodes.items o k
-    → Contains two.agents.items (agent.Process o k))
+    → IsMet two.nodes.items two.agents.items (agent.Process o k))
     (second_channels : (k : ℕ) → d ≤ k → HasChannel two.nodes.items o k
-    → Contains two.agents.items (agent.Channel o k)) (third : KeepsTold number n two led)
-    (fourth : KeepsTold number o led over) (lodges : LodgesAt number (n ∷ o ∷ []) over lodged)
-    (closes : Closes lodged number after) where
+    → Contains two.agents.items (agent.Channel o k)) (lodges : LodgesAt number (n ∷ o ∷ []) two lodged)
+    (closes : Closes lodged number None after) where
   to_one : HasMore before one
-  to_one = more_twice before told one (more_twice before placed told more tells) first.more
+  to_one =
+      more_twice before over one
+      (more_twice before led over
+      (more_twice before told led (more_twice before placed told more tells) first.more) second.more) third.more
 
-  to_over : HasMore two over
-  to_over = more_twice two led over third.more fourth.more
-
-  all_over : HasMore before over
-  all_over = more_twice before one over to_one (more_twice one two over second.more to_over)
+  all_over : HasMore before two
+  all_over = more_twice before one two to_one fourth.more
 
   pub finished_at : Follows plan after × (after.done ≡ before.done + 1)
   finished_at =
       let list : List ℕ = n ∷ o ∷ [] in
       let here : Contains list n = contains-first n (o ∷ []) in
       let there : Contains list o = contains-rest n (o ∷ []) o (contains-first o []) in (
-        follows_on plan number list over lodged after lodges closes
+        follows_on plan number list two lodged after lodges None closes (λ x is. absurd (none-some x is))
             (fourth.told plan list there (third.told plan list here
             (second.told plan list there (first.told plan list here t))))
-            (all_found plan n p c o q d before one two over done.found to_one second.more to_over first_processes
-            first_channels second_processes second_channels),
+            (all_found plan n p c o q d before one two two done.found to_one fourth.more (more_same two)
+            first_processes first_channels second_processes second_channels),
         closes.done ∙ ap (λ (x : Machine). x.done + 1) lodges.same ∙ ap (λ (k : ℕ). k + 1) all_over.done,
       )
 
--- each agent keeps its number up to the end
-pub kept_closed : (number : ℕ) (before over after : Machine) → HasMore before over → Closes over number after
-    → KeepsAgents before after
-kept_closed number before over after more closes k a at =
-    subst (λ (y : Machine). slice_get y.agents.items k ≡ Some a) (sym closes.same) (more.kept k a at)
+-- each agent keeps its number up to the end, or has ended
+pub kept_closed : (number : ℕ) (last : Option LastStep) (before over after : Machine) → HasMore before over
+    → Closes over number last after → KeepsAgents before after
+kept_closed number last before over after more closes =
+    subst (KeepsAgents before) (sym closes.same) (record { many = more.kept.many; kept = more.kept.kept })

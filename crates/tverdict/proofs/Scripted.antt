@@ -18,8 +18,9 @@ use Rattle.tprocesses.specs.LinkMessages.{sink_receives, source_sends}
 use Rattle.tprocesses.specs.Machine.{Role, Processor, Source, Sink, Nothing, role_at}
 use Rattle.tprocesses.specs.Opening.{messages_of, source_at, sink_at}
 use Rattle.tprocesses.specs.Parts.{HasNoStep, Part, Reason}
-use Rattle.tprocesses.specs.Places.{Place, WordAt, Sending, Standing, Ports, Half, LinkHalf, Error, HaltOnError, Life}
-use Rattle.tprocesses.specs.Places.{Successions, Messages, Kept, Population, HasRun, FlagChanged, same_place}
+use Rattle.tprocesses.specs.Places.{Place, WordAt, Sending, Standing, Ports, Half, LinkHalf, Unfinished, Error}
+use Rattle.tprocesses.specs.Places.{HaltOnError, Life, Successions, Messages, Kept, Population, HasRun, FlagChanged}
+use Rattle.tprocesses.specs.Places.{same_place}
 use Rattle.tprocesses.specs.Values.{AreMessages, Value}
 use Rattle.tcertify.specs.declared.node.Node.{Node}
 use Rattle.tcertify.specs.declared.notes.Notes.{Notes}
@@ -188,6 +189,7 @@ module _ (plan : Plan) (old : Machine) (e : End) (past : length plan.nodes ≤ e
   sent_else (Ports x) h = refl
   sent_else (Half m c side) h = refl
   sent_else (LinkHalf f side) h = refl
+  sent_else (Unfinished f) h = refl
   sent_else (Error m) h = refl
   sent_else (HaltOnError m) h = refl
   sent_else (FlagChanged m) h = refl
@@ -365,6 +367,7 @@ module _ (plan : Plan) (old : Machine) (fits : Fits plan old) (e : End) (role : 
   sinks_else (Ports x) h = refl
   sinks_else (Half m c side) h = refl
   sinks_else (LinkHalf f side) h = refl
+  sinks_else (Unfinished f) h = refl
   sinks_else (Error m) h = refl
   sinks_else (HaltOnError m) h = refl
   sinks_else (FlagChanged m) h = refl

@@ -9,7 +9,7 @@ use Rattle.std.proofs.Math.Seq.{take-length, take-suc}
 use Rattle.std.proofs.lemmas.Bool.{cases_eq}
 use Rattle.std.proofs.lemmas.List.{length-replicate, length-take-le, map-append}
 use Rattle.std.proofs.lemmas.List.FromFn.{get_or-range_with_len, length-range_with_len}
-use Rattle.std.proofs.lemmas.Option.{get_or_from_slice_get, same_Some, slice_get_within, slice_get-get_or}
+use Rattle.std.proofs.lemmas.Option.{get_or_from_slice_get, none-some, same_Some, slice_get_within, slice_get-get_or}
 use Rattle.tplan.specs.declared.plan.NodePlan.{NodePlan}
 use Rattle.tplan.specs.declared.plan.Plan.{Plan}
 use Rattle.tplan.specs.declared.plan.SinkPlan.{SinkPlan}
@@ -27,7 +27,8 @@ use Rattle.tcertify.proofs.Keeping.{get_pushed}
 use Rattle.tcertify.proofs.NodeOpening.{get_else}
 use Rattle.tcertify.proofs.OwnWorkspaces.{among_first}
 use Rattle.tfollow.specs.Following.{IsFollowed}
-use Rattle.tfollow.specs.Numbering.{Places}
+use Rattle.tfollow.specs.Laws as laws
+use Rattle.tfollow.specs.Numbering.{AgentNumbers, Places}
 use Rattle.tfollow.proofs.Growing.{agents_may_come, places_may_come}
 use Rattle.tfollow.proofs.Handing.{following_begins}
 use Rattle.tverdict.specs.declared.agent.Agent.{Agent}
@@ -42,6 +43,7 @@ use Rattle.tverdict.specs.Opening.{AllMayHaveSteps, AreAgents, AreEmpty, AreOpen
 use Rattle.tverdict.specs.Opening.{fresh_after, with_agents}
 use Rattle.tverdict.proofs.Distinct.{agent_new, at_low}
 use Rattle.tverdict.proofs.FirstLodgings.{all_first}
+use Rattle.tverdict.proofs.Gone.{all_live}
 use Rattle.tverdict.proofs.FoundAgents.{all_found, found_apart, found_there}
 
 -- the nodes
@@ -105,15 +107,18 @@ module _ (plan : Plan) (first : ℕ) (sinks : List Sink) (h : AreEmpty plan.sink
       → state_of plan nodes (replicate n 0) sinks ≡ opening_state plan
   opens_so nodes n stand = ap (with_scripts plan (replicate n 0) sinks) stand ∙ (λ j q. scripts_at n q j)
 
+-- numbers before any agent has come
+abbrev no_number : AgentNumbers
+no_number a = 0
+
 -- the check
 module _ (plan : Plan) (places : Places) (nodes : List Node) (count : ℕ)
     (numbers : (k : ℕ) (n : Node) → slice_get nodes k ≡ Some n → n.words.number ≡ k) (found : List Agent)
     (there : All (IsThere nodes) found) (apart : AreApart (λ (a : Agent). a) found) where
   abbrev so_far : ℕ → Type 0
   so_far k =
-      IsFollowed plan places (map (agent_of nodes) (take k found)) []
-      (with_agents k (with_places count nothing_checked))
-      (opening_state plan)
+      (group : AgentNumbers) × IsFollowed plan places group (map (agent_of nodes) (take k found)) []
+      (with_agents k (with_places count nothing_checked)) (opening_state plan)
 
   there_first : (k : ℕ) → All (IsThere nodes) (take k found)
   there_first k = λ i d low.
@@ -124,31 +129,41 @@ module _ (plan : Plan) (places : Places) (nodes : List Node) (count : ℕ)
       (there i d (slice_get_within found i (get_or (take k found) i d) is))
 
   pub followed : (k : ℕ) → k ≤ length found → so_far k
-  followed zero low =
-      places_may_come plan places places [] [] nothing_checked (opening_state plan) count
-      (following_begins plan places) (λ p h. refl)
+  followed zero low = (
+    no_number,
+    places_may_come plan places places no_number [] [] nothing_checked (opening_state plan) count
+        (following_begins plan places no_number) (λ p h. refl),
+  )
   followed (suc k) low = by (followed k (omega (arith, low))) (at_low found k (omega (arith, low)))
     where
       by : so_far k → (a : Agent) × (slice_get found k ≡ Some a) → so_far (suc k)
-      by rest (a, at) =
-          subst (λ agents. IsFollowed plan places agents [] (with_agents (suc k) (with_places count nothing_checked))
-          (opening_state plan))
-          (sym (ap (map (agent_of nodes)) (take-suc found k a (omega (arith, low))
-          ∙ ap (λ (x : Agent). take k found ++ x ∷ []) (get_or_from_slice_get found k a a at))
-          ∙ map-append (agent_of nodes) (take k found) (a ∷ [])))
-          (agents_may_come plan places (map (agent_of nodes) (take k found)) []
-          (with_agents k (with_places count nothing_checked)) (opening_state plan) (agent_of nodes a) rest
-          (agent_new nodes numbers (take k found) a rest.apart (there_first k)
-          (subst (IsThere nodes) (get_or_from_slice_get found k a a at) (there k a (omega (arith, low))))
-          (λ i b is same.
-          let (below, real) = among_first found k i b is in
-          let one : i ≡ k = apart i k b a real at same in absurd (omega (arith, below, one)))))
+      by (group, rest) (a, at) = (
+        come.group,
+        subst (λ agents. IsFollowed plan places come.group agents []
+            (with_agents (suc k) (with_places count nothing_checked)) (opening_state plan))
+            (sym (ap (map (agent_of nodes)) (take-suc found k a (omega (arith, low))
+            ∙ ap (λ (x : Agent). take k found ++ x ∷ []) (get_or_from_slice_get found k a a at))
+            ∙ map-append (agent_of nodes) (take k found) (a ∷ []))) come.followed,
+      )
+        where
+          come : laws.HasCome plan places group (map (agent_of nodes) (take k found) ++ agent_of nodes a ∷ []) []
+              (with_agents (suc k) (with_places count nothing_checked)) (opening_state plan)
+          come =
+              agents_may_come plan places group (map (agent_of nodes) (take k found)) []
+              (with_agents k (with_places count nothing_checked)) (opening_state plan) (agent_of nodes a) rest
+              (agent_new nodes numbers (take k found) a (there_first k)
+              (subst (IsThere nodes) (get_or_from_slice_get found k a a at) (there k a (omega (arith, low))))
+              (λ i b is same.
+              let (below, real) = among_first found k i b is in
+              let one : i ≡ k = apart i k b a real at same in absurd (omega (arith, below, one))))
+              (all_live plan (agent_of nodes a))
 
-  pub all_followed : IsFollowed plan places (map (agent_of nodes) found) [] (first_check count (length found))
-      (opening_state plan)
+  pub all_followed : (group : AgentNumbers) × IsFollowed plan places group (map (agent_of nodes) found) []
+      (first_check count (length found)) (opening_state plan)
   all_followed =
-      subst (λ (xs : List Agent). IsFollowed plan places (map (agent_of nodes) xs) [] (first_check count (length found))
-      (opening_state plan)) (take-length found) (followed (length found) (omega arith))
+      subst (λ (xs : List Agent). (group : AgentNumbers) × IsFollowed plan places group (map (agent_of nodes) xs) []
+      (first_check count (length found)) (opening_state plan)) (take-length found)
+      (followed (length found) (omega arith))
 
 -- the first of two lists, and one of those below a number
 take_before : {X : Type 0} (xs ys : List X) (j : ℕ) → j ≤ length xs → take j (xs ++ ys) ≡ take j xs
@@ -239,8 +254,8 @@ pub at_start : (plan : Plan) (m : Machine) → HasPlacesInOrder plan m
     → m.sent.items ≡ replicate (length plan.sources) 0 → m.wires ≡ all_wires plan
     → AreAgents (all_wires plan) m.nodes.items m.agents.items
     → m.check ≡ first_check m.fresh_place (length m.agents.items) → AllMayHaveSteps m → m.fresh_place < 2 ^ 32
-    → 0 ≡ m.done → AreFirstLodgings m.nodes.items m.lodgings.items → IsAtStart plan m
-at_start plan m laid sent wires agents check candidates few none lodgings =
+    → 0 ≡ m.done → m.last ≡ None → AreFirstLodgings m.nodes.items m.lodgings.items → IsAtStart plan m
+at_start plan m laid sent wires agents check candidates few none no_step lodgings =
     record {
       opens = opens;
       nothing = record {
@@ -260,17 +275,23 @@ at_start plan m laid sent wires agents check candidates few none lodgings =
           few = few;
           kept_places = sinks_numbered plan m laid;
         };
+        group = all.0;
         followed =
-            subst (λ (c : Check). IsFollowed plan (places m) (agents_of m) [] c (machine_at plan m)) (sym check)
-            (subst (IsFollowed plan (places m) (agents_of m) [] (first_check m.fresh_place (length m.agents.items)))
-            (sym opens)
-            (all_followed plan (places m) m.nodes.items m.fresh_place (nodes_of plan m.nodes.items laid.nodes).numbers
-            m.agents.items (found_there plan m.nodes.items m.agents.items agents)
-            (found_apart plan m.nodes.items m.agents.items agents)));
-        housed = all_first plan m (nodes_of plan m.nodes.items laid.nodes).numbers opens lodgings;
+            subst (λ (c : Check). IsFollowed plan (places m) all.0 (agents_of m) [] c (machine_at plan m)) (sym check)
+            (subst (IsFollowed plan (places m) all.0 (agents_of m) []
+            (first_check m.fresh_place (length m.agents.items))) (sym opens) all.1);
+        housed = all_first plan m all.0 (nodes_of plan m.nodes.items laid.nodes).numbers opens lodgings;
+        own = λ j n is. absurd (none-some (record { number = j; node = n }) (sym no_step ∙ is));
       };
     }
   where
+    all : (group : AgentNumbers) × IsFollowed plan (places m) group (agents_of m) []
+        (first_check m.fresh_place (length m.agents.items)) (opening_state plan)
+    all =
+        all_followed plan (places m) m.nodes.items m.fresh_place (nodes_of plan m.nodes.items laid.nodes).numbers
+        m.agents.items (found_there plan m.nodes.items m.agents.items agents)
+        (found_apart plan m.nodes.items m.agents.items agents)
+
     opens : machine_at plan m ≡ opening_state plan
     opens =
         ap (λ (xs : List ℕ). state_of plan m.nodes.items xs m.sinks.items) sent

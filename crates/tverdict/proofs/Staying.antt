@@ -6,6 +6,8 @@ use Rattle.std.proofs.lemmas.Bool.{cases_eq, eqb-true}
 use Rattle.std.proofs.lemmas.List.{length-map, length-set}
 use Rattle.std.proofs.lemmas.List.Elements.{All-head, All-tail}
 use Rattle.std.proofs.lemmas.Option.{same_Some, slice_get_cases, slice_get-get_or, slice_get_within}
+use Rattle.tplan.specs.declared.plan.End.{End}
+use Rattle.tproc.specs.declared.channels.Side.{Side}
 use Rattle.tproc.specs.declared.channels.Side.TheVariants.{Input, Output}
 use Rattle.tprocesses.specs.Places as place
 use Rattle.tprocesses.specs.Places.{Name, Place, same_name}
@@ -23,8 +25,8 @@ use Rattle.tcertify.proofs.Telling.{same_name-true}
 use Rattle.tverdict.specs.declared.agent.Agent.{Agent}
 use Rattle.tverdict.specs.declared.agent.Agent.TheVariants as agent
 use Rattle.tverdict.specs.Agents.{HasChannel, HasProcess, IsThere, address_there, agent_of, name_there}
-use Rattle.tverdict.specs.Numbers.{beyond, half_place, link_number, node_in, number_among, number_at, numbering}
-use Rattle.tverdict.specs.Numbers.{or_beyond, process_number}
+use Rattle.tverdict.specs.Numbers.{beyond, half_or, half_place, link_number, node_in, number_among, number_at}
+use Rattle.tverdict.specs.Numbers.{numbering, or_beyond, process_number}
 use Rattle.tverdict.specs.Passing.{NodesGrow}
 use Rattle.tverdict.proofs.Numbered.{places_are_numbered}
 
@@ -83,7 +85,7 @@ module _ (old new : Node) (grows : Grows old new) where
   number_kept = ap (λ (s : Site). s.number) grows.site
 
 module _ (nodes others : List Node) (g : NodesGrow nodes others) where
-  name_stays : (j k : ℕ) → HasProcess nodes j k → name_there others j k ≡ name_there nodes j k
+  pub name_stays : (j k : ℕ) → HasProcess nodes j k → name_there others j k ≡ name_there nodes j k
   name_stays j k (x, at, low) =
       let (y, by, grows) = g.grow j x at in
       ap (name_or j k) by ∙ name_kept x y grows k low ∙ sym (ap (name_or j k) at)
@@ -93,7 +95,7 @@ module _ (nodes others : List Node) (g : NodesGrow nodes others) where
       let (y, by, grows) = g.grow j x at in
       ap (address_or k) by ∙ address_kept x y grows k low ∙ sym (ap (address_or k) at)
 
-  agent_stays : (a : Agent) → IsThere nodes a → agent_of others a ≡ agent_of nodes a
+  pub agent_stays : (a : Agent) → IsThere nodes a → agent_of others a ≡ agent_of nodes a
   agent_stays (agent.Process j k) h = ap machine.Process (name_stays j k h)
   agent_stays (agent.Channel j k) h = ap (machine.Channel j) (address_stays j k h)
   agent_stays (agent.Wire e) h = refl
@@ -125,7 +127,7 @@ module _ (nodes others : List Node) (g : NodesGrow nodes others) where
         | inr (past, none) ↦ absurd (omega (arith, within, past, g.many))
       ]
 
-  none_stays : (j : ℕ) → slice_get nodes j ≡ None → slice_get others j ≡ None
+  pub none_stays : (j : ℕ) → slice_get nodes j ≡ None → slice_get others j ≡ None
   none_stays j none = elim (slice_get_cases others j).1 [
     | inl (y, low, at, r) ↦
         let (x, by, grows) = was_there j y at in
@@ -229,6 +231,7 @@ module _ (nodes others : List Node) (g : NodesGrow nodes others) where
     number_stays (place.Half m c Input) e low = input_at m c e _ refl low
     number_stays (place.Half m c Output) e low = output_at m c e _ refl low
     number_stays (place.LinkHalf f side) e low = ap (λ (b : ℕ). link_number b side f.link) fixed_stays
+    number_stays (place.Unfinished f) e low = ap (λ (b : ℕ). b + 14 + f.link) fixed_stays
     number_stays (place.Error m) e low = fixed_stays
     number_stays (place.HaltOnError m) e low = ap (λ (f : ℕ). f + 1) fixed_stays
     number_stays (place.FlagChanged m) e low = ap (λ (f : ℕ). f + 2) fixed_stays
@@ -256,6 +259,18 @@ module _ (nodes others : List Node) (g : NodesGrow nodes others) where
           ap (or_beyond (λ (x : Node). number_at x p)) (none_stays (node_in p) none ∙ sym none)
     ]
 
+    half_stays : (f : End) (side : Side) → half_or first side f.link (slice_get others f.node)
+        ≡ half_or first side f.link (slice_get nodes f.node)
+    half_stays f side = elim (slice_get_cases nodes f.node).1 [
+      | inl (x, within, at, r) ↦
+          let (y, here, grows) = g.grow f.node x at in
+          ap (half_or first side f.link) here
+          ∙ ap (λ (b : ℕ). link_number b side f.link)
+          (fixed_stays first f.node x y at here grows (numbers f.node x at))
+          ∙ sym (ap (half_or first side f.link) at)
+      | inr (past, none) ↦ ap (half_or first side f.link) (none_stays f.node none ∙ sym none)
+    ]
+
     pub places_stay : (p : Place) → numbering nodes first p < beyond
         → numbering others first p ≡ numbering nodes first p
     places_stay (place.Messages e) low = refl
@@ -265,7 +280,8 @@ module _ (nodes others : List Node) (g : NodesGrow nodes others) where
     places_stay (place.Standing x) low = place_stays (place.Standing x) low
     places_stay (place.Ports x) low = place_stays (place.Ports x) low
     places_stay (place.Half m c side) low = place_stays (place.Half m c side) low
-    places_stay (place.LinkHalf f side) low = place_stays (place.LinkHalf f side) low
+    places_stay (place.LinkHalf f side) low = half_stays f side
+    places_stay (place.Unfinished f) low = place_stays (place.Unfinished f) low
     places_stay (place.Error m) low = place_stays (place.Error m) low
     places_stay (place.HaltOnError m) low = place_stays (place.HaltOnError m) low
     places_stay (place.FlagChanged m) low = place_stays (place.FlagChanged m) low

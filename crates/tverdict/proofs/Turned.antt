@@ -1,10 +1,9 @@
 -- A step that was made goes on with the run.
 use Rattle.std.proofs.Common.{◌≡◌, ◌<◌, ◌≤◌, ◌+◌, ℕ, inl, inr, sym, ap, ◌∙◌, subst, List, [], ◌∷◌, ◌++◌, Some}
-use Rattle.std.proofs.Common.{None, length}
-use Rattle.std.proofs.Common.{◌⊎◌, arith}
-use Rattle.std.proofs.Math.ListN.{get_or}
+use Rattle.std.proofs.Common.{length}
+use Rattle.std.proofs.Common.{arith}
 use Rattle.std.specs.Prelude.{slice_get}
-use Rattle.std.proofs.lemmas.Option.{slice_get_cases, slice_get_within}
+use Rattle.std.proofs.lemmas.List.{length_push}
 use Rattle.tplan.specs.declared.plan.Plan.{Plan}
 use Rattle.tverdict.specs.declared.agent.Agent.{Agent}
 use Rattle.tverdict.specs.declared.agent.Agent.TheVariants as agent
@@ -20,27 +19,32 @@ use Rattle.tverdict.proofs.Looked.{added_sound, follows_still, steps_stay}
 use Rattle.tverdict.proofs.Opens.{has_number}
 
 -- a look over all leaves agents their numbers
-over_keeps : (old new : Machine) → IsLookedOver old new → KeepsAgents old new
+over_keeps : (old new : Machine) → IsLookedOver old new → (number : ℕ) (a : Agent)
+    → slice_get old.agents.items number ≡ Some a → slice_get new.agents.items number ≡ Some a
 over_keeps old new over number a at = elim over.comes [
   | inl (same, check) ↦ ap (λ v. slice_get v.items number) same ∙ at
   | inr (n, k, more, check) ↦ ap (λ (xs : List Agent). slice_get xs number) more
       ∙ get_more old.agents.items (agent.Successor n k ∷ []) number a at
 ]
 
--- an agent that is there is one
-there_by : (xs : List Agent) (number : ℕ) → number < length xs
-    → ((a : Agent) × (number < length xs) × (slice_get xs number ≡ Some a) × (get_or xs number a ≡ a))
-    ⊎ ((length xs ≤ number) × (slice_get xs number ≡ None)) → (a : Agent) × (slice_get xs number ≡ Some a)
-there_by xs number low (inl (a, l, at, g)) = (a, at)
-there_by xs number low (inr (past, none)) = absurd (omega (arith, low, past))
+-- and they become no fewer
+over_many : (old new : Machine) → IsLookedOver old new → length old.agents.items ≤ length new.agents.items
+over_many old new over = elim over.comes as (λ _. length old.agents.items ≤ length new.agents.items) [
+  | inl (same, check) ↦
+      let long : length new.agents.items ≡ length old.agents.items = ap (λ v. length v.items) same in
+      omega (arith, long)
+  | inr (n, k, more, check) ↦
+      let long : length new.agents.items ≡ length old.agents.items + 1 =
+      ap length more ∙ length_push old.agents.items (agent.Successor n k) in
+      omega (arith, long)
+]
 
 pub made : (plan : Plan) (old mid new last : Machine) (number : ℕ) → IsLookedOver old mid → HasStep plan mid number
     → Follows plan new → new.done ≡ mid.done + 1 → KeepsAgents mid new → IsLookedAt new last
     → last.candidates.items ≡ new.candidates.items ++ number ∷ [] → HasMade plan old number last
 made plan old mid new last number over had f done kept same adds =
-    let (a, at) = there_by mid.agents.items number (has_number plan mid number had)
-    ((slice_get_cases mid.agents.items number).1) in
-    let low : number < length new.agents.items = slice_get_within new.agents.items number a (kept number a at) in
+    let before : number < length mid.agents.items = has_number plan mid number had in
+    let low : number < length new.agents.items = omega (arith, before, kept.many) in
     record {
       looked = mid;
       over = over;
@@ -48,8 +52,10 @@ made plan old mid new last number over had f done kept same adds =
       follows = follows_still plan new last same f (added_sound plan new last same (f.1).sound number low adds);
       done = ap (λ (m : Machine). m.done) same ∙ done
           ∙ ap (λ (k : ℕ). k + 1) (ap (λ (m : Machine). m.done) over.same);
-      kept = λ k b there. ap (λ (m : Machine). slice_get m.agents.items k) same
-          ∙ kept k b (over_keeps old mid over k b there);
+      kept = subst (KeepsAgents old) (sym same) (record {
+        many = omega (arith, over_many old mid over, kept.many);
+        kept = λ k b there. kept.kept k b (over_keeps old mid over k b there);
+      });
     }
 
 -- a run is cut where an agent has one more step

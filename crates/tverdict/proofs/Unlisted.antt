@@ -5,7 +5,7 @@ use Rattle.std.proofs.Math.ListN.{get_or}
 use Rattle.std.specs.Prelude.{◌==◌, ◌&&◌, find, slice_get, option_map, Contains, if◌then◌else◌}
 use Rattle.std.proofs.lemmas.Bool.{eq-eqb, eqb-true}
 use Rattle.std.proofs.lemmas.Option.{get_or_from_slice_get, slice_get_cases, slice_get-get_or, slice_get-map}
-use Rattle.std.proofs.lemmas.Option.{slice_get_past, slice_get_within}
+use Rattle.std.proofs.lemmas.Option.{same_Some, slice_get_past, slice_get_within}
 use Rattle.tplan.specs.declared.plan.End.{End}
 use Rattle.tplan.specs.declared.plan.NodePlan.{NodePlan}
 use Rattle.tplan.specs.declared.plan.Plan.{Plan}
@@ -26,18 +26,19 @@ use Rattle.tcertify.specs.Channels.{held_half}
 use Rattle.tcertify.specs.Nodes.{board_of, names}
 use Rattle.tcertify.specs.Processes.{name_of, stand_or_absent}
 use Rattle.tcertify.specs.Running.{State}
+use Rattle.tcertify.specs.Standing as stood
 use Rattle.tcertify.specs.Words.{use_of, word_or}
 use Rattle.tcertify.proofs.NodeStands.{name_is}
 use Rattle.tcertify.proofs.Telling.{same_name-true}
 use Rattle.tfollow.specs.Numbering.{HasNumber, IsNew}
-use Rattle.tfollow.proofs.Numbered.{new_agents_are_others}
 use Rattle.tfollow.proofs.Opened.{agents_are_open_by}
 use Rattle.tverdict.specs.declared.agent.Agent.{Agent}
 use Rattle.tverdict.specs.declared.agent.Agent.TheVariants as agent
 use Rattle.tverdict.specs.declared.machine.Machine.{Machine}
-use Rattle.tverdict.specs.Agents.{agent_of, name_there, address_there}
+use Rattle.tverdict.specs.Agents.{IsMet, agent_of, name_there, address_there}
 use Rattle.tverdict.specs.Machines.{Follows, HasNoStep, HasStep, agents, at_node, machine_at}
 use Rattle.tverdict.specs.Next.{AwaitNothing}
+use Rattle.tverdict.proofs.Distinct.{not_new}
 use Rattle.tverdict.proofs.Frames.{chosen}
 use Rattle.tverdict.proofs.Opens.{successor_open, address_known, name_known}
 
@@ -90,7 +91,7 @@ module _ (plan : Plan) (m : Machine) (f : Follows plan m) (quiet : All AwaitNoth
       let (j, at) = there_at m.agents.items a has in
       let numbered : HasNumber (agents m) (agent_of nodes a) j =
       slice_get-map (agent_of nodes) m.agents.items j ∙ ap (option_map (agent_of nodes)) at in
-      (new_agents_are_others (agents m) b (f.1).followed.apart).0 new j (agent_of nodes a) numbered is
+      not_new (agents m) b j (numbered ∙ ap Some is) new
 
   gone_plan : (n : ℕ) → length nodes ≤ n → slice_get plan.nodes n ≡ None
   gone_plan n past = slice_get_past plan.nodes n (subst (λ (k : ℕ). k ≤ n) (f.1).sound.nodes.many past)
@@ -111,6 +112,20 @@ module _ (plan : Plan) (m : Machine) (f : Follows plan m) (quiet : All AwaitNoth
       ap (λ (v : Value). is_ready (stand_in v)) (stands_here x.node node there x refl)
       ∙ by (find (λ p. same_name (name_of node.words.number p) x) node.processes.items.items) refl
     where
+      -- it is listed, or it has ended
+      met : (k : ℕ) (p : kept.Process) → slice_get node.processes.items.items k ≡ Some p
+          → name_there nodes x.node k ≡ x → IsMet nodes m.agents.items (agent.Process x.node k)
+          → is_ready (stood.stand_of p.stand) ≡ false
+      met k p at named (inl has) =
+          absurd (listed (agent.Process x.node k) (machine.Process x) has (ap machine.Process named) new)
+      met k p at named (inr h) =
+          let one : h.node ≡ node = same_Some h.node node (sym h.there ∙ there) in
+          let same : h.known ≡ p =
+          same_Some h.known p
+          (sym h.has ∙ ap (λ (y : Node). slice_get y.processes.items.items k) one ∙ at) in
+          ap (λ (y : kept.Process). is_ready (stood.stand_of y.stand)) (sym same)
+          ∙ ap (λ s. is_ready (stood.stand_of s)) h.ended
+
       by : (o : Option kept.Process)
           → find (λ p. same_name (name_of node.words.number p) x) node.processes.items.items ≡ o
           → is_ready (stand_or_absent o) ≡ false
@@ -122,10 +137,9 @@ module _ (plan : Plan) (m : Machine) (f : Follows plan m) (quiet : All AwaitNoth
           name_known plan nodes m.sent.items m.sinks.items x.node node there
           (numbered_node x.node node there) k ∙ name_is node k p at
           ∙ same_name-true (name_of node.words.number p) x same in
-          absurd (listed (agent.Process x.node k) (machine.Process x)
+          met k p at named
           ((f.1).sound.found.processes x.node k
           (node, there, slice_get_within node.processes.items.items k p at))
-          (ap machine.Process named) new)
   shut_process x (inr (past, gone)) new =
       ap (λ (o : Option Node). is_ready (stand_in (at_node o (opening_state plan) (Standing x)))) gone
       ∙ ap (λ (o : Option NodePlan). is_ready (elim o [ Some p ↦ stand_of x.root x.path p | None ↦ Absent ]))

@@ -10,15 +10,16 @@ use Rattle.tplan.specs.declared.plan.End.{End}
 use Rattle.tplan.specs.declared.plan.Plan.{Plan}
 use Rattle.tplan.specs.declared.plan.SourcePlan.{SourcePlan}
 use Rattle.tproc.specs.declared.channels.Side.{Side}
-use Rattle.tproc.specs.declared.channels.Side.TheVariants.{Output}
+use Rattle.tproc.specs.declared.channels.Side.TheVariants.{Input, Output}
 use Rattle.tprocesses.specs.Machine.{Role, Processor, Source, Sink, Nothing, role_at, offer_place}
-use Rattle.tprocesses.specs.Machine.{has_messages, is_passable}
+use Rattle.tprocesses.specs.Machine.{has_messages, is_due_at, is_passable}
 use Rattle.tprocesses.specs.Opening.{messages_of, opening_state, source_at}
 use Rattle.tprocesses.specs.Places.{LinkHalf, Messages}
+use Rattle.tprocesses.specs.Values.{Empty}
 use Rattle.tcertify.specs.declared.node.Node.{Node}
 use Rattle.tcertify.specs.Running.{State}
 use Rattle.tverdict.specs.declared.machine.Machine.{Machine}
-use Rattle.tverdict.specs.Machines.{IsSound, at_node, machine_at}
+use Rattle.tverdict.specs.Machines.{AreNodesOf, at_node, machine_at}
 use Rattle.tverdict.specs.Wires.{has_message, messages_at, messages_by}
 use Rattle.tverdict.proofs.Frames.{chosen}
 
@@ -82,17 +83,23 @@ module _ (plan : Plan) where
       (le-leb nodes e.node past)
       ∙ messages_if e.link (slice_get plan.sources (e.node - nodes)) (e.link == 0) refl
 
-module _ (plan : Plan) (m : Machine) (sound : IsSound plan m) (e : End) where
+-- no wire may go on where nothing is pending
+not_due : (side : Side) → is_due_at side Empty ≡ false
+not_due Input = refl
+not_due Output = refl
+
+module _ (plan : Plan) (m : Machine) (are : AreNodesOf plan m.nodes.items) (e : End) where
   abbrev now : State
   now = machine_at plan m
 
   module _ (gone : slice_get m.nodes.items e.node ≡ None) (past : length m.nodes.items ≤ e.node) where
     past_plan : length plan.nodes ≤ e.node
-    past_plan = subst (λ (k : ℕ). k ≤ e.node) sound.nodes.many past
+    past_plan = subst (λ (k : ℕ). k ≤ e.node) are.many past
 
     no_half : (side : Side) → is_passable (LinkHalf e side) (now (LinkHalf e side)) ≡ false
     no_half side =
         ap (λ (o : Option Node). is_passable (LinkHalf e side) (at_node o (opening_state plan) (LinkHalf e side))) gone
+        ∙ not_due side
 
     left_there : is_passable (Messages e) (now (Messages e))
         ≡ nat_lt (slice_index m.sent.items (e.node - length plan.nodes))
@@ -134,4 +141,4 @@ module _ (plan : Plan) (m : Machine) (sound : IsSound plan m) (e : End) where
     sends_there =
         sends_by (role_at plan e.node) refl
         ∙ ap (λ (k : ℕ). nat_lt (slice_index m.sent.items (e.node - k)) (length (messages_at plan (e.node - k) e.link)))
-        (sym sound.nodes.many)
+        (sym are.many)

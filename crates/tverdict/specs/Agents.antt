@@ -1,9 +1,11 @@
 -- The agents that the program has found.
 -- Source: own choice.
-use Rattle.std.specs.Prelude.{ℕ, ◌≡◌, ◌<◌, List, [], option_map, length, Some, slice_get, unwrap_or}
+use Rattle.std.specs.Prelude.{ℕ, ◌≡◌, ◌<◌, ◌⊎◌, Contains, List, [], option_map, length, Some, slice_get, unwrap_or}
 use Rattle.tprocesses.specs.Places.{Name, Image}
 use Rattle.tprocesses.specs.Machine as machine
 use Rattle.tcertify.specs.declared.node.Node.{Node}
+use Rattle.tcertify.specs.declared.process.Process.{Process}
+use Rattle.tcertify.specs.declared.standing.Stand.TheVariants as stand
 use Rattle.tcertify.specs.Nodes.{name_at, address_at}
 use Rattle.tverdict.specs.declared.agent.Agent.{Agent}
 use Rattle.tverdict.specs.declared.agent.Agent.TheVariants as agent
@@ -40,3 +42,22 @@ IsThere nodes (agent.Process n k) = HasProcess nodes n k
 IsThere nodes (agent.Channel n k) = HasChannel nodes n k
 IsThere nodes (agent.Wire e) = Unit {0}
 IsThere nodes (agent.Successor n k) = HasWord nodes n k
+
+-- a process of a node has ended
+pub record HasEndedAt (nodes : List Node) (n k : ℕ) : Type 0 where
+  pub node : Node
+  pub there : slice_get nodes n ≡ Some node
+  pub known : Process
+  pub has : slice_get node.processes.items.items k ≡ Some known
+  pub ended : known.stand ≡ stand.Ended
+
+-- an agent is a process that has ended
+abbrev pub IsEnded : List Node → Agent → Type 0
+IsEnded nodes (agent.Process n k) = HasEndedAt nodes n k
+IsEnded nodes (agent.Channel n k) = ⊥
+IsEnded nodes (agent.Wire e) = ⊥
+IsEnded nodes (agent.Successor n k) = ⊥
+
+-- it is among agents that were found, or has ended
+abbrev pub IsMet : List Node → List Agent → Agent → Type 0
+IsMet nodes found a = Contains found a ⊎ IsEnded nodes a

@@ -21,10 +21,12 @@ pub mod Told
 pub mod Calls
 -- the step of an agent, from the call on
 pub mod Stepping
--- the halves of a wire's step
+-- the halves of a step at two nodes
 pub mod Passing
--- the step of a wire
+-- steps that are done at two nodes
 pub mod Wired
+-- a process that listens to the input of a link
+pub mod Listening
 -- when a wire has a step
 pub mod Wires
 -- which agent makes the next step

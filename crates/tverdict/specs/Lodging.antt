@@ -19,6 +19,7 @@ use Rattle.tcertify.specs.Running.{State}
 use Rattle.tcertify.specs.Standing.{stand_of}
 use Rattle.tfollow.specs.declared.berth.Berth.{Berth}
 use Rattle.tfollow.specs.Lodging.{AreLodged, HasCountedIfAny, IsNewName}
+use Rattle.tfollow.specs.Numbering.{AgentNumbers}
 use Rattle.tverdict.specs.declared.agent.Agent.{Agent}
 use Rattle.tverdict.specs.declared.agent.Agent.TheVariants as agent
 use Rattle.tverdict.specs.declared.lodging.Lodging.{Lodging}
@@ -47,23 +48,23 @@ is_crowded (Some l) = l.is_crowded
 is_crowded None = true
 
 -- after these steps, the last one first, each process of a node has a berth
-pub record IsHoused (plan : Plan) (steps : List ProcessStep) (nodes : List Node) (agents : List machine.Agent) (n : ℕ)
+pub record IsHoused (plan : Plan) (steps : List ProcessStep) (nodes : List Node) (group : AgentNumbers) (n : ℕ)
     (l : Lodging) : Type 0 where
   pub homes : HasHomesAt nodes n l
-  pub lodged : AreLodged plan n agents (lodgers nodes n l) l.homes.items steps l.berths.items
+  pub lodged : AreLodged plan n group (lodgers nodes n l) l.homes.items steps l.berths.items
 
 -- so it is at each node that is not crowded
-pub record AreHoused (plan : Plan) (steps : List ProcessStep) (nodes : List Node) (agents : List machine.Agent)
+pub record AreHoused (plan : Plan) (steps : List ProcessStep) (nodes : List Node) (group : AgentNumbers)
     (lodgings : List Lodging) : Type 0 where
   pub many : length lodgings ≡ length nodes
   pub housed : (n : ℕ) (l : Lodging) → slice_get lodgings n ≡ Some l → l.is_crowded ≡ false
-      → IsHoused plan steps nodes agents n l
+      → IsHoused plan steps nodes group n l
 
 -- so it was before the last step, in the state where it began: whoever has no berth was absent. Some nodes have changed
 -- since then
 pub record WasHoused (plan : Plan) (changed : List ℕ) (steps : List ProcessStep) (s : State) (nodes : List Node)
-    (agents : List machine.Agent) (n : ℕ) (l : Lodging) : Type 0 where
-  pub lodged : AreLodged plan n agents (lodgers nodes n l) l.homes.items steps l.berths.items
+    (group : AgentNumbers) (n : ℕ) (l : Lodging) : Type 0 where
+  pub lodged : AreLodged plan n group (lodgers nodes n l) l.homes.items steps l.berths.items
   pub had : amount_in (s (Population n)) ≡ pos (length l.homes.items)
   pub others : (x : Name) → x.node ≡ n → IsNewName (lodgers nodes n l) x
       → is_absent (stand_in (s (Standing x))) ≡ true
@@ -72,11 +73,11 @@ pub record WasHoused (plan : Plan) (changed : List ℕ) (steps : List ProcessSte
 -- so it was at each node that is not crowded. The last step was that of this agent: if it is a process, its node is one
 -- of those that have changed
 pub record WereHoused (plan : Plan) (changed : List ℕ) (a : machine.Agent) (steps : List ProcessStep) (s : State)
-    (nodes : List Node) (agents : List machine.Agent) (lodgings : List Lodging) : Type 0 where
+    (nodes : List Node) (group : AgentNumbers) (lodgings : List Lodging) : Type 0 where
   pub many : length lodgings ≡ length nodes
   pub home : (x : Name) → a ≡ machine.Process x → Contains changed x.node
   pub housed : (n : ℕ) (l : Lodging) → slice_get lodgings n ≡ Some l → l.is_crowded ≡ false
-      → WasHoused plan changed steps s nodes agents n l
+      → WasHoused plan changed steps s nodes group n l
 
 -- an agent is this process of the node, and has ended
 pub record HasEnded (node : Node) (a : Agent) (process : ℕ) : Type 0 where

@@ -17,16 +17,20 @@ use Rattle.tagents.specs.Walks.{are_open}
 use Rattle.tprocesses.specs.Opening.{opening_state, source_at, sink_at, messages_of}
 use Rattle.tprocesses.specs.Certified.{ProcessStep}
 use Rattle.tcertify.specs.declared.node.Node.{Node}
+use Rattle.tcertify.specs.declared.notes.Note.{Note}
 use Rattle.tcertify.specs.Nodes.{node_at, node_site}
 use Rattle.tcertify.specs.Running.{State}
+use Rattle.tclocks.specs.Checks.{Check}
+use Rattle.tclocks.specs.Own.{IsOwnYet}
 use Rattle.tfollow.specs.Laws.{AreShut}
-use Rattle.tfollow.specs.Numbering.{HasNumber, Places}
+use Rattle.tfollow.specs.Numbering.{AgentNumbers, HasNumber, Places}
 use Rattle.tfollow.specs.Following.{IsFollowed}
+use Rattle.tfollow.specs.Telling.{told_mode}
 use Rattle.tverdict.specs.declared.machine.Machine.{Machine}
 use Rattle.tcertify.specs.declared.sink.Sink.{Sink}
 use Rattle.tverdict.specs.declared.agent.Agent.{Agent}
 use Rattle.tverdict.specs.declared.agent.Agent.TheVariants as agent
-use Rattle.tverdict.specs.Agents.{agent_of, HasChannel, HasProcess, IsThere}
+use Rattle.tverdict.specs.Agents.{agent_of, HasChannel, HasProcess, IsMet, IsThere}
 use Rattle.tverdict.specs.Lodging.{AreHoused}
 use Rattle.tverdict.specs.Numbers.{node_in, numbering}
 
@@ -63,7 +67,7 @@ machine_at plan m = state_of plan m.nodes.items m.sent.items m.sinks.items
 abbrev pub places : Machine → Places
 places m = numbering m.nodes.items m.first_script
 
--- its agents, by their numbers
+-- its agents that have a number now, by it
 abbrev pub agents : Machine → List machine.Agent
 agents m = map (agent_of m.nodes.items) m.agents.items
 
@@ -74,9 +78,9 @@ pub record AreNodesOf (plan : Plan) (nodes : List Node) : Type 0 where
   pub sites : (k : ℕ) (n : Node) (p : NodePlan) → slice_get nodes k ≡ Some n → slice_get plan.nodes k ≡ Some p
       → node_site n ≡ machine.site_of k p
 
--- each process and channel of a node is an agent that was found, and so is each wire
+-- each process of a node is an agent that was found, or has ended; each channel was found, and so was each wire
 pub record AreFound (plan : Plan) (nodes : List Node) (found : List Agent) : Type 0 where
-  pub processes : (n k : ℕ) → HasProcess nodes n k → Contains found (agent.Process n k)
+  pub processes : (n k : ℕ) → HasProcess nodes n k → IsMet nodes found (agent.Process n k)
   pub channels : (n k : ℕ) → HasChannel nodes n k → Contains found (agent.Channel n k)
   pub wires : (e f : End) → machine.sender_to plan e ≡ Some f → Contains found (agent.Wire e)
 
@@ -94,13 +98,28 @@ pub record IsSound (plan : Plan) (m : Machine) : Type 0 where
   pub kept_places : (k : ℕ) (s : Sink) → slice_get m.sinks.items k ≡ Some s
       → s.place ≡ m.first_script + (length plan.nodes + length plan.sources + k)
 
+-- the last step was that of the agent of this number, at this node
+abbrev pub IsLast : Machine → (number n : ℕ) → Type 0
+IsLast m number n = m.last ≡ Some (record { number = number; node = n })
+
+-- if the last step of this node led nowhere, nobody but the agent of this number knows of an access of it that covers
+-- what a note tells of
+abbrev pub AreOwn : List Node → Check → (number n : ℕ) → Type 0
+AreOwn nodes check number n =
+    (node : Node) (note : Note) → slice_get nodes n ≡ Some node → node.leads.items ≡ []
+    → Contains node.words.notes.items.items note → IsOwnYet check number note.place (told_mode note.mode)
+
 -- it has done these steps of a run, the last one first, its state is the one to which they lead, and the berths of its
 -- nodes have followed them
 pub record HasDone (plan : Plan) (m : Machine) (steps : List ProcessStep) : Type 0 where
   pub count : length steps ≡ m.done
   pub sound : IsSound plan m
-  pub followed : IsFollowed plan (places m) (agents m) steps m.check (machine_at plan m)
-  pub housed : AreHoused plan steps m.nodes.items (agents m) m.lodgings.items
+  -- the number that each agent has or had
+  pub group : AgentNumbers
+  pub followed : IsFollowed plan (places m) group (agents m) steps m.check (machine_at plan m)
+  pub housed : AreHoused plan steps m.nodes.items group m.lodgings.items
+  -- what is noted of the last step need not be told again
+  pub own : (number n : ℕ) → IsLast m number n → AreOwn m.nodes.items m.check number n
 
 -- it follows a run
 abbrev pub Follows : Plan → Machine → Type 0

@@ -43,6 +43,7 @@ number_at n (place.Standing x) = process_number n x
 number_at n (place.Ports x) = process_number n x
 number_at n (place.Half m c side) = or_beyond (half_place side) (find (λ h. h.address == c) n.channels.items.items)
 number_at n (place.LinkHalf e side) = link_number n.fixed_place side e.link
+number_at n (place.Unfinished e) = n.fixed_place + 14 + e.link
 number_at n (place.Error m) = n.fixed_place
 number_at n (place.HaltOnError m) = n.fixed_place + 1
 number_at n (place.FlagChanged m) = n.fixed_place + 2
@@ -62,6 +63,7 @@ node_in (place.Standing x) = x.node
 node_in (place.Ports x) = x.node
 node_in (place.Half n c side) = n
 node_in (place.LinkHalf e side) = e.node
+node_in (place.Unfinished e) = e.node
 node_in (place.Error n) = n
 node_in (place.HaltOnError n) = n
 node_in (place.FlagChanged n) = n
@@ -76,8 +78,15 @@ node_in (place.Kept e) = e.node
 abbrev pub number_among : List Node → Place → ℕ
 number_among nodes p = or_beyond (λ n. number_at n p) (slice_get nodes (node_in p))
 
+-- the number that a node has for a half of a link. At an end of no node nothing is ever offered, and all such halves
+-- are one place
+abbrev pub half_or : (first : ℕ) → Side → (link : ℕ) → Option Node → ℕ
+half_or first side link (Some n) = link_number n.fixed_place side link
+half_or first side link None = first
+
 -- the numbers of all places: those of sources and sinks go on from the first one of these, by their nodes
 abbrev pub numbering : List Node → ℕ → Places
+numbering nodes first (place.LinkHalf e side) = half_or first side e.link (slice_get nodes e.node)
 numbering nodes first (place.Messages e) = first + e.node
 numbering nodes first (place.Kept e) = first + e.node
 numbering nodes first p = number_among nodes p

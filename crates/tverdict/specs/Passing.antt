@@ -3,8 +3,10 @@
 use Rattle.std.specs.Prelude.{ℕ, ◌≡◌, ◌+◌, ◌⊎◌, List, Contains, length, Option, Some, None, Result, Ok, Err, slice_get}
 use Rattle.tplan.specs.declared.plan.End.{End}
 use Rattle.tplan.specs.declared.plan.Plan.{Plan}
+use Rattle.tproc.specs.declared.channels.Side.{Side}
 use Rattle.tprocesses.specs.Parts.{Part, Reason}
-use Rattle.tprocesses.specs.Places.{Kept, Messages}
+use Rattle.tprocesses.specs.Places.{Kept, LinkHalf, Messages}
+use Rattle.tprocesses.specs.Machine.{offer_place, role_at}
 use Rattle.tcertify.specs.declared.fault.Fault.{Fault}
 use Rattle.tcertify.specs.declared.fault.Fault.TheVariants as fault
 use Rattle.tcertify.specs.declared.lead.Lead.{Lead}
@@ -33,6 +35,13 @@ pub record NumbersMachine (numbering : Numbering) (m : Machine) : Type 0 where
   pub nodes : (k : ℕ) (node : Node) → slice_get m.nodes.items k ≡ Some node → NumbersNode numbering node
   pub messages : (e : End) → numbering (Messages e) ≡ m.first_script + e.node
   pub kept : (e : End) → numbering (Kept e) ≡ m.first_script + e.node
+  pub nowhere : (e : End) (side : Side) → slice_get m.nodes.items e.node ≡ None
+      → numbering (LinkHalf e side) ≡ m.first_script
+
+-- this is the number of the place at which messages are offered at an end
+abbrev pub IsOfferPlace : Plan → Machine → End → ℕ → Type 0
+IsOfferPlace plan m e number =
+    (numbering : Numbering) → NumbersMachine numbering m → numbering (offer_place (role_at plan e.node) e) ≡ number
 
 -- each node has grown
 pub record NodesGrow (old new : List Node) : Type 0 where

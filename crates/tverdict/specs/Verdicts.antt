@@ -13,7 +13,7 @@ use Rattle.tprocesses.specs.Certified.{ProcessStep}
 use Rattle.tcertify.specs.declared.node.Node.{Node}
 use Rattle.tcertify.specs.Running.{State}
 use Rattle.tcertify.specs.Words.{reason_of}
-use Rattle.tfollow.specs.Numbering.{HasNumber}
+use Rattle.tfollow.specs.Numbering.{AgentNumbers, HasNumber}
 use Rattle.tfollow.specs.Laws.{IsCertified, HasStopped, HasRace}
 use Rattle.tverdict.specs.declared.lodging.Lodging.{Lodging}
 use Rattle.tverdict.specs.declared.machine.Machine.{Machine}
@@ -57,9 +57,12 @@ pub record EndsInRace (plan : Plan) (m : Machine) (race : Race) : Type 0 where
   pub count : length steps ≡ m.done
   pub agent : machine.Agent
   pub numbered : HasNumber (agents m) agent race.step.agent
+  -- the number that each agent has or had
+  pub group : AgentNumbers
+  pub numbers : (number : ℕ) (a : machine.Agent) → HasNumber (agents m) a number → group a ≡ number
   pub check : Check
   pub state : State
-  pub found : HasRace plan (agents m) steps race.step.agent agent
+  pub found : HasRace plan group steps race.step.agent agent
       (record { place = race.place; mode = race.mode }) race.earlier check state (machine_at plan m)
   pub tellable : AreTellable m
 

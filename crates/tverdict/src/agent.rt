@@ -69,7 +69,7 @@ impl Agent {
 
     /// Whether two agents are the same.
     #[inline(always)]
-    pub(crate) fn is_same(self, other: Agent) -> bool
+    pub fn is_same(self, other: Agent) -> bool
         ensures yes { result ≡ true → self ≡ other }
         ensures no { self ≡ other → result ≡ true }
     {

@@ -1,11 +1,11 @@
-//! Steps as calls on one node, each with nothing noted before it.
+//! Steps as calls on one node. Nothing is noted before one, unless its agent goes on from the last step.
 
-ghost use Rattle.std.specs.Prelude.{◌<◌, length};
+ghost use Rattle.std.specs.Prelude.{◌<◌, false, length};
 ghost use Rattle.tprocesses.specs.ChannelMessages.{channel_step};
 ghost use Rattle.tprocesses.specs.Scheduling.{successor_step};
 ghost use Rattle.tcertify.specs.Nodes.{address_at, name_at, node_site};
 ghost use Rattle.tcertify.specs.Steps.{step_of_process};
-ghost use Rattle.tverdict.specs.Calls.{DoesAfresh, IsAfresh};
+ghost use Rattle.tverdict.specs.Calls.{DoesAfresh, IsAfresh, Recalls};
 
 use crate::idle::Idle;
 use std::alloc::Global;
@@ -15,13 +15,29 @@ use tword::Kind;
 /// Nothing is noted at a node any more, and the next place that comes there has this number.
 #[inline(always)]
 pub(crate) fn begin(node: &mut Node, fresh_place: u32)
-    ensures { IsAfresh node.old node.new }
+    ensures afresh { IsAfresh node.old node.new }
+    ensures recalls { Recalls false node.old node.new }
 {
     node.fresh_place = fresh_place;
     node.begin_step();
 }
 
-/// The step of a process.
+/// The same, but what is noted may stay as that of earlier steps where the agent goes on, if the last step of the node
+/// led nowhere.
+#[inline(always)]
+fn begin_or_go_on(node: &mut Node, fresh_place: u32, goes_on: bool)
+    ensures afresh { IsAfresh node.old node.new }
+    ensures recalls { Recalls goes_on node.old node.new }
+{
+    if !goes_on {
+        begin(node, fresh_place);
+        return;
+    }
+    node.fresh_place = fresh_place;
+    node.go_on();
+}
+
+/// The step of a process. goes_on: whether it has made the last step, at this node.
 ///
 /// # Errors
 /// Those of `Node::process_step`.
@@ -32,11 +48,13 @@ pub(crate) fn do_process(
     idle: &mut Idle,
     fresh_place: u32,
     process: u32,
+    goes_on: bool,
 ) -> Result<(), Fault>
     requires { process < length node.old.processes.items.items }
-    ensures { DoesAfresh (step_of_process (node_site node.old) (name_at node.old process)) node.old result node.new }
+    ensures { DoesAfresh goes_on (step_of_process (node_site node.old) (name_at node.old process)) node.old result
+        node.new }
 {
-    begin(node, fresh_place);
+    begin_or_go_on(node, fresh_place, goes_on);
     match node.words.kind {
         Kind::One => node.process_step(alloc, &mut idle.one, process),
         Kind::Two => node.process_step(alloc, &mut idle.two, process),
@@ -49,7 +67,8 @@ pub(crate) fn do_process(
 /// Those of `Node::channel_step`.
 pub(crate) fn do_channel(node: &mut Node, fresh_place: u32, channel: u32) -> Result<(), Fault>
     requires { channel < length node.old.channels.items.items }
-    ensures { DoesAfresh (channel_step (address_at node.old channel) (node_site node.old)) node.old result node.new }
+    ensures { DoesAfresh false (channel_step (address_at node.old channel) (node_site node.old)) node.old result
+        node.new }
 {
     begin(node, fresh_place);
     node.channel_step(channel)
@@ -66,7 +85,7 @@ pub(crate) fn do_successor(
     word: u32,
 ) -> Result<(), Fault>
     requires { word < length node.old.words.items.items }
-    ensures { DoesAfresh (successor_step word (node_site node.old)) node.old result node.new }
+    ensures { DoesAfresh false (successor_step word (node_site node.old)) node.old result node.new }
 {
     begin(node, fresh_place);
     node.successor_step(alloc, word)

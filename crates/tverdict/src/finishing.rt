@@ -3,16 +3,17 @@
 
 ghost use Rattle.std.specs.Prelude.{◌≡◌, ◌≤◌, ◌<◌, ℕ, [], ◌∷◌, Contains, IfErr, OnOk, Err, length};
 ghost use Rattle.tplan.specs.declared.plan.Plan.{Plan};
-ghost use Rattle.tverdict.specs.Agents.{HasChannel, HasProcess};
+ghost use Rattle.tverdict.specs.Agents.{HasChannel, HasProcess, IsMet};
 ghost use Rattle.tverdict.specs.Stepping.{AddsPlaces, Closes, HasMore, HasTold, IsDone, IsOutcome, IsTelling, IsUntold};
 ghost use Rattle.tverdict.specs.Stepping.{KeepsAgents, KeepsTold};
 ghost use Rattle.tverdict.specs.Verdicts.{IsStepped};
 ghost use Rattle.tverdict.specs.declared.agent.Agent.TheVariants as agents;
 
 use crate::agent::Agent;
+use crate::coming::has_ended;
 use crate::halt::Halt;
-use crate::machine::Machine;
-use crate::telling::tell_step;
+use crate::machine::{LastStep, Machine};
+use crate::telling::{new_notes, tell_step};
 use std::alloc::AllocError;
 use tcertify::{Fault, Node};
 
@@ -79,10 +80,10 @@ impl Machine {
     {
         self.add_places(node)?;
         self.tell(number, node)?;
-        self.find_new(number, node, before)?;
         self.lead_on(number, node)?;
+        self.find_new(number, node, before)?;
         self.lodge(number, node)?;
-        self.close(number)?;
+        self.close(number, Some(LastStep { number, node }))?;
         Ok(())
     }
 
@@ -105,7 +106,7 @@ impl Machine {
         Ok(())
     }
 
-    /// The step of the agent of this number is told to the check.
+    /// The step of the agent of this number is told to the check, except for what is noted of earlier steps.
     ///
     /// # Errors
     /// Those of `tell_step`; `OutOfMemory` where a note got lost.
@@ -122,10 +123,11 @@ impl Machine {
         if notes.is_lost {
             return Err(Halt::OutOfMemory);
         }
-        tell_step(&mut self.check, number, notes.items.as_slice())
+        tell_step(&mut self.check, number, new_notes(notes))
     }
 
-    /// The processes and channels of a node that came in the last step are agents. before: how many the node had.
+    /// The processes and channels of a node that came in the last step are agents, unless a process has ended. before:
+    /// how many the node had.
     ///
     /// # Errors
     /// Those of `find_processes` and `find_channels`.
@@ -139,7 +141,7 @@ impl Machine {
         requires { IsTelling number node self.old }
         ensures keeps { OnOk result (KeepsTold number node self.old self.new) }
         ensures processes { OnOk result ((k : ℕ) → before.processes ≤ k → HasProcess self.new.nodes.items node k
-            → Contains self.new.agents.items (agents.Process node k)) }
+            → IsMet self.new.nodes.items self.new.agents.items (agents.Process node k)) }
         ensures channels { OnOk result ((k : ℕ) → before.channels ≤ k → HasChannel self.new.nodes.items node k
             → Contains self.new.agents.items (agents.Channel node k)) }
     {
@@ -150,7 +152,7 @@ impl Machine {
         Ok(())
     }
 
-    /// The processes of a node from this one on are agents, which may have come in the last step.
+    /// The processes of a node from this one on are agents, which may have come in the last step, or have ended.
     ///
     /// # Errors
     /// Where the allocator refuses, or a number would not fit.
@@ -160,13 +162,13 @@ impl Machine {
         requires told { IsTelling number node self.old }
         ensures keeps { OnOk result (KeepsTold number node self.old self.new) }
         ensures found { OnOk result ((k : ℕ) → first ≤ k → HasProcess self.new.nodes.items node k
-            → Contains self.new.agents.items (agents.Process node k)) }
+            → IsMet self.new.nodes.items self.new.agents.items (agents.Process node k)) }
     {
         for process in first..self.nodes[node as usize].processes.items.len() {
             let Ok(process) = u32::try_from(process) else {
                 return Err(AllocError);
             };
-            self.number_of(Agent::Process { node, process })?;
+            self.meet(Agent::Process { node, process })?;
         }
         Ok(())
     }
@@ -187,25 +189,44 @@ impl Machine {
             let Ok(channel) = u32::try_from(channel) else {
                 return Err(AllocError);
             };
-            self.number_of(Agent::Channel { node, channel })?;
+            self.meet(Agent::Channel { node, channel })?;
         }
         Ok(())
     }
 
-    /// The step of the agent of this number is over.
+    /// The number of an agent may be noted as a spare one, if it is a process that has ended. It is only a hint.
     ///
     /// # Errors
-    /// Where the number of steps would not fit.
+    /// Where the allocator refuses.
     #[inline(always)]
-    pub(crate) fn close(&mut self, number: u32) -> Result<(), AllocError>
+    fn spare_ended(&mut self, number: u32) -> Result<(), AllocError>
+        ensures { OnOk result (self.new ≡ record self.old { spare = self.new.spare }) }
+    {
+        let Some(agent) = self.agents.get(number as usize) else {
+            return Ok(());
+        };
+        if has_ended(self.nodes.as_slice(), *agent) {
+            self.spare.push(number)?;
+        }
+        Ok(())
+    }
+
+    /// The step of the agent of this number is over. last: that step, if it was done at one node.
+    ///
+    /// # Errors
+    /// Where the allocator refuses, or the number of steps would not fit.
+    #[inline(always)]
+    pub(crate) fn close(&mut self, number: u32, last: Option<LastStep>) -> Result<(), AllocError>
         requires { number < length self.old.check.slots }
-        ensures { OnOk result (Closes self.old number self.new) }
+        ensures { OnOk result (Closes self.old number last self.new) }
     {
         let Some(done) = self.done.checked_add(1) else {
             return Err(AllocError);
         };
         self.check.clear(number as usize);
+        self.spare_ended(number)?;
         self.done = done;
+        self.last = last;
         Ok(())
     }
 }

@@ -10,6 +10,7 @@ const HINTS: usize = 65_536;
 #[derive(Drop)]
 pub struct AgentHints {
     numbers: Vec<u32>,
+    noted: u64,
 }
 
 impl AgentHints {
@@ -20,6 +21,7 @@ impl AgentHints {
     pub(crate) fn of_list(alloc: Global, agents: &[Agent]) -> Result<AgentHints, AllocError> {
         let mut hints = AgentHints {
             numbers: vec![in alloc; 0; HINTS]?,
+            noted: 0,
         };
         for (number, agent) in agents.iter().enumerate() {
             if let Ok(number) = u32::try_from(number) {
@@ -38,8 +40,15 @@ impl AgentHints {
         }
     }
 
+    /// How many agents have come, unless there were more than can be counted.
+    #[inline(always)]
+    pub(crate) fn noted(&self) -> u64 {
+        self.noted
+    }
+
     /// Notes the number of an agent.
     pub(crate) fn note(&mut self, agent: Agent, number: u32) {
+        self.noted = self.noted.wrapping_add(1);
         if let Some(hint) = self.numbers.get_mut(place_of(agent)) {
             *hint = number;
         }

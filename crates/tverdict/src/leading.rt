@@ -75,7 +75,7 @@ impl Machine {
     }
 
     /// The clock of the last step, of the agent of this number, is handed on by a lead of its node. An agent that was
-    /// not found before comes.
+    /// not found before comes, unless it is a process that has ended, which gets no clock.
     ///
     /// # Errors
     /// Where the allocator refuses, or a number would not fit.
@@ -85,11 +85,14 @@ impl Machine {
         requires lead { HasLead self.old.nodes.items node lead }
         ensures { OnOk result (KeepsTold number node self.old self.new) }
     {
-        if let Some(agent) = self.led_by(node, lead) {
-            let to = self.number_of(agent)?;
-            if to != number {
-                self.hand_on(number, to)?;
-            }
+        let Some(agent) = self.led_by(node, lead) else {
+            return Ok(());
+        };
+        let Some(to) = self.number_of(number, agent)? else {
+            return Ok(());
+        };
+        if to != number {
+            self.hand_on(number, to)?;
         }
         Ok(())
     }

@@ -15,7 +15,8 @@
 //! - `coming`, `leading`: agents that come, and to which a step leads
 //! - `hints`: where to look first for an agent
 //! - `stepping`, `finishing`: the step of an agent, and what follows the call that does it
-//! - `passing`: the steps of wires
+//! - `passing`: the steps of wires; `firing`: how an input makes a process go on that waits for it and for others
+//! - `listening`: the step of a process that listens to a link which did not make it go on
 //! - `lodging`: the berths of nodes, which their processes take by turns
 //! - `idle`: memories that lie idle
 #![tactic(auto)]
@@ -26,11 +27,13 @@ mod coming;
 mod endings;
 mod finding;
 mod finishing;
+mod firing;
 mod halt;
 mod hints;
 mod idle;
 pub mod laws;
 mod leading;
+mod listening;
 mod lodging;
 mod looks;
 mod machine;
@@ -49,6 +52,6 @@ pub use halt::Halt;
 pub use hints::AgentHints;
 pub use idle::Idle;
 pub use lodging::Lodging;
-pub use machine::Machine;
+pub use machine::{LastStep, Machine};
 pub use turn::Turn;
 pub use verdict::{Race, Refusal, Verdict};

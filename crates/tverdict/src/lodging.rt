@@ -31,7 +31,7 @@ pub struct Lodging {
 
 /// Whether a process that stands there has ended.
 #[inline(always)]
-fn is_ended(stand: &Stand) -> bool
+pub(crate) fn is_ended(stand: &Stand) -> bool
     ensures { IsTrue result ↔ (stand.now ≡ stands.Ended) }
 {
     match stand {
@@ -41,7 +41,8 @@ fn is_ended(stand: &Stand) -> bool
         | Stand::Runs(_)
         | Stand::Waits(_)
         | Stand::Chooses(_)
-        | Stand::Chosen(_) => false,
+        | Stand::Chosen(_)
+        | Stand::Listens { .. } => false,
     }
 }
 
@@ -72,6 +73,7 @@ fn is_absent(stand: &Stand) -> bool
         | Stand::Waits(_)
         | Stand::Chooses(_)
         | Stand::Chosen(_)
+        | Stand::Listens { .. }
         | Stand::Ended => false,
     }
 }

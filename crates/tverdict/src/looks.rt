@@ -1,18 +1,20 @@
 //! Which agents have a step.
 
-ghost use Rattle.std.specs.Prelude.{◌≡◌, ◌<◌, ◌↔◌, ◌&&◌, ℕ, length, nat_lt, IsTrue, List, Some};
+ghost use Rattle.std.specs.Prelude.{◌≡◌, ◌<◌, ◌↔◌, ◌&&◌, ℕ, false, length, nat_lt, IfNone, IfSome, IsTrue, List, Some};
 ghost use Rattle.std.specs.Prelude.{slice_get, slice_index};
 ghost use Rattle.tplan.specs.declared.plan.Plan.{Plan};
 ghost use Rattle.tagents.specs.Walks.{are_open};
 ghost use Rattle.tproc.specs.declared.channels.Side.TheVariants.{Input, Output};
-ghost use Rattle.tprocesses.specs.Machine.{awaits_successor, is_met_at, is_offered, is_ready, process_machine, role_at};
+ghost use Rattle.tprocesses.specs.Machine.{awaits_successor, is_due_at, is_met_at, is_ready, process_machine, role_at};
 ghost use Rattle.tprocesses.specs.Machine.{sender_to};
 ghost use Rattle.tprocesses.specs.Places.{Half};
 ghost use Rattle.tplan.specs.Wires.{all_wires};
 ghost use Rattle.tcertify.specs.Channels.{holder_of, link_of, link_or_empty};
 ghost use Rattle.tcertify.specs.Standing.{stand_of};
 ghost use Rattle.tcertify.specs.Words.{use_of};
+ghost use Rattle.tfollow.specs.Sites.{is_listening};
 ghost use Rattle.tverdict.specs.Agents.{HasChannel, HasProcess, HasWord, IsThere, agent_of};
+ghost use Rattle.tverdict.specs.Listening.{IsListening, ListensAt, ListensNowhere};
 ghost use Rattle.tverdict.specs.Machines.{AreNodesOf, HasStep, IsSound, machine_at};
 ghost use Rattle.tverdict.specs.Wires.{has_message, has_taker, is_sink, messages_at};
 ghost use Rattle.tverdict.specs.declared.agent.Agent.TheVariants as agents;
@@ -23,6 +25,7 @@ use crate::scripts::messages_at;
 use tcertify::{Holder, LinkHalf, Stand, WordUse};
 use tnet::Wires;
 use tplan::{End, Plan};
+use tword::Word;
 
 /// Whether a process that stands so has a step.
 #[inline(always)]
@@ -30,8 +33,26 @@ fn is_ready_at(stand: &Stand) -> bool
     ensures { result ≡ is_ready (stand_of stand.now) }
 {
     match stand {
-        Stand::Rests(_) | Stand::Runs(_) | Stand::Chosen(_) => true,
+        Stand::Rests(_) | Stand::Runs(_) | Stand::Chosen(_) | Stand::Listens { .. } => true,
         Stand::Absent | Stand::Waits(_) | Stand::Chooses(_) | Stand::Ended => false,
+    }
+}
+
+/// The channel of the link to which a process listens that stands so, if it does.
+#[inline(always)]
+fn listened(stand: &Stand) -> Option<Word>
+    ensures some { IfSome result (λ channel. IsListening channel stand.now) }
+    ensures none { IfNone result (is_listening (stand_of stand.now) ≡ false) }
+{
+    match stand {
+        Stand::Listens { channel, .. } => Some(*channel),
+        Stand::Absent
+        | Stand::Rests(_)
+        | Stand::Runs(_)
+        | Stand::Waits(_)
+        | Stand::Chooses(_)
+        | Stand::Chosen(_)
+        | Stand::Ended => None,
     }
 }
 
@@ -57,24 +78,46 @@ fn is_met_at_output(holder: &Holder) -> bool
     }
 }
 
-/// Whether a message is offered or asked for at a half of a link.
+/// Whether a message is offered at the output of a link.
 #[inline(always)]
 fn is_offered_at(half: &LinkHalf) -> bool
-    ensures { (names : _) → result ≡ is_offered (link_of names half.now) }
+    ensures { (names : _) → result ≡ is_due_at Output (link_of names half.now) }
 {
     match half {
         LinkHalf::Offered(_) => true,
-        LinkHalf::Empty | LinkHalf::Copied => false,
+        LinkHalf::Empty | LinkHalf::Enabled(_) | LinkHalf::Awaited(_) | LinkHalf::Fired(_) => false,
     }
 }
 
-/// Whether a message is offered or asked for at the half of the link of this number, if there is one.
+/// Whether a message is asked for at the input of a link, alone or among others.
+#[inline(always)]
+fn is_asked_at(half: &LinkHalf) -> bool
+    ensures { (names : _) → result ≡ is_due_at Input (link_of names half.now) }
+{
+    match half {
+        LinkHalf::Offered(_) | LinkHalf::Awaited(_) => true,
+        LinkHalf::Empty | LinkHalf::Enabled(_) | LinkHalf::Fired(_) => false,
+    }
+}
+
+/// Whether a message is offered at the output of the link of this number, if there is one.
 #[inline(always)]
 fn is_offered_among(halves: &[LinkHalf; 4], link: u32) -> bool
-    ensures { (names : _) → result ≡ is_offered (link_or_empty names (slice_get halves.now link)) }
+    ensures { (names : _) → result ≡ is_due_at Output (link_or_empty names (slice_get halves.now link)) }
 {
     match halves.get(link as usize) {
         Some(half) => is_offered_at(half),
+        None => false,
+    }
+}
+
+/// Whether a message is asked for at the input of the link of this number, if there is one.
+#[inline(always)]
+fn is_asked_among(halves: &[LinkHalf; 4], link: u32) -> bool
+    ensures { (names : _) → result ≡ is_due_at Input (link_or_empty names (slice_get halves.now link)) }
+{
+    match halves.get(link as usize) {
+        Some(half) => is_asked_at(half),
         None => false,
     }
 }
@@ -132,6 +175,17 @@ impl Machine {
         is_ready_at(&process.stand)
     }
 
+    /// The channel of the link to which a process of a node listens, if it does.
+    #[inline(always)]
+    pub(crate) fn listened_at(&self, node: u32, process: u32) -> Option<Word>
+        requires { HasProcess self.now.nodes.items node process }
+        ensures some { IfSome result (λ channel. ListensAt self.now.nodes.items node process channel) }
+        ensures none { IfNone result (ListensNowhere self.now.nodes.items node process) }
+    {
+        let process = &self.nodes[node as usize].processes.items[process as usize];
+        listened(&process.stand)
+    }
+
     /// Whether a channel of a node has a step.
     #[inline(always)]
     pub fn is_channel_open(&self, node: u32, channel: u32) -> bool
@@ -145,8 +199,8 @@ impl Machine {
 
     /// Whether a message is there to be sent at an end.
     #[inline(always)]
-    fn has_message(&self, plan: &Plan, end: End) -> bool
-        ensures { IsSound plan.now self.now → result ≡ has_message plan.now self.now end }
+    pub(crate) fn has_message(&self, plan: &Plan, end: End) -> bool
+        ensures { AreNodesOf plan.now self.now.nodes.items → result ≡ has_message plan.now self.now end }
     {
         let number = end.node as usize;
         match self.nodes.get(number) {
@@ -164,14 +218,14 @@ impl Machine {
         (sent as usize) < messages_at(plan, number, link).len()
     }
 
-    /// Whether a message may be received at an end.
+    /// Whether a message may be received at an end, or would make a process go on.
     #[inline(always)]
     fn has_taker(&self, plan: &Plan, end: End) -> bool
         ensures { IsSound plan.now self.now → result ≡ has_taker plan.now self.now end }
     {
         let number = end.node as usize;
         match self.nodes.get(number) {
-            Some(node) => is_offered_among(&node.links.inputs, end.link),
+            Some(node) => is_asked_among(&node.links.inputs, end.link),
             None => is_sink(plan, number),
         }
     }

@@ -8,6 +8,13 @@ use tcertify::{Node, Sink};
 use tclocks::RaceCheck;
 use tnet::Wires;
 
+/// A step that was done at one node: the number of its agent, and that node.
+#[derive(Clone, Copy)]
+pub struct LastStep {
+    pub number: u32,
+    pub node: u32,
+}
+
 /// The process machine of a plan after some steps of a run, with the check of these for races.
 #[derive(Drop)]
 pub struct Machine {
@@ -17,8 +24,11 @@ pub struct Machine {
     pub sent: Vec<u32>,
     pub sinks: Vec<Sink>,
     pub wires: Wires,
-    /// The agents that were found, each under its number in the check.
+    /// The agents that were found, each under its number in the check. A process that has ended may have lost its own
+    /// to another agent.
     pub agents: Vec<Agent>,
+    /// Numbers that may be those of processes that have ended. It is only a hint, which whoever takes one has to check.
+    pub spare: Vec<u32>,
     /// Where an agent may be in the list.
     pub hints: AgentHints,
     pub check: RaceCheck,
@@ -32,6 +42,8 @@ pub struct Machine {
     pub fresh_place: u32,
     /// How many steps were done.
     pub done: u64,
+    /// The last step, if it was done at one node.
+    pub last: Option<LastStep>,
     /// Memories that instructions may have at hand.
     pub idle: Idle,
 }

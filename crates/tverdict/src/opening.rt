@@ -211,6 +211,7 @@ impl Machine {
             sinks,
             wires,
             agents: found.agents,
+            spare: Vec::new(alloc),
             hints: found.hints,
             check: found.check,
             lodgings,
@@ -218,6 +219,7 @@ impl Machine {
             first_script,
             fresh_place,
             done: 0,
+            last: None,
             idle,
         })
     }

@@ -1,6 +1,6 @@
-//! The steps of wires, over which messages pass.
+//! The steps of wires, over which messages pass, and the ends of all steps that are done at two nodes.
 
-ghost use Rattle.std.specs.Prelude.{◌≡◌, ◌<◌, ◌∷◌, [], IfErr, OnOk, Err, Some, length, slice_get};
+ghost use Rattle.std.specs.Prelude.{◌≡◌, ◌<◌, ◌∷◌, [], IfErr, OnOk, Err, None, Some, length, slice_get};
 ghost use Rattle.tplan.specs.declared.plan.Plan.{Plan};
 ghost use Rattle.tprocesses.specs.Machine as machine;
 ghost use Rattle.tprocesses.specs.Machine.{role_at};
@@ -12,7 +12,7 @@ ghost use Rattle.tverdict.specs.Machines.{Follows, HasStep};
 ghost use Rattle.tverdict.specs.Passing.{DoesHalf, notes_or};
 ghost use Rattle.tverdict.specs.Stepping.{Fits, HasMore, HasTold, KeepsAgents};
 ghost use Rattle.tverdict.specs.Verdicts.{IsStepped};
-ghost use Rattle.tverdict.specs.Wired.{AreCounts, BeginsAt, DoesPass, IsDoneAt, IsOutcomeAt, IsUntoldAt};
+ghost use Rattle.tverdict.specs.Wired.{AreCounts, BeginsAt, DoesAtTwo, IsDoneAt, IsOutcomeAt, IsUntoldAt};
 ghost use Rattle.tverdict.specs.declared.agent.Agent.TheVariants as agents;
 
 use crate::calls::begin;
@@ -37,7 +37,7 @@ fn notes_of<'a>(nodes: &'a [Node], number: u32, others: &'a Notes) -> &'a Notes
 
 impl Machine {
     /// The node of this number begins afresh, if there is one.
-    fn begin_at(&mut self, node: u32)
+    pub(crate) fn begin_at(&mut self, node: u32)
         ensures { BeginsAt self.old node self.new }
     {
         if (node as usize) < self.nodes.len() {
@@ -46,7 +46,7 @@ impl Machine {
     }
 
     /// How many processes and channels the node of this number has, if there is one.
-    fn counts_at(&self, node: u32) -> Counts
+    pub(crate) fn counts_at(&self, node: u32) -> Counts
         ensures { AreCounts self.now node result }
     {
         match self.nodes.get(node as usize) {
@@ -142,7 +142,7 @@ impl Machine {
         Err(Fault::Stops(Stop::HasNoStep))
     }
 
-    /// A message goes over a wire. notes: those of sources and sinks.
+    /// A message goes over a wire, at whose end nobody waits for it and for others. notes: those of sources and sinks.
     ///
     /// # Errors
     /// Those of `sends` and `receives`.
@@ -155,10 +155,34 @@ impl Machine {
         notes: &mut Notes,
     ) -> Result<(), Fault>
         requires { Fits plan.now self.old }
-        ensures { DoesPass plan.now from to self.old notes.old result self.new notes.new }
+        ensures { DoesAtTwo plan.now (machine.crosses plan.now from to None) from.node to.node self.old notes.old
+            result self.new notes.new }
     {
         let message = self.sends(alloc, plan, from, notes)?;
         self.receives(plan, to, message, notes)
+    }
+
+    /// A message goes over a wire, or makes the process go on that waits for it and for others. notes: those of sources
+    /// and sinks.
+    ///
+    /// # Errors
+    /// Those of `asks`, `fires` and `pass`.
+    fn crosses(
+        &mut self,
+        alloc: Global,
+        plan: &Plan,
+        from: End,
+        to: End,
+        notes: &mut Notes,
+    ) -> Result<(), Fault>
+        requires { Fits plan.now self.old }
+        ensures { DoesAtTwo plan.now (machine.passes plan.now (Some from) to) from.node to.node self.old notes.old
+            result self.new notes.new }
+    {
+        match self.asks(to)? {
+            Some(process) => self.fires(plan, from, to, process, notes),
+            None => self.pass(alloc, plan, from, to, notes),
+        }
     }
 
     /// The step of the agent of this number, done at two nodes, sources or sinks, is told to the check. others: the
@@ -208,22 +232,21 @@ impl Machine {
         self.add_places(one)?;
         self.add_places(other)?;
         self.tell_at(number, one, other, others)?;
-        self.find_new(number, one, before.0)?;
-        self.find_new(number, other, before.1)?;
         self.lead_on(number, one)?;
         self.lead_on(number, other)?;
+        self.find_new(number, one, before.0)?;
+        self.find_new(number, other, before.1)?;
         self.lodge_both(number, one, other)?;
-        self.close(number)?;
+        self.close(number, None)?;
         Ok(())
     }
 
-    /// A message has passed between two nodes, sources or sinks, which was the step of the agent of this number, and
-    /// this was answered. before: how many processes and channels the nodes had; others: the notes of sources and
-    /// sinks.
+    /// The step of the agent of this number was done at two nodes, sources or sinks, and this was answered. before: how
+    /// many processes and channels the nodes had; others: the notes of sources and sinks.
     ///
     /// # Errors
     /// `Stops` where the step stops; those of `finish_at`.
-    fn end_pass(
+    pub(crate) fn end_pass(
         &mut self,
         number: u32,
         one: u32,
@@ -274,7 +297,7 @@ impl Machine {
         self.begin_at(from.node);
         self.begin_at(to.node);
         let mut notes = Notes::new(alloc);
-        let outcome = self.pass(alloc, plan, from, to, &mut notes);
+        let outcome = self.crosses(alloc, plan, from, to, &mut notes);
         self.end_pass(number, from.node, to.node, before, &notes, outcome)
     }
 }

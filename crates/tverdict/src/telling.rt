@@ -1,6 +1,6 @@
 //! Notes of what a step has touched, as they are told to the check of races.
 
-ghost use Rattle.std.specs.Prelude.{◌≡◌, ◌<◌, ◌∷◌, ◌++◌, [], List, IfErr, OnOk, length, map};
+ghost use Rattle.std.specs.Prelude.{◌≡◌, ◌<◌, ◌∷◌, ◌++◌, [], List, IfErr, OnOk, drop, length, map};
 ghost use Rattle.tclocks.specs.Checks.{Check, clock_of, accesses_at};
 ghost use Rattle.tclocks.specs.Followed.{AreAccessed, IsStep};
 ghost use Rattle.tclocks.specs.Refusals.{IsDue};
@@ -10,7 +10,7 @@ ghost use Rattle.tverdict.specs.Told.{IsHalted, IsStepHalted};
 
 use crate::halt::Halt;
 use crate::verdict::Race;
-use tcertify::{Mode, Note, Priority};
+use tcertify::{Mode, Note, Notes, Priority};
 use tclocks::{Mode as CheckMode, PlaceAccess, RaceCheck, Refusal, Step};
 
 /// The mode in which a note is told.
@@ -41,6 +41,17 @@ pub(crate) fn told_of(note: Note) -> PlaceAccess
         place: note.place,
         mode: told_mode(note.mode),
     }
+}
+
+/// The notes behind those of earlier steps.
+#[inline(always)]
+pub(crate) fn new_notes(notes: &Notes) -> &[Note]
+    ensures { result.now ≡ drop notes.now.earlier notes.now.items.items }
+{
+    if notes.items.len() <= notes.earlier {
+        return &[];
+    }
+    &notes.items.as_slice()[notes.earlier..]
 }
 
 /// Why a step is the last one of which the check refuses this access.

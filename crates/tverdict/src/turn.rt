@@ -80,12 +80,12 @@ impl Machine {
         ensures told { IfOk result (λ verdict. IsTold plan.now most_steps self.new verdict) }
         ensures follows { IfOk result (λ verdict. verdict ≡ verdicts.Certified → Follows plan.now self.new) }
     {
-        let mut agents = self.agents.len();
+        let mut noted = self.hints.noted();
         while self.done < most_steps {
             match self.turn(alloc, plan)? {
                 Turn::Made(_) => {
-                    if agents < self.agents.len() {
-                        agents = self.agents.len();
+                    if noted != self.hints.noted() {
+                        noted = self.hints.noted();
                         if let Some(refusal) = self.crowding() {
                             return Ok(Verdict::Refused(refusal));
                         }

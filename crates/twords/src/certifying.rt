@@ -75,9 +75,9 @@ and `end race S`; there may be more races. Or `refused` with a reason, and the s
   refused SawTheScheduler node 0 process 1 step 12 #8000009a cj 3
   refused TooManyProcesses node 0
 
-and `end refused S`: the net does something of which a certificate says nothing, such as an
-alternative, a broken rule, a halt, or a look at what only the scheduler knows; or the limit of
-steps was met (`refused Steps`).
+and `end refused S`: the net does something of which a certificate says nothing, such as a choice
+between two senders, a broken rule, a halt, or a look at what only the scheduler knows; or the limit
+of steps was met (`refused Steps`).
 
 A process is named by its number in the image; one that another has begun by the name of that one, a
 dot, and its number; one that goes on after a PAR by `after`, its workspace, a dot, and how many did

@@ -48,7 +48,7 @@ returns-in-Call-clause-done c =
     ) at c.call.ensures.done)
 
 pub returns-in-Opr-clause-done : goal.returns-in-Opr-clause-done
-returns-in-Opr-clause-done c = c.do_operation.ensures.done
+returns-in-Opr-clause-done c = c.operate_apart.ensures.done
 
 pub returns-in_default-clause-done : goal.returns-in_default-clause-done
 returns-in_default-clause-done c =

@@ -3,7 +3,7 @@ use Rattle.std.specs.Prelude.{codes}
 use Rattle.tfiles.specs.Logs.{line}
 use Rattle.tnames.specs.Nodes.{text_of_node}
 use Rattle.tfindings.specs.declared.finding.Finding.{Finding}
-use Rattle.tfindings.specs.Telling.{body_text, finding_text, last_text, node_of_place, node_of_step}
+use Rattle.tfindings.specs.Telling.{body_text, finding_text, last_text, node_of, node_of_place}
 use Rattle.tfiles.proofs.Told.{tells_then, tells_as}
 use Rattle.tfindings.proofs.telling.put_finding.Goals as goal
 
@@ -21,8 +21,8 @@ returns-in-Race g c =
 pub returns-in-Stopped : goal.returns-in-Stopped
 returns-in-Stopped g c =
     tells_as (tells_then (tells_as c.put_of_node-in-Stopped.ensures
-    (ap₂ (text_of_node c.args.names.now) c.node_of_step.ensures c.requires.body)) c.put_last-in-Stopped.ensures)
-    (ap (λ (f : Finding). text_of_node c.args.names.now (node_of_step c.args.machine.now c.in-Stopped.made)
+    (ap₂ (text_of_node c.args.names.now) c.node_of.ensures c.requires.body)) c.put_last-in-Stopped.ensures)
+    (ap (λ (f : Finding). text_of_node c.args.names.now (node_of c.in-Stopped.made.agent)
     (body_text c.args.machine.now f) ++ last_text (codes "refused") c.args.machine.now.done) c.in-Stopped.is
     ∙ ap (finding_text c.args.names.now c.args.plan.now c.args.machine.now) (sym c.in-Stopped.is))
 

@@ -9,7 +9,8 @@ returns c =
     let b = c.begin.new.node in let n = c.channel_step.new.self in let r = c.channel_step.result in
     record {
       begun = b;
-      afresh = c.begin.ensures;
+      afresh = c.begin.ensures.afresh;
+      recalls = c.begin.ensures.recalls;
       does = subst (λ (a : Node). Does (channel_step (address_at a c.args.channel) (node_site a)) nothing b r n)
-          c.begin.ensures.same c.channel_step.ensures;
+          c.begin.ensures.afresh.same c.channel_step.ensures;
     }

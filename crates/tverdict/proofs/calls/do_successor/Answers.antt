@@ -9,7 +9,8 @@ returns c =
     let b = c.begin.new.node in let n = c.successor_step.new.self in let r = c.successor_step.result in
     record {
       begun = b;
-      afresh = c.begin.ensures;
+      afresh = c.begin.ensures.afresh;
+      recalls = c.begin.ensures.recalls;
       does = subst (λ (a : Node). Does (successor_step c.args.word (node_site a)) nothing b r n)
-          c.begin.ensures.same c.successor_step.ensures;
+          c.begin.ensures.afresh.same c.successor_step.ensures;
     }

@@ -1,4 +1,4 @@
-use Rattle.std.proofs.Common.{ℕ, sym, ap, subst, Ok, Err, inl, inr}
+use Rattle.std.proofs.Common.{ℕ, sym, ap, subst, Err, inl, inr}
 use Rattle.tword.specs.declared.breaks.Break.TheVariants.{ChannelMisuse}
 use Rattle.tprocesses.specs.Choosing.{enables_held}
 use Rattle.tprocesses.specs.Parts.{Doing, Breaks, require}

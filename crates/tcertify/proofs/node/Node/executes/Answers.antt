@@ -6,8 +6,9 @@ use Rattle.tcertify.proofs.node.Node.executes.Goals as goal
 
 pub returns-in-Ok-clause-done : goal.returns-in-Ok-clause-done
 returns-in-Ok-clause-done c =
-    executes c.args.self.now c.instructs.new.self c.args.process (context_of c.args.context.now) c.args.instruction
-    _ _ (followed c.in-Ok.carried) c.requires.there c.in-Ok.ensures.done c.completes.ensures
+    let ctx = context_of c.args.context.now in
+    executes c.args.self.now c.instructs.new.self c.args.process ctx c.args.instruction _ _
+    (followed ctx c.in-Ok.carried) c.requires.there c.in-Ok.ensures.done c.completes.ensures
 
 pub returns-in-Err-clause-done : goal.returns-in-Err-clause-done
 returns-in-Err-clause-done c =

@@ -26,4 +26,4 @@ returns c =
     (subst (λ (l : List StoredWord). RunsAt (put (node_site c.expect_span.new.self) Free span
     (replaced span (cells_from l (word_number span.start) (word_count span)) c.args.message.now)) c.expect_span.new.self
     (Ok tt) c.set_span.new.self) c.in_ok-expect_span.ensures.words c.set_span.ensures)
-    c.set_link_half.ensures c.wakes.ensures
+    c.set_link_half.ensures.sets c.wakes.ensures

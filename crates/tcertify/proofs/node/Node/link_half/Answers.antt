@@ -13,8 +13,8 @@ use Rattle.tcertify.proofs.NodeChannels.{link_seen}
 use Rattle.tcertify.proofs.NodeHalves.{link_leads, link_number}
 use Rattle.tcertify.proofs.node.Node.link_half.Goals as goal
 
-pub returns-then-not-is_offered-clause-looks : goal.returns-then-not-is_offered-clause-looks
-returns-then-not-is_offered-clause-looks c =
+pub returns-then-not-is_due-clause-looks : goal.returns-then-not-is_due-clause-looks
+returns-then-not-is_due-clause-looks c =
     let a = c.args.self.now in let k = c.args.link in let side = c.args.side in let h = c.half-half.result in
     looks_and_leads a _ c.note_lead.new.self (place.LinkHalf (end_at a.words.number k) (side_of side))
     c.link_place-place.result Looks (Link k side) c.note_lead.ensures (IsLink (link_of (names a) h))
@@ -22,10 +22,10 @@ returns-then-not-is_offered-clause-looks c =
     (λ numbering n. link_number _ k side c.requires numbering n ∙ sym c.link_place-place.ensures) refl
     (λ rest. link_seen a k side h c.half-half.ensures rest)
     (link_leads _ c.note_lead.new.self k side (link_of (names a) h) c.note_lead.ensures
-    (sym (c.is_offered.ensures (names a)) ∙ c.if-not-is_offered.true))
+    (sym (c.is_due.ensures (names a)) ∙ c.if-not-is_due.true))
 
-pub returns-else-not-is_offered-clause-looks : goal.returns-else-not-is_offered-clause-looks
-returns-else-not-is_offered-clause-looks c =
+pub returns-else-not-is_due-clause-looks : goal.returns-else-not-is_due-clause-looks
+returns-else-not-is_due-clause-looks c =
     let a = c.args.self.now in let k = c.args.link in let side = c.args.side in let h = c.half-half.result in
     looks_at a _ (place.LinkHalf (end_at a.words.number k) (side_of side)) c.link_place-place.result Looks
     (lists_stay a _ refl refl refl refl refl refl) c.add.ensures.keeps c.add.ensures.tells

@@ -25,8 +25,8 @@ invariant_of-self c =
           c.args.half a.known there c.set_half.ensures c.requires.known;
     }
 
-pub returns : goal.returns
-returns c =
+pub returns-clause-sets : goal.returns-clause-sets
+returns-clause-sets c =
     let a = c.args.self.now in let k = c.args.link in let side = c.args.side in let h = c.args.half in
     let inside : k < length a.links.inputs = omega (arith, c.requires.there) in
     let other : k < length a.links.outputs = omega (arith, c.requires.there) in

@@ -12,7 +12,7 @@ returns-then-node-len c =
     record {
       node = λ a at. (
         c.begin.new.node,
-        subst (λ (x : Node). IsAfresh x c.begin.new.node) (same_Some old a (sym there ∙ at)) c.begin.ensures,
+        subst (λ (x : Node). IsAfresh x c.begin.new.node) (same_Some old a (sym there ∙ at)) c.begin.ensures.afresh,
         refl,
       );
       none = λ e. absurd (none-some old (sym e ∙ there));

@@ -3,7 +3,7 @@ use Rattle.std.proofs.lemmas.Option.{slice_get_within}
 use Rattle.tcertify.specs.declared.node.Node.{Node}
 use Rattle.tverdict.specs.declared.agent.Agent.TheVariants as agent
 use Rattle.tverdict.specs.Agents.{HasProcess}
-use Rattle.tverdict.proofs.Keeping.{found_more}
+use Rattle.tverdict.proofs.Keeping.{met_more}
 use Rattle.tverdict.proofs.machine.Machine.find_new.Goals as goal
 
 pub find_channels-requires-clause-told : goal.find_channels-requires-clause-told
@@ -14,7 +14,7 @@ find_channels-requires-clause-told c =
 pub returns-in_ok-find_channels-clause-processes : goal.returns-in_ok-find_channels-clause-processes
 returns-in_ok-find_channels-clause-processes c = λ k low has.
     let more = c.in_ok-find_channels.ensures.keeps.more in
-    found_more c.find_processes.new.self c.find_channels.new.self more (agent.Process c.args.node k)
+    met_more c.find_processes.new.self c.find_channels.new.self more (agent.Process c.args.node k)
     (c.in_ok-find_processes.ensures.found k low
     (subst (λ (ns : List Node). HasProcess ns c.args.node k) more.nodes has))
 

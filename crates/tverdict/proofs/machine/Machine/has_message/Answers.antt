@@ -8,7 +8,7 @@ use Rattle.tverdict.proofs.Wired.{sends_there}
 use Rattle.tverdict.proofs.machine.Machine.has_message.Goals as goal
 
 pub returns-in-None : goal.returns-in-None
-returns-in-None c = λ sound.
+returns-in-None c = λ are.
     let m = c.args.self.now in let e = c.args.end in
     let past = subst (λ (xs : List Node). length xs ≤ e.node) c.deref.ensures.value
     (ltb-false e.node (length c.deref.result.now) (sym c.in-None.ensures.lookup.0)) in
@@ -17,4 +17,4 @@ returns-in-None c = λ sound.
     ∙ ap (λ (k : ℕ).
     nat_lt (slice_index m.sent.items (e.node - k)) (length (messages_at c.args.plan.now (e.node - k) e.link)))
     many
-    ∙ sym (sends_there c.args.plan.now m sound e (slice_get_past m.nodes.items e.node past) past)
+    ∙ sym (sends_there c.args.plan.now m are e (slice_get_past m.nodes.items e.node past) past)

@@ -1,7 +1,7 @@
 use Rattle.std.proofs.Common.{ℕ, Global, Option, Vec}
 use Rattle.std.proofs.lemmas.Result.{err_from_is_err_and}
 use Rattle.tverdict.proofs.Grown.{goes_fits}
-use Rattle.tverdict.proofs.Passed.{pass_all, pass_err}
+use Rattle.tverdict.proofs.Crossed.{pass_all, pass_err}
 use Rattle.tverdict.proofs.machine.Machine.pass.Goals as goal
 
 pub receives-requires : goal.receives-requires

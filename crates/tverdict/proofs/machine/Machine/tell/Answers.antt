@@ -1,4 +1,4 @@
-use Rattle.std.proofs.Common.{◌≡◌, ◌∙◌, ap, length, refl, subst, sym, List, ◌∷◌, [], map}
+use Rattle.std.proofs.Common.{◌≡◌, ◌∙◌, ap, drop, length, refl, subst, sym, List, ◌∷◌, [], map}
 use Rattle.std.proofs.lemmas.Option.{same_Some, slice_get_read, slice_get_within}
 use Rattle.std.proofs.lemmas.Result.{MatchResult-weaker, on_ok_weaker}
 use Rattle.tclocks.specs.Followed.{IsStep}
@@ -16,9 +16,9 @@ returns-clause-ok c =
     let there = slice_get_read ns (length ns) n at refl (slice_get_within ns n u.node u.there) c.index.ensures in
     let same : at ≡ u.node = same_Some at u.node (sym there ∙ u.there) in
     told_at plan number n m u check
-    (ap (λ (a : Node). a.words.notes.is_lost) (sym same) ∙ c.if-notes.false)
     (subst (λ (notes : List Note). IsStep number (number ∷ []) (map told_of notes) m.check check)
-    (c.as_slice.ensures.value ∙ ap (λ (a : Node). a.words.notes.items.items) same) is))
+    (c.new_notes.ensures ∙ ap (λ (a : Node). drop a.words.notes.earlier a.words.notes.items.items) same) is)
+    (ap (λ (a : Node). a.words.notes.is_lost) (sym same) ∙ c.if-notes.false))
     c.tell_step.ensures.ok
 
 pub returns-clause-err : goal.returns-clause-err

@@ -1,4 +1,4 @@
-use Rattle.std.proofs.Common.{◌≡◌, ◌∙◌, ◌++◌, ap, subst, sym, List, ◌∷◌, [], map}
+use Rattle.std.proofs.Common.{◌≡◌, ◌∙◌, ◌++◌, ap, arith, inl, length, subst, sym, List, ◌∷◌, [], map}
 use Rattle.std.specs.Prelude.{slice_get}
 use Rattle.std.proofs.lemmas.Result.{MatchResult-weaker, on_ok_weaker}
 use Rattle.tclocks.specs.Followed.{IsStep}
@@ -32,11 +32,12 @@ returns-clause-ok c =
     (subst (λ (x : List Note). IsStep c.args.number (c.args.number ∷ [])
     (map told_of c.as_slice-3.result.now ++ map told_of x) m.check check)
     (c.as_slice-4.ensures.value ∙ ap (λ (x : Notes). x.items.items) second) is))
-    (told_of_both (places m) one other (accesses (step_of plan u.answered.agent) u.answered.state)
-    (u.noted (record {
+    (λ k access within. inl (told_of_both (places m) one other
+    (accesses (step_of plan u.answered.agent) u.answered.state) (u.noted (record {
       one = ap (λ (x : Notes). x.is_lost) (sym first) ∙ c.if-first.false;
       other = ap (λ (x : Notes). x.is_lost) (sym second) ∙ c.if-second.false;
-    })))
+    })) k access within))
+    (λ k e. let long : length (n ∷ o ∷ []) ≡ length (k ∷ []) = ap length e in absurd (omega (arith, long)))
     (λ k l node among there has. u.led k l node among there has))
     c.tell_both.ensures.ok
 

@@ -28,6 +28,6 @@ returns-clause-start c =
     (subst (λ (w : List Wire). AreAgents w c.args.nodes.items found.agents.items) c.requires.wires
     (subst (λ (n : List Node). AreAgents c.args.wires n found.agents.items) c.as_slice-5.ensures.value
     c.in_ok-found.ensures.agents))
-    c.in_ok-found.ensures.check c.in_ok-found.ensures.candidates c.in-Some.ensures.fits refl
+    c.in_ok-found.ensures.check c.in_ok-found.ensures.candidates c.in-Some.ensures.fits refl refl
     (subst (λ (n : List Node). AreFirstLodgings n c.in_ok-lodgings.lodgings.items) c.as_slice-4.ensures.value
     c.in_ok-lodgings.ensures)
