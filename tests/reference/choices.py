@@ -1,6 +1,7 @@
-"""Draws orderly nets with alternatives: processes that choose between channels, seldom links, and guards without them,
-servers that take requests until they are told to stop, and multiplexers. Messages give an order to the senders, or fail
-to, so some of these nets are certified (docs/MACHINE.md, section 17)."""
+"""Draws orderly nets with alternatives: processes that choose between channels, in many nets links above all, and
+guards without them, servers that take requests until they are told to stop, and multiplexers. Messages give an order to
+the senders, or fail to, so some of these nets are certified (docs/MACHINE.md, section 17)."""
+import draw
 import orderly
 from draw import LOCALS, MESSAGE, push_link
 from orderly import OPEN_CHANNELS
@@ -32,12 +33,49 @@ class Choosing(orderly.Orderly):
 
     def __init__(self, dice, is_small=False):
         self.care, self.oddity = dice.choice([1, 1, 1, 1, 0.9, 0.5]), dice.choice([0, 0, 0.1, 0.4])
-        # Who has left out the sender of a way, by the node and channel of that.
-        self.left_out = {}
+        # How often a choice may have links, and where it is often, how often it has them alone where it can.
+        self.link_share = dice.choice([0.02, 0.02, 0.6, 0.9, 1])
+        self.likes_links = self.link_share > 0.5 and dice.random() < 0.8
+        # Who has left out the sender of a way, by the node and channel of that; and of each node the links that nobody
+        # sends to.
+        self.left_out, self.mute = {}, {}
         super().__init__(dice, is_small)
 
     def length(self):
         return self.dice.choice([1, 4]) if self.is_small else super().length()
+
+    def join(self):
+        """Nodes whose processes choose between links have more wires, and sources of which messages are chosen."""
+        super().join()
+        dice, wired = self.dice, self.drawn.wired_ends()
+        free = [(node.number, link) for node in self.nodes for link in range(4) if (node.number, link) not in wired]
+        dice.shuffle(free)
+        for _ in range(dice.randint(0, 1 + len(self.nodes)) if self.link_share > 0.5 else 0):
+            if len(free) < 2:
+                break
+            one = free.pop()
+            # Seldom a wire from a node to itself.
+            other = next((it for it in free if it[0] != one[0]), free[0]) if dice.random() < 0.8 else free[0]
+            free.remove(other)
+            self.drawn.wires.append((one, other))
+            self.way(one, other)
+            self.way(other, one)
+        for end in free[: dice.choice([0, 1, 2]) if self.link_share > 0.5 else 0]:
+            free, length = [it for it in free if it != end], self.length()
+            messages = [dice.randbytes(length) for _ in range(dice.randint(0, 3))]
+            self.drawn.sources.append((end, messages))
+            own = dice.choice(self.nodes[end[0]].processes)
+            self.asked[push_link(end[1], True), end[0]] = (own, length, len(messages))
+        drained = [end for end, _ in self.drawn.sinks]
+        for node in self.nodes:
+            self.mute[node.number] = [link for number, link in (*free, *drained) if number == node.number]
+
+    def way(self, sender, receiver):
+        """A way over a wire, which seldom has several senders where processes choose between links."""
+        if self.link_share > 0.5 and self.dice.random() < 0.6:
+            draw.Mesh.way(self, sender, receiver)
+        else:
+            super().way(sender, receiver)
 
     def join_inside(self):
         """Many pairs of processes of a node have a channel of their own."""
@@ -51,6 +89,7 @@ class Choosing(orderly.Orderly):
     def statement(self, process):
         kinds = ["message"] * 3 + ["turn"] * 2 + ["word"] * 2 + ["simple"] * 3 + ["choice"] * 8
         kinds += ["server", "family", "peek"] * 2 + ["script", "loop", "branch", "par", "wake"]
+        kinds += ["server", "peek", "source", "source", "other"] if self.link_share > 0.5 else []
         kinds += ["multiplexer"] if self.dice.random() < 0.1 else []
         getattr(self, f"add_{self.dice.choice(kinds)}")(process)
 
@@ -93,14 +132,15 @@ class Choosing(orderly.Orderly):
         other.add(f"    ldlp {MESSAGE}, {into}, ldc 1, in")
 
     def ways_to(self, process, most, has_open=False):
-        """Returns some ways to a process, without two of one channel, and seldom over links; open ones are those of who
-        has the turn."""
+        """Returns some ways to a process, without two of one channel; open ones are those of who has the turn."""
         found = {it[3]: it for it in self.ways if it[2] is process is not it[0]}
         if has_open and self.holder is not process:
             found |= {into: (self.holder, out, process, into) for here, out, receivers, into in self.open_ways
                       if process in receivers and here is self.holder.node}
-        has_links = self.dice.random() < 0.02
-        ways = [it for it in found.values() if has_links or not it[3].startswith("mint")]
+        over_links = [it for it in found.values() if is_over_link(it)]
+        ways = [it for it in found.values() if not is_over_link(it)]
+        if self.dice.random() < self.link_share:
+            ways = over_links if over_links and self.likes_links and self.dice.random() < 0.7 else [*ways, *over_links]
         return self.dice.sample(ways, min(len(ways), most))
 
     def come(self, way, length):
@@ -112,9 +152,12 @@ class Choosing(orderly.Orderly):
             self.holder = receiver
 
     def silent(self, process):
-        """Returns the instructions that push a channel on which nobody sends, or seldom a link."""
+        """Returns the instructions that push a channel on which nobody sends, or seldom any link."""
         if self.dice.random() < 0.05:
             return push_link(self.dice.randrange(4), True)
+        mute = self.mute[process.node.number]
+        if mute and self.dice.random() < self.link_share:
+            return push_link(self.dice.choice(mute), True)
         return process.node.new_channel() or process.node.channel(0)
 
     # Alternatives.
@@ -127,7 +170,7 @@ class Choosing(orderly.Orderly):
         if has_sender:
             self.come(ways[0], length)
         guards = [(it[3], int(place == 0 or dice.random() < 0.9)) for place, it in enumerate(ways)]
-        guards += [(self.silent(process), 1)] if dice.random() < 0.1 else []
+        guards += [(self.silent(process), 1)] if dice.random() < (0.3 if self.link_share > 0.5 else 0.1) else []
         if not has_sender or dice.random() < 0.15:
             guards.append((None, int(not has_sender or dice.random() < 0.05)))
         self.choose(process, guards, length)
@@ -142,6 +185,41 @@ class Choosing(orderly.Orderly):
                 more = [(None, 1)] if self.dice.random() < 0.2 else []
                 self.choose(process, [(it[3], 1) for it in ways] + more, length if takes else None)
             self.leave_out(ways[1:], process)
+
+    def add_source(self, process):
+        """Choices of messages of a source, beside others that nobody sends."""
+        dice, left = self.dice, [it for it, (_, _, count) in self.asked.items() if count]
+        if not left:
+            return
+        key = dice.choice(left)
+        (channel, number), (own, length, count) = key, self.asked[key]
+        times = dice.randint(1, count)
+        for _ in range(times):
+            beside = self.ways_to(own, dice.choice([0, 1, 1, 2]))
+            silent = [self.silent(own)] if dice.random() < 0.3 else []
+            guards = [(it, 1) for it in dict.fromkeys([channel, *(it[3] for it in beside), *silent])]
+            if dice.random() < 0.2:
+                self.choose(own, guards, None)
+            self.choose(own, guards, length)
+            self.leave_out(beside, own)
+        self.asked[key] = (own, length, count - times)
+        if count == times:
+            self.mute[number].append(int(channel.split()[-1]) - 4)
+
+    def add_other(self, process):
+        """Another process of the node takes a message from a link that this one has in its choices; it may be told
+        before that it may."""
+        dice = self.dice
+        ways = [it for it in self.ways if it[2].node is process.node is not it[0].node and is_over_link(it)]
+        if ways:
+            way, length = dice.choice(ways), self.length()
+            takes = dice.choice([it for it in process.node.processes if it is not way[0]])
+            if dice.random() < self.care:
+                self.tell(way[2], takes)
+            self.come(way, length)
+            takes.add(self.input(way[3], length))
+            if dice.random() < self.care:
+                self.tell(takes, way[2])
 
     def add_family(self, process):
         """A process and one that it begins, of which one chooses between messages of the other; then both end."""
@@ -207,7 +285,13 @@ class Choosing(orderly.Orderly):
             disables.append(f"    {channel}, {offset}, disc" if channel else f"    {offset}, diss")
         if dice.random() < 0.5:
             dice.shuffle(disables)
-        lines = ["    alt", *enables, "    altwt", *disables, "    altend"]
+        if dice.random() < 0.05:
+            enables.append(dice.choice(enables))
+        early = 0
+        if (None, 1) in guards and dice.random() < 0.2:
+            # Channels may be disabled before the process waits, which it need not.
+            early = next(place for place, it in enumerate(disables) if it.endswith("diss"))
+        lines = ["    alt", *enables, *disables[:early], "    altwt", *disables[early:], "    altend"]
         while dice.random() < self.oddity:
             lines = self.odd(process, lines)
         process.add(*lines, f"{base}:")
@@ -249,6 +333,11 @@ class Choosing(orderly.Orderly):
         own = [it for it in self.ways_to(process, self.dice.choice([0, 1])) if it[0].node is node]
         node.behind += [f"{begins}:", self.simple(child), *(self.output(it[1], 1) for it in own), "    stopp"]
         return [f"    ldc {begins}-{after}, ldc #{child.workspace:08x}, startp", f"{after}:"]
+
+
+def is_over_link(way):
+    """Tells whether a way leads over a wire."""
+    return way[3].startswith("mint")
 
 
 def choosing(dice):

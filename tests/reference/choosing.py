@@ -1,8 +1,9 @@
-"""Alternatives in the process machine (docs/MACHINE.md, section 17): a process enables internal channels, waits until
-one of them has a sender, and disables them. The channel that has one makes the process go on."""
+"""Alternatives in the process machine (docs/MACHINE.md, section 17): a process enables channels, waits until one of
+them has a sender, and disables them. The channel that has one makes the process go on. Whether a link has done so is
+seen where it is disabled; at one that has not nobody may send."""
 from channels import is_link
 from memory import Offer, require
-from places import UNKNOWN, Act, Awaited, Choice, Enabled, Kind, Place, Standing, Status, Use, Word, cells_of
+from places import UNKNOWN, Act, Awaited, Choice, Enabled, Fired, Kind, Standing, Status, Use, Word, cells_of
 from words import MODULUS, NEXT, NONE_SELECTED, NOT_PROCESS, STATE
 
 
@@ -50,15 +51,24 @@ class Choosing:
     def set_ports(self, ports):
         self.step.put(self.step.place(Kind.PORTS, self.step.agent.key), ports)
 
-    def half(self, channel, is_input):
-        return self.step.place(Kind.HALF, (channel, is_input))
+    def input(self, channel):
+        """Returns the place of the input half of a channel, which may be a link's."""
+        if is_link(channel):
+            return self.step.place(Kind.LINK_HALF, (self.link_of(True, channel), True))
+        return self.step.place(Kind.HALF, (channel, True))
 
     def channel_of_guard(self, channel, register):
         """Checks the channel of a guard that is true, which is in a register of this number."""
         self.known(register)
-        require(not is_link(channel), "HasAlternatives")
-        require(channel % 4 == 0, "Unaligned")
-        self.memory.bound(channel, 4)
+        if is_link(channel):
+            self.link_of(True, channel)
+        else:
+            require(channel % 4 == 0, "Unaligned")
+            self.memory.bound(channel, 4)
+
+    def has(self, found, *ways):
+        """Tells whether the own process has the input half of a channel, in one of these ways."""
+        return isinstance(found, ways) and found.process == self.step.agent.key
 
     def do_alt(self):
         self.memory.touch_word(self.wptr - STATE, True)
@@ -75,13 +85,15 @@ class Choosing:
 
     def enable(self, channel):
         """Enables a channel, without a look at its sender."""
-        half, own = self.half(channel, True), Enabled(self.step.agent.key)
+        half, own = self.input(channel), Enabled(self.step.agent.key)
         found = self.step.look(half)
-        require(found in (None, own), "ChannelMisuse")
+        require(found in (None, own), "LinkBusy" if is_link(channel) else "ChannelMisuse")
         if found is None:
             self.step.put(half, own)
+        if not is_link(channel):
             self.memory.not_sent(self.memory.word_place(channel))
-            self.step.change(self.memory.word_place(channel), Act.ENGAGE)
+            if found is None:
+                self.step.change(self.memory.word_place(channel), Act.ENGAGE)
         ports = self.ports()
         self.set_ports(ports if channel in ports else (channel, *ports))
 
@@ -96,9 +108,10 @@ class Choosing:
         self.under_way()
         if self.choice.skips:
             return
-        for half in (self.half(it, True) for it in self.ports()):
-            require(self.step.look(half) == Enabled(self.step.agent.key), "ChannelMisuse")
-            self.step.put(half, Awaited(self.step.agent.key))
+        for channel in self.ports():
+            found = self.step.look(self.input(channel))
+            require(self.has(found, Enabled), "LinkBusy" if is_link(channel) else "ChannelMisuse")
+            self.step.put(self.input(channel), Awaited(self.step.agent.key))
         self.change_use(Use.CHOICE, Use.AWAITING)
         self.memory.save_upper(self.wptr)
         self.status = Status.CHOOSES
@@ -111,21 +124,43 @@ class Choosing:
             # Else the process is before its `altwt`, and a sender that waits there would not make it go on.
             require(self.choice.skips, "WordInUse")
             self.channel_of_guard(self.c, 2)
-            is_ready = self.disable(self.c)
+            is_ready = self.disable_link(self.c) if is_link(self.c) else self.disable(self.c)
         self.select(is_ready)
 
     def disable(self, channel):
         """Disables a channel; tells whether a sender waits. One for which the process waited did not make it go on, so
         no sender may be there."""
-        found, is_ready = self.step.look(self.half(channel, True)), has_sender(self.step, channel)
-        require(isinstance(found, (Enabled, Awaited)) and found.process == self.step.agent.key, "ChannelMisuse")
+        found, is_ready = self.step.look(self.input(channel)), has_sender(self.step, channel)
+        require(self.has(found, Enabled, Awaited), "ChannelMisuse")
         require(isinstance(found, Enabled) or not is_ready, "SeveralReady")
-        self.step.put(self.half(channel, True), None)
+        self.give_up(channel)
         self.memory.use_word(channel, Use.CHANNEL)
         if not is_ready:
             self.step.put(self.memory.word_place(channel), Word(cells_of(NOT_PROCESS)))
-        self.set_ports(tuple(it for it in self.ports() if it != channel))
         return is_ready
+
+    def give_up(self, channel):
+        """The process has the input of a channel enabled no more."""
+        self.step.put(self.input(channel), None)
+        self.set_ports(tuple(it for it in self.ports() if it != channel))
+
+    def disable_link(self, channel):
+        """Disables a link; tells whether it made the process go on. Where it did not, the process listens next."""
+        found = self.step.look(self.input(channel))
+        require(self.has(found, Enabled, Awaited, Fired), "LinkBusy")
+        if isinstance(found, Fired):
+            self.give_up(channel)
+            return True
+        self.status, self.channel = Status.LISTENS, channel
+        return False
+
+    def listen(self, channel):
+        """Nobody may send at the far end of a link that is disabled: timing would decide whether a byte is noticed."""
+        far = self.step.machine.output_to(self.step.agent.node, self.link_of(True, channel))
+        require(far is None or not self.step.look(far), "SeveralReady")
+        require(self.has(self.step.look(self.input(channel)), Enabled, Awaited), "HasNoStep")
+        self.give_up(channel)
+        self.leave_with(self.context.stack)
 
     def do_diss(self):
         self.has_begun()
@@ -161,6 +196,15 @@ def lets_go_on(step, process):
     standing = step.look(place)
     require(standing.status is Status.CHOOSES, "SeveralReady")
     for other in step.look(step.place(Kind.PORTS, process)):
-        require(other == channel or not has_sender(step, other), "SeveralReady")
+        require(other == channel or is_link(other) or not has_sender(step, other), "SeveralReady")
     step.put(step.place(Kind.HALF, (channel, True)), Enabled(process))
+    step.put(place, Standing(Status.CHOSEN, standing.context._replace(choice=Choice(True))))
+
+
+def link_lets_go_on(step, process):
+    """A link at which a message is offered makes the process go on that waits for it and for others."""
+    place = step.place(Kind.STANDING, process)
+    standing = step.look(place)
+    require(standing.status is Status.CHOOSES, "SeveralReady")
+    step.put(step.place(Kind.LINK_HALF, (step.agent.key, True)), Fired(process))
     step.put(place, Standing(Status.CHOSEN, standing.context._replace(choice=Choice(True))))

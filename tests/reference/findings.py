@@ -38,6 +38,8 @@ def place_text(place):
     kind, node, key = place
     if kind in (Kind.WORD, Kind.SENDING):
         return f"node {node} word {address(LOWEST + 4 * key)}"
+    if kind is Kind.UNFINISHED:
+        return f"node {node} output of link {key}"
     if kind in (Kind.HALF, Kind.LINK_HALF):
         side = "input" if key[1] else "output"
         return f"node {node} {side} of {kind.value} {address(key[0]) if kind is Kind.HALF else key[0]}"

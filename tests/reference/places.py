@@ -1,4 +1,5 @@
 """The places of the process machine, what is there, and the changes that a step makes (docs/MACHINE.md, section 17)."""
+import dataclasses
 import enum
 from typing import NamedTuple, Optional
 
@@ -53,28 +54,38 @@ class Choice(NamedTuple):
     skips: bool = False
 
 
-class Enabled(NamedTuple):
-    """The input of a channel that a process has enabled."""
+@dataclasses.dataclass(frozen=True)
+class Enabled:
+    """The input of a channel or a link that a process has enabled."""
 
     process: tuple
 
 
-class Awaited(NamedTuple):
-    """The input of a channel for which a process waits, and for others."""
+@dataclasses.dataclass(frozen=True)
+class Awaited:
+    """The input of a channel or a link for which a process waits, and for others."""
+
+    process: tuple
+
+
+@dataclasses.dataclass(frozen=True)
+class Fired:
+    """The input of a link that made a process go on, which has not disabled it yet."""
 
     process: tuple
 
 
 class Status(enum.Enum):
     """How a process stands: one that rests has given way, and goes on by a step of its own; one that chooses waits for
-    the channels that it has enabled, and one that is chosen goes on since one of them made it ready."""
+    the channels that it has enabled, and one that is chosen goes on since one of them made it ready. One that listens
+    has disabled a link, and finds out by a step of its own that nobody sends there."""
 
     ABSENT, RESTS, RUNS, WAITS, ENDED = "absent", "rests", "runs", "waits", "ended"
-    CHOOSES, CHOSEN = "chooses", "chosen"
+    CHOOSES, CHOSEN, LISTENS = "chooses", "chosen", "listens"
 
 
 # A process that stands so has a step.
-READY = (Status.RESTS, Status.RUNS, Status.CHOSEN)
+READY = (Status.RESTS, Status.RUNS, Status.CHOSEN, Status.LISTENS)
 
 
 class Context(NamedTuple):
@@ -91,16 +102,11 @@ class Context(NamedTuple):
 
 
 class Standing(NamedTuple):
-    """How a process stands, and with what."""
+    """How a process stands, and with what; at which channel of a link it listens, if it does."""
 
     status: Status = Status.ABSENT
     context: Optional[Context] = None
-
-
-class LinkHalf(enum.Enum):
-    """Half of a link that has no message: a copied output is not over until its sender goes on."""
-
-    EMPTY, COPIED = "empty", "copied"
+    channel: Optional[int] = None
 
 
 class Kind(str, enum.Enum):
@@ -112,7 +118,8 @@ class Kind(str, enum.Enum):
     PORTS = "ports"  # the channels that a process has enabled, by its name
     # Half of an internal channel, by address and whether it is the input: None, an offer, or who has enabled it.
     HALF = "channel"
-    LINK_HALF = "link"  # half of a link, by number and whether it is the input
+    LINK_HALF = "link"  # the same of a link, by number and whether it is the input
+    UNFINISHED = "unfinished"  # whether an output was copied whose sender has not gone on, by the number of its link
     ERROR, HALTING = "Error", "HaltOnError"
     LIFE = "workspace"  # how many processes have a workspace, by its address
     SUCCESSIONS = "successors at"  # how many successors went on at a workspace, by its address
@@ -130,8 +137,9 @@ class Place(NamedTuple):
 
 # What stands at each place before the first step, if nothing else is said.
 FIRST_VALUES = {
-    Kind.WORD: Word(), Kind.SENDING: 0, Kind.STANDING: Standing(), Kind.HALF: None, Kind.LINK_HALF: LinkHalf.EMPTY,
-    Kind.ERROR: False, Kind.HALTING: False, Kind.LIFE: 0, Kind.SUCCESSIONS: 0, Kind.KEPT: (), Kind.PORTS: (),
+    Kind.WORD: Word(), Kind.SENDING: 0, Kind.STANDING: Standing(), Kind.HALF: None, Kind.LINK_HALF: None,
+    Kind.UNFINISHED: False, Kind.ERROR: False, Kind.HALTING: False, Kind.LIFE: 0, Kind.SUCCESSIONS: 0, Kind.KEPT: (),
+    Kind.PORTS: (),
 }
 
 

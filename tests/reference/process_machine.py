@@ -1,11 +1,11 @@
 """The process machine (docs/MACHINE.md, section 17): each process that is ready has a step, and no queue, timeslice or
 interrupt decides whose turn it is. A step is told by what it has seen and what it changes."""
 from channels import is_link
-from choosing import Choosing, lets_go_on
+from choosing import Choosing, lets_go_on, link_lets_go_on
 from memory import Break, Memory, Offer, require
 from net import Sink, Source
 from places import (DECREMENTS, FIRST_VALUES, LAST, READY, REFUSALS, UNKNOWN, Act, Agent, AgentKind, Awaited, Change,
-                    Context, Kind, LinkHalf, Loan, Place, Standing, Status, Use, Word, cells_of)
+                    Context, Kind, Loan, Place, Standing, Status, Use, Word, cells_of)
 from processes import LOW
 from processor import Processor
 from words import IPTR, LOWEST, MODULUS, NEXT, NOT_PROCESS, STATE, workspace_of
@@ -152,7 +152,7 @@ ON_FLAGS = ("testerr", "testhalterr", "sethalterr", "clrhalterr")
 
 
 class Turn(Choosing, Processor):
-    """One step of a process: it goes on after a rest or a choice, or does an instruction."""
+    """One step of a process: it goes on after a rest or a choice, listens at a link, or does an instruction."""
 
     def __init__(self, step, context):
         self.step, self.context, self.kind = step, context, step.machine.kinds[step.agent.node]
@@ -162,12 +162,12 @@ class Turn(Choosing, Processor):
         self.children, self.choice = context.children, context.choice
         # As if an error halted the node: it tells that the instruction sets Error.
         self.error, self.halt_on_error, self.is_halted = False, True, False
-        self.status = Status.RUNS
+        self.status, self.channel = Status.RUNS, None
 
     def leave_with(self, stack):
         """The process stands as it does after this step."""
         context = Context(self.current, self.wptr, self.iptr, stack, self.children, choice=self.choice)
-        standing = Standing(self.status, None if self.status is Status.ENDED else context)
+        standing = Standing(self.status, None if self.status is Status.ENDED else context, self.channel)
         self.step.put(self.step.place(Kind.STANDING, self.step.agent.key), standing)
 
     def go_on(self):
@@ -177,9 +177,9 @@ class Turn(Choosing, Processor):
         if loan:
             self.memory.touch(loan.buffer, loan.length, False)
             self.memory.count_output(loan.buffer, loan.length, -1)
-            half = self.step.place(Kind.LINK_HALF, (loan.link, False))
-            require(self.step.look(half) is LinkHalf.COPIED, "HasNoStep")
-            self.step.put(half, LinkHalf.EMPTY)
+            unfinished = self.step.place(Kind.UNFINISHED, loan.link)
+            require(self.step.look(unfinished), "HasNoStep")
+            self.step.put(unfinished, False)
         self.leave_with(self.context.stack)
 
     def do_next(self):
@@ -226,7 +226,7 @@ class Turn(Choosing, Processor):
             self.step.change(self.step.place(Kind.LIFE, self.context.wptr), Act.ADD, -1)
             if self.status is not Status.ENDED:
                 self.step.change(self.step.place(Kind.LIFE, self.wptr), Act.ADD, 1)
-        self.leave_with(stack if self.status is Status.RUNS else (None, None, None))
+        self.leave_with(stack if self.status in (Status.RUNS, Status.LISTENS) else (None, None, None))
 
     def may_end_timeslice(self):
         """Whether the process gives way is told at the end."""
@@ -279,9 +279,9 @@ class Turn(Choosing, Processor):
         take_half(is_input, length, channel, buffer)
         self.status = Status.WAITS
 
-    def take_half(self, half, empty, fault, buffer, length):
+    def take_half(self, half, fault, buffer, length):
         """Takes half of a channel or a link, which is empty."""
-        require(self.step.look(half) is empty, fault)
+        require(self.step.look(half) is None, fault)
         self.step.put(half, Offer(self.step.agent.key, buffer, length))
 
     def on_internal_channel(self, is_input, length, channel, buffer):
@@ -289,7 +289,7 @@ class Turn(Choosing, Processor):
         self.memory.bound(channel, 4)
         require(not overlap(buffer, length, channel, 4), "BufferOverChannel")
         half = self.step.place(Kind.HALF, (channel, is_input))
-        self.take_half(half, None, "ChannelMisuse", buffer, length)
+        self.take_half(half, "ChannelMisuse", buffer, length)
         self.memory.not_sent(self.memory.word_place(channel))
         self.memory.save(self.wptr, False)
         self.step.change(self.memory.word_place(channel), Act.ENGAGE)
@@ -298,8 +298,8 @@ class Turn(Choosing, Processor):
     def on_link(self, is_input, length, channel, buffer):
         link = self.link_of(is_input, channel)
         require(length != 0, "ZeroLength")
-        half = self.step.place(Kind.LINK_HALF, (link, is_input))
-        self.take_half(half, LinkHalf.EMPTY, "LinkBusy", buffer, length)
+        self.take_half(self.step.place(Kind.LINK_HALF, (link, is_input)), "LinkBusy", buffer, length)
+        require(is_input or not self.step.look(self.step.place(Kind.UNFINISHED, link)), "LinkBusy")
         self.memory.save(self.wptr, True)
         self.memory.touch(buffer, length, is_input)
         if is_input:
@@ -320,19 +320,21 @@ def process_step(step):
     if standing.status is Status.RUNS:
         turn.do_next()
         return
-    step.text = "goes on"
+    step.text = "listens" if standing.status is Status.LISTENS else "goes on"
     if standing.status is Status.RESTS:
         turn.go_on()
-    else:
+    elif standing.status is Status.CHOSEN:
         turn.go_on_chosen()
+    else:
+        turn.listen(standing.channel)
 
 
 def wake(step, node, process, loan=None):
     """A process that waited rests: its message is copied."""
     place = Place(Kind.STANDING, node, process)
-    status, context = step.look(place)
-    require(status is Status.WAITS, "HasNoStep")
-    step.put(place, Standing(Status.RESTS, context._replace(loan=loan)))
+    standing = step.look(place)
+    require(standing.status is Status.WAITS, "HasNoStep")
+    step.put(place, Standing(Status.RESTS, standing.context._replace(loan=loan)))
 
 
 def channel_step(step):
@@ -358,12 +360,18 @@ def channel_step(step):
 
 
 def wire_step(step):
-    """A message is copied over a wire."""
+    """A message is copied over a wire. A process that waits for this link and for others goes on, and takes the message
+    later."""
+    # Of a sink there is no input half.
+    *asked, output = map(step.look, reversed(step.machine.gates(step.agent)))
+    if asked and isinstance(asked[0], Awaited):
+        step.text = "chooses"
+        link_lets_go_on(step, asked[0].process)
+        return
     step.text = "copies"
-    output, *inputs = map(step.look, step.machine.gates(step.agent))
     step.message = content = taken(step, output)
-    if inputs:
-        deliver(step, inputs[0], content)
+    if asked:
+        deliver(step, asked[0], content)
     else:
         place = step.place(Kind.KEPT)
         kept = step.look(place)
@@ -380,7 +388,8 @@ def taken(step, output):
         return tuple(output[0])
     memory, (link, _) = Looks(step, far.node), far.key
     memory.touch(output.buffer, output.length, False)
-    step.put(far, LinkHalf.COPIED)
+    step.put(far, None)
+    step.put(far._replace(kind=Kind.UNFINISHED, key=link), True)
     wake(step, far.node, output.process, Loan(link, output.buffer, output.length))
     return tuple(memory.cells(output.buffer, output.length))
 
@@ -391,7 +400,7 @@ def deliver(step, asked, content):
     require(asked.length == len(content), "LengthMismatch")
     memory.touch(asked.buffer, asked.length, False, use=Use.RECEIVING)
     memory.set_cells(asked.buffer, content)
-    step.put(step.place(Kind.LINK_HALF, (step.agent.key, True)), LinkHalf.EMPTY)
+    step.put(step.place(Kind.LINK_HALF, (step.agent.key, True)), None)
     wake(step, step.agent.node, asked.process)
 
 
@@ -495,11 +504,16 @@ class ProcessMachine:
             return [Place(Kind.HALF, node, (key, is_input)) for is_input in (False, True)]
         if kind is AgentKind.SUCCESSOR:
             return [Place(Kind.WORD, node, (key + 4 - LOWEST) // 4)]
-        number, link = self.net.far[node, key]
-        is_source = isinstance(self.net.parts[number], Source)
-        output = Place(Kind.MESSAGES, number) if is_source else Place(Kind.LINK_HALF, number, (link, False))
-        is_sink = isinstance(self.net.parts[node], Sink)
+        output, is_sink = self.output_to(node, key), isinstance(self.net.parts[node], Sink)
         return [output] if is_sink else [output, Place(Kind.LINK_HALF, node, (key, True))]
+
+    def output_to(self, node, link):
+        """Returns the place of what is offered at the far end of a link, or None if there is no wire."""
+        if (node, link) not in self.net.far:
+            return None
+        number, far = self.net.far[node, link]
+        is_source = isinstance(self.net.parts[number], Source)
+        return Place(Kind.MESSAGES, number) if is_source else Place(Kind.LINK_HALF, number, (far, False))
 
     def is_open(self, place):
         """Tells whether a gate is open."""
