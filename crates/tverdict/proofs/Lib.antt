@@ -54,5 +54,7 @@ pub mod FoundAgents
 pub mod Starting
 -- Sources and sinks as places.
 pub mod Scripted
+-- Steps of a process that goes on.
+pub mod Still
 -- Steps that were made.
 pub mod Turned

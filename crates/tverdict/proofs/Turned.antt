@@ -2,7 +2,7 @@
 use Rattle.std.proofs.Common.{◌≡◌, ◌<◌, ◌≤◌, ◌+◌, ℕ, inl, inr, sym, ap, ◌∙◌, subst, List, [], ◌∷◌, ◌++◌, Some}
 use Rattle.std.proofs.Common.{length}
 use Rattle.std.proofs.Common.{arith}
-use Rattle.std.specs.Prelude.{slice_get}
+use Rattle.std.specs.Prelude.{IfOk, Result, Ok, Err, slice_get}
 use Rattle.std.proofs.lemmas.List.{length_push}
 use Rattle.tplan.specs.declared.plan.Plan.{Plan}
 use Rattle.tverdict.specs.declared.agent.Agent.{Agent}
@@ -13,6 +13,7 @@ use Rattle.tverdict.specs.declared.turn.Turn.TheVariants as turn
 use Rattle.tverdict.specs.Machines.{Follows, HasNoStep, HasStep}
 use Rattle.tverdict.specs.Next.{IsLookedAt, IsLookedOver}
 use Rattle.tverdict.specs.Stepping.{KeepsAgents}
+use Rattle.tverdict.specs.Still.{HasGone, HasTurned}
 use Rattle.tverdict.specs.Turns.{HasMade, IsTurned}
 use Rattle.tverdict.proofs.Keeping.{get_more}
 use Rattle.tverdict.proofs.Looked.{added_sound, follows_still, steps_stay}
@@ -71,13 +72,38 @@ cut plan old mid last number over f had same adds most enough = (
   (number, steps_stay plan mid last same number had),
 )
 
--- what a turn tells where an agent has made a step, and where no agent has one
-pub made_follows : (plan : Plan) (old new : Machine) (t : Turn) (n : ℕ) → t ≡ turn.Made n → IsTurned plan old t new
-    → Follows plan new
-made_follows plan old new t n is turned = (subst (λ (u : Turn). IsTurned plan old u new) is turned).follows
+-- a turn alone
+pub one_turned : (plan : Plan) (old new : Machine) (t : Turn) → IsTurned plan old t new → HasTurned plan old t new
+one_turned plan old new (turn.Made k) made = (made.follows, grown made.done)
+  where
+    grown : new.done ≡ old.done + 1 → old.done < new.done
+    grown one = omega (arith, one)
+one_turned plan old new turn.Over over = (over.0, over.1)
+one_turned plan old new (turn.Stops k why) h = h
+one_turned plan old new (turn.Race race) h = h
 
-pub over_follows : (plan : Plan) (old new : Machine) (t : Turn) → t ≡ turn.Over → IsTurned plan old t new
+-- where the agent of a turn goes on
+module _ (plan : Plan) (old mid new : Machine) (number : ℕ) (made : HasMade plan old number mid) where
+  gone_turned : (t : Turn) → HasGone plan mid t new → HasTurned plan old t new
+  gone_turned (turn.Made k) (follows, more) = (follows, grown made.done more)
+    where
+      grown : mid.done ≡ old.done + 1 → mid.done ≤ new.done → old.done < new.done
+      grown one more = omega (arith, one, more)
+  gone_turned turn.Over none = absurd none
+  gone_turned (turn.Stops k why) h = h
+  gone_turned (turn.Race race) h = h
+
+  pub all_turned : {E : Type 0} (r : Result Turn E)
+      → IfOk r (λ t. (p : Plan) → Follows p mid → HasGone p mid t new) → IfOk r (λ t. HasTurned plan old t new)
+  all_turned (Ok t) h = gone_turned t (h plan made.follows)
+  all_turned (Err e) h = tt
+
+-- what a turn tells where an agent has made steps, and where no agent has one
+pub made_follows : (plan : Plan) (old new : Machine) (t : Turn) (n : ℕ) → t ≡ turn.Made n → HasTurned plan old t new
+    → Follows plan new
+made_follows plan old new t n is turned =
+    let made : HasTurned plan old (turn.Made n) new = subst (λ (u : Turn). HasTurned plan old u new) is turned in made.0
+
+pub over_follows : (plan : Plan) (old new : Machine) (t : Turn) → t ≡ turn.Over → HasTurned plan old t new
     → Follows plan new × HasNoStep plan new
-over_follows plan old new t is turned =
-    let over : IsTurned plan old turn.Over new = subst (λ (u : Turn). IsTurned plan old u new) is turned in
-    (over.0, over.1)
+over_follows plan old new t is turned = subst (λ (u : Turn). HasTurned plan old u new) is turned

@@ -19,6 +19,8 @@ pub mod Coming
 pub mod Told
 -- a step as a call on one node
 pub mod Calls
+-- steps of a process that goes on and touches nothing new
+pub mod Still
 -- the step of an agent, from the call on
 pub mod Stepping
 -- the halves of a step at two nodes

@@ -15,6 +15,7 @@
 //! - `coming`, `leading`: agents that come, and to which a step leads
 //! - `hints`: where to look first for an agent
 //! - `stepping`, `finishing`: the step of an agent, and what follows the call that does it
+//! - `going`: the steps of a process that goes on, in one call
 //! - `passing`: the steps of wires; `firing`: how an input makes a process go on that waits for it and for others
 //! - `listening`: the step of a process that listens to a link which did not make it go on
 //! - `lodging`: the berths of nodes, which their processes take by turns
@@ -28,6 +29,7 @@ mod endings;
 mod finding;
 mod finishing;
 mod firing;
+mod going;
 mod halt;
 mod hints;
 mod idle;

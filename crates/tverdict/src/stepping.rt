@@ -42,7 +42,7 @@ impl Machine {
 
     /// Whether the last step was that of the agent of this number, at this node.
     #[inline(always)]
-    fn was_last(&self, number: u32, node: u32) -> bool
+    pub(crate) fn was_last(&self, number: u32, node: u32) -> bool
         ensures { result ≡ true → IsLast self.now number node }
     {
         match self.last {

@@ -2,6 +2,7 @@
 
 ghost use Rattle.std.specs.Prelude.{ℕ, ◌≡◌, ◌≤◌, IfOk, OnOk};
 ghost use Rattle.tverdict.specs.Machines.{Follows};
+ghost use Rattle.tverdict.specs.Still.{HasTurned};
 ghost use Rattle.tverdict.specs.Turns.{IsTurned};
 ghost use Rattle.tverdict.specs.Verdicts.{IsTold};
 ghost use Rattle.tverdict.specs.declared.verdict.Verdict.TheVariants as verdicts;
@@ -50,6 +51,25 @@ impl Machine {
         }
     }
 
+    /// The same, and its agent goes on at its node, as long as permitted. Where an agent has come it does not: the node
+    /// may be too full then.
+    ///
+    /// # Errors
+    /// Those of `turn`.
+    #[inline(always)]
+    fn turns(&mut self, alloc: Global, plan: &Plan, most_steps: u64) -> Result<Turn, AllocError>
+        requires { Follows plan.now self.old }
+        ensures { IfOk result (λ turn. HasTurned plan.now self.old turn self.new) }
+    {
+        let noted = self.hints.noted();
+        match self.turn(alloc, plan)? {
+            Turn::Made(number) if noted == self.hints.noted() => {
+                self.go_further(alloc, number, most_steps)
+            }
+            other => Ok(other),
+        }
+    }
+
     /// The verdict where as many steps as permitted are done.
     fn at_limit(&mut self, plan: &Plan) -> Result<Verdict, AllocError>
         requires { Follows plan.now self.old }
@@ -82,7 +102,7 @@ impl Machine {
     {
         let mut noted = self.hints.noted();
         while self.done < most_steps {
-            match self.turn(alloc, plan)? {
+            match self.turns(alloc, plan, most_steps)? {
                 Turn::Made(_) => {
                     if noted != self.hints.noted() {
                         noted = self.hints.noted();
