@@ -187,7 +187,7 @@ impl Node {
     /// # Errors
     /// Those of `instructs` and of what follows.
     #[inline(always)]
-    pub(crate) fn executes_here(
+    fn executes(
         &mut self,
         alloc: Global,
         idle: &mut IdleMemory,

@@ -2,7 +2,7 @@ use Rattle.tcertify.specs.Carried.{followed}
 use Rattle.tcertify.specs.Contexts.{context_of}
 use Rattle.tcertify.specs.Words.{reason_of}
 use Rattle.tcertify.proofs.Completing.{executes, instructs_not}
-use Rattle.tcertify.proofs.node.Node.executes_here.Goals as goal
+use Rattle.tcertify.proofs.node.Node.executes.Goals as goal
 
 pub returns-in-Ok-clause-done : goal.returns-in-Ok-clause-done
 returns-in-Ok-clause-done c =
