@@ -116,3 +116,7 @@ pub mod OneSpot
 pub mod EndMessages
 -- Alternatives over links.
 pub mod LinkChoices
+-- The commonest instructions.
+pub mod Leaving
+pub mod AtOnce
+pub mod Memory

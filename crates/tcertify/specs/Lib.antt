@@ -43,6 +43,8 @@ pub mod Nodes
 -- parts of operations of the scheduler, and of steps
 pub mod Scheduling
 pub mod Steps
+-- the commonest instructions
+pub mod Common
 -- parts of messages, and of alternatives
 pub mod Messages
 pub mod Choosing

@@ -153,7 +153,7 @@ impl Context {
 
 /// A value, where it is known.
 #[inline(always)]
-fn known_value(known: bool, value: Word) -> Option<Word>
+pub(crate) fn known_value(known: bool, value: Word) -> Option<Word>
     ensures { result ≡ values.known_value known value }
 {
     if known { Some(value) } else { None }

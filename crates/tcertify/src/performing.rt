@@ -40,7 +40,7 @@ impl Done {
 
 /// The address of the word at an index from a base on.
 #[inline(always)]
-fn word_address(base: Word, index: Word) -> Word
+pub(crate) fn word_address(base: Word, index: Word) -> Word
     ensures { result ≡ word_from base index }
 {
     base.plus(Word::new(index.get().wrapping_mul(4)))

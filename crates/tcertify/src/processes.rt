@@ -5,9 +5,12 @@ ghost use Rattle.std.specs.Prelude.{slice_get, slice_set};
 ghost use Rattle.std.specs.Prelude.{Some, None, true};
 ghost use Rattle.tprocesses.specs.Choosing.{with_port, without_port};
 ghost use Rattle.tprocesses.specs.Places.{same_path, same_root};
+ghost use Rattle.tcertify.specs.Carried.{with_registers};
 ghost use Rattle.tcertify.specs.Finding.{IsFound};
 ghost use Rattle.tcertify.specs.Processes.{HasPortsIn, IsStoodIn, name_of, root_of};
+ghost use Rattle.tcertify.specs.declared.standing.Stand.TheVariants.{Runs};
 
+use crate::context::{Context, Left};
 use crate::process::{Process, Root};
 use crate::process_table::Processes;
 use crate::standing::Stand;
@@ -108,6 +111,25 @@ impl Processes {
     {
         let process = &mut self.items[number];
         process.stand = stand;
+        process.place
+    }
+
+    /// A process that runs has these registers now, and the same workspace. Answers the number of its place.
+    #[inline(always)]
+    pub(crate) fn set_left(&mut self, number: usize, context: &Context, left: Left) -> u32
+        requires there { number < length self.old.items.items }
+        requires runs { option_map (λ p. p.stand) (slice_get self.old.items.items number) ≡ Some (Runs context.now) }
+        requires workspace { left.wptr ≡ context.now.wptr }
+        ensures { IsStoodIn self.old.items.items number (Runs (with_registers context.now left)) result
+            self.new.items.items }
+    {
+        let process = &mut self.items[number];
+        if let Stand::Runs(now) = &mut process.stand {
+            now.iptr = left.iptr;
+            now.a = left.a;
+            now.b = left.b;
+            now.c = left.c;
+        }
         process.place
     }
 
