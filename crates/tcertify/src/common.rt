@@ -5,13 +5,13 @@ ghost use Rattle.tword.specs.Words.{overflows, plus, reduced, signed};
 ghost use Rattle.tword.specs.declared.kind.Kind.{Kind};
 ghost use Rattle.tcpu.specs.Outcomes.{flag};
 ghost use Rattle.tcertify.specs.Carried.{with_left};
-ghost use Rattle.tcertify.specs.Common.{LeavesAlone};
+ghost use Rattle.tcertify.specs.Common.{LeavesAlone, MakesOne};
 ghost use Rattle.tcertify.specs.Contexts.{context_of};
 
 use crate::context::{Context, Left};
 use crate::performing::word_address;
-use tcode::{Function, Instruction};
-use tword::Word;
+use tcode::{Function, Instruction, Operation, operation_of};
+use tword::{Kind, Word};
 
 impl Context {
     /// The registers that an instruction leaves, which puts these into the place of A, B and C.
@@ -125,11 +125,41 @@ fn jumped(context: &Context, instruction: &Instruction, a: Word) -> Left
     }
 }
 
-/// The registers that an instruction leaves, if it is one of the commonest of those that touch no memory, the register
-/// that it needs is known, and it does not set Error.
+/// What an operation makes of B and A, if it is one of the commonest of those that leave one value in the place of both.
 #[inline(always)]
-pub(crate) fn left_alone(context: &Context, instruction: &Instruction) -> Option<Left>
-    ensures { IfSome result (λ left. (kind : Kind) → LeavesAlone kind (context_of context.now) instruction.now
+fn made_of_two(operation: Operation, b: Word, a: Word) -> Option<Word>
+    ensures { IfSome result (λ value. MakesOne operation b a value) }
+{
+    match operation {
+        Operation::Bsub => Some(a.plus(b)),
+        Operation::Wsub => Some(word_address(a, b)),
+        Operation::Sum => Some(b.plus(a)),
+        Operation::Diff => Some(b.minus(a)),
+        Operation::Gt => Some(truth(b.signed() > a.signed())),
+        Operation::And => Some(Word::new(b.get() & a.get())),
+        Operation::Or => Some(Word::new(b.get() | a.get())),
+        Operation::Xor => Some(Word::new(b.get() ^ a.get())),
+        _ => None,
+    }
+}
+
+/// The registers that an operation leaves, if it is one of those and both registers are known.
+#[inline(always)]
+fn operated(context: &Context, instruction: &Instruction, kind: Kind) -> Option<Left>
+    requires { instruction.now.function ≡ Function.Opr }
+    ensures { IfSome result (λ left. LeavesAlone kind (context_of context.now) instruction.now
+        (with_left (context_of context.now) left)) }
+{
+    let operation = operation_of(instruction.operand, kind)?;
+    let value = made_of_two(operation, context.b?, context.a?)?;
+    Some(context.left_with(instruction, Some(value), context.c, context.c))
+}
+
+/// The registers that an instruction leaves, if it is one of the commonest of those that touch no memory, what it needs
+/// is known, and it does not set Error.
+#[inline(always)]
+pub(crate) fn left_alone(context: &Context, instruction: &Instruction, kind: Kind) -> Option<Left>
+    ensures { IfSome result (λ left. LeavesAlone kind (context_of context.now) instruction.now
         (with_left (context_of context.now) left)) }
 {
     let operand = instruction.operand;
@@ -152,6 +182,7 @@ pub(crate) fn left_alone(context: &Context, instruction: &Instruction) -> Option
             Some(context.replaced(instruction, Some(equal)))
         }
         Function::Cj => Some(jumped(context, instruction, context.a?)),
+        Function::Opr => operated(context, instruction, kind),
         _ => None,
     }
 }

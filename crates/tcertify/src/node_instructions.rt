@@ -209,7 +209,7 @@ impl Node {
             Function::Ldnl => self.loads_non_local(process, context, &instruction),
             Function::Stl => self.stores_local(process, context, &instruction),
             Function::Stnl => self.stores_non_local(process, context, &instruction),
-            _ => match left_alone(context, &instruction) {
+            _ => match left_alone(context, &instruction, self.words.kind) {
                 Some(left) => {
                     self.goes_on_alone(process, context, &instruction, left);
                     Ok(())
