@@ -3,13 +3,13 @@
 ghost use Rattle.tcertify.specs.Channels.{address_of};
 ghost use Rattle.tcertify.specs.Finding.{AreApart};
 
+use crate::address_hints::AddressHints;
 use crate::channel::Channel;
-use tword::Hints;
 
 /// The internal channels of a node of which a half was ever looked at.
 #[derive(Drop)]
 pub struct Channels {
     pub items: Vec<Channel>,
-    pub hints: Hints,
+    pub hints: AddressHints,
     ghost apart: { AreApart address_of items.items },
 }

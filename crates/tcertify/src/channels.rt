@@ -5,11 +5,12 @@ ghost use Rattle.tcertify.specs.Channels.{AreEmpty, IsHalfSet, IsLinkSet, IsUnfi
 ghost use Rattle.tcertify.specs.Channels.{half_of, halves_of};
 ghost use Rattle.tcertify.specs.Finding.{IsFound};
 
+use crate::address_hints::AddressHints;
 use crate::channel::{Channel, Half, Holder, LinkHalf, Links};
 use crate::channel_table::Channels;
 use crate::side::Side;
 use std::alloc::{AllocError, Global};
-use tword::{Hints, Word};
+use tword::Word;
 
 impl Channel {
     /// A half of the channel.
@@ -34,7 +35,7 @@ impl Channels {
     {
         Ok(Channels {
             items: Vec::new(alloc),
-            hints: Hints::new(alloc, size)?,
+            hints: AddressHints::new(alloc, size)?,
         })
     }
 

@@ -1,6 +1,7 @@
 //! The process machine as a program: it does the steps of processes on the words of their nodes.
 #![tactic(auto)]
 
+mod address_hints;
 mod alone;
 mod carrying;
 mod cells;

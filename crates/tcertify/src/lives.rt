@@ -4,10 +4,11 @@ ghost use Rattle.std.specs.Prelude.{ℕ, ◌≡◌, ◌<◌, ◌++◌, ◌∷◌
 ghost use Rattle.tcertify.specs.Finding.{IsFound};
 ghost use Rattle.tcertify.specs.Lives.{workspace_of};
 
+use crate::address_hints::AddressHints;
 use crate::life::Life;
 use crate::life_table::Lives;
 use std::alloc::{AllocError, Global};
-use tword::{Hints, Word};
+use tword::Word;
 
 impl Lives {
     /// No workspaces, for a memory of `size` bytes.
@@ -19,7 +20,7 @@ impl Lives {
     {
         Ok(Lives {
             items: Vec::new(alloc),
-            hints: Hints::new(alloc, size)?,
+            hints: AddressHints::new(alloc, size)?,
         })
     }
 
