@@ -12,13 +12,9 @@ use Rattle.tprocesses.specs.Values as value
 use Rattle.tprocesses.specs.Values.{Context, IsCount, IsWord, Last, Use, Value, Word, count_in, word_in}
 use Rattle.tcertify.specs.declared.fault.Fault.{Fault}
 use Rattle.tcertify.specs.declared.node.Node.{Node}
-use Rattle.tcertify.specs.declared.priority.Priority.{Priority}
-use Rattle.tcertify.specs.declared.word_use.WordUse.{WordUse}
-use Rattle.tcertify.specs.declared.word_use.WordUse.TheVariants as uses
 use Rattle.tcertify.specs.Messages.{succeeds, takes_over}
 use Rattle.tcertify.specs.Nodes.{Does, RunsAt, node_site, nothing}
 use Rattle.tcertify.specs.Scheduling.{first_address}
-use Rattle.tcertify.specs.Words.{use_of}
 use Rattle.tcertify.proofs.NodeRunning.{bind_assoc, does_on, does_stop, runs_at_on, runs_at_stop, runs_at_stopped}
 
 -- a part of the site that follows another one
@@ -151,14 +147,3 @@ module _ (a b : Node) (k : ℕ) (word : Word)
   all_ended c r p e h =
       does_next a b c (see (WordAt (node_site a).number k)) goes_by (IsWord word) first nothing r
       (subst (λ (u : Use). Does (goes_on_after (node_site b) k u) nothing b r c) (sym e) h)
-
--- a use that is none of a count whose last process has ended
-pub no_last : (u : WordUse) → ((q : Priority) → u ≡ uses.Last q → ⊥) → (p : ℕ) → use_of u ≡ Last p → ⊥
-no_last uses.Free n p e = cc
-no_last uses.Saved n p e = cc
-no_last uses.Receiving n p e = cc
-no_last uses.Engaged n p e = cc
-no_last uses.Choosing n p e = cc
-no_last uses.Awaiting n p e = cc
-no_last (uses.Last q) n p e = n q refl
-no_last uses.Spoilt n p e = cc

@@ -13,6 +13,7 @@ use Rattle.tprocesses.specs.Changes.{free_word}
 use Rattle.tprocesses.specs.Touching.{Site}
 use Rattle.tcertify.specs.declared.notes.Mode.{Mode}
 use Rattle.tcertify.specs.declared.cells.Cells.{Cells}
+use Rattle.tcertify.specs.declared.priority.Priority.TheVariants.{High, Low}
 use Rattle.tcertify.specs.declared.stop.Stop.{Stop}
 use Rattle.tcertify.specs.declared.stop.Stop.TheVariants as stop
 use Rattle.tcertify.specs.declared.word_use.WordUse.{WordUse}
@@ -43,7 +44,8 @@ use_of uses.Receiving = value.Receiving
 use_of uses.Engaged = value.Engaged
 use_of uses.Choosing = value.Choosing
 use_of uses.Awaiting = value.Awaiting
-use_of (uses.Last p) = value.Last (number_of p)
+use_of uses.LastHigh = value.Last (number_of High)
+use_of uses.LastLow = value.Last (number_of Low)
 use_of uses.Spoilt = value.Spoilt
 
 -- a stored word

@@ -30,7 +30,7 @@ impl Node {
         requires { count < length self.old.words.items.items }
         ensures { Does (spec.successor_step count (node_site self.old)) nothing self.old result self.new }
     {
-        let WordUse::Last(priority) = self.look(count as usize).used else {
+        let Some(priority) = self.look(count as usize).used.last_priority() else {
             return Err(Fault::Stops(Stop::WordInUse));
         };
         self.goes_on_after(alloc, count, priority)

@@ -19,7 +19,6 @@ ghost use Rattle.tcertify.specs.Words.{HasCells, Runs, site_of, told, use_of, wo
 
 use crate::cells::Cells;
 use crate::notes::Mode;
-use crate::priority::Priority;
 use crate::stop::Stop;
 use crate::stored::{StoredWord, Words};
 use crate::word_use::WordUse;
@@ -78,8 +77,8 @@ fn is_same(used: WordUse, other: WordUse) -> bool
         | (WordUse::Choosing, WordUse::Choosing)
         | (WordUse::Awaiting, WordUse::Awaiting)
         | (WordUse::Spoilt, WordUse::Spoilt)
-        | (WordUse::Last(Priority::High), WordUse::Last(Priority::High))
-        | (WordUse::Last(Priority::Low), WordUse::Last(Priority::Low)) => true,
+        | (WordUse::LastHigh, WordUse::LastHigh)
+        | (WordUse::LastLow, WordUse::LastLow) => true,
         _ => false,
     }
 }

@@ -20,6 +20,8 @@ pub struct StoredWord {
     pub sending: u8,
 }
 
+const _: () = prove!(size_of::<StoredWord>() == 7);
+
 /// The words of a node's memory, from the lowest address on.
 #[derive(Drop)]
 pub struct Words {

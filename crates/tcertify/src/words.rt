@@ -432,7 +432,8 @@ fn free_for_programs(used: WordUse) -> Result<(), Stop>
         WordUse::Engaged
         | WordUse::Choosing
         | WordUse::Awaiting
-        | WordUse::Last(_)
+        | WordUse::LastHigh
+        | WordUse::LastLow
         | WordUse::Spoilt => Err(Stop::WordInUse),
     }
 }
@@ -449,7 +450,8 @@ fn is_saved(used: WordUse) -> bool
         | WordUse::Engaged
         | WordUse::Choosing
         | WordUse::Awaiting
-        | WordUse::Last(_)
+        | WordUse::LastHigh
+        | WordUse::LastLow
         | WordUse::Spoilt => false,
     }
 }
@@ -474,7 +476,8 @@ fn taken(used: WordUse, cells: &Cells) -> WordUse
         | WordUse::Receiving
         | WordUse::Choosing
         | WordUse::Awaiting
-        | WordUse::Last(_)
+        | WordUse::LastHigh
+        | WordUse::LastLow
         | WordUse::Spoilt => WordUse::Spoilt,
     }
 }
@@ -492,7 +495,7 @@ fn counted_down(used: WordUse, cells: &Cells, priority: Priority) -> (Cells, Wor
             }
             let count = cells.word();
             if count.get() == 1 {
-                return (Cells::unknown(), WordUse::Last(priority));
+                return (Cells::unknown(), WordUse::last(priority));
             }
             (Cells::known(count.minus(Word::new(1))), WordUse::Free)
         }
@@ -501,7 +504,8 @@ fn counted_down(used: WordUse, cells: &Cells, priority: Priority) -> (Cells, Wor
         | WordUse::Engaged
         | WordUse::Choosing
         | WordUse::Awaiting
-        | WordUse::Last(_)
+        | WordUse::LastHigh
+        | WordUse::LastLow
         | WordUse::Spoilt => (Cells::unknown(), WordUse::Spoilt),
     }
 }

@@ -139,7 +139,7 @@ pub(crate) fn awaits(used: WordUse) -> bool
     ensures { result ≡ awaits_successor (use_of used) }
 {
     match used {
-        WordUse::Last(_) | WordUse::Spoilt => true,
+        WordUse::LastHigh | WordUse::LastLow | WordUse::Spoilt => true,
         WordUse::Free
         | WordUse::Saved
         | WordUse::Receiving
