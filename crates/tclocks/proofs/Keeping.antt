@@ -7,7 +7,7 @@ use Rattle.std.proofs.lemmas.List.{get_or-set_same, get_or-set_other, length-set
 use Rattle.std.proofs.Math.Seq.{map-set_same}
 use Rattle.tclocks.specs.declared.step.Access.{Access}
 use Rattle.tclocks.specs.declared.kept.Kept.{Kept}
-use Rattle.tclocks.specs.declared.kept.Kept.TheVariants.{OfOne, UpToTwo, InList}
+use Rattle.tclocks.specs.declared.kept.Kept.TheVariants.{OfOne, UpToTwo, TwoChanges, PutAndChange, InList}
 use Rattle.tclocks.specs.Places.{first_race, NotesAccess}
 use Rattle.tclocks.specs.Kept.{accesses_of, AreOwned, IsOwned, IsBrief, IsNotedBriefly, IsKeptAt, IsNotedAt}
 use Rattle.tclocks.specs.Tables.{kept_at, IsNotedOnly}
@@ -19,7 +19,7 @@ all_of lists kept = map (accesses_of lists) kept
 
 pub at-place : (lists : List (List Access)) (kept : List Kept) (place : ℕ) → place < length kept
     → slice_index_or (all_of lists kept) place [] ≡ accesses_of lists (kept_at kept place)
-at-place lists kept place within = get_or-map (accesses_of lists) kept place (OfOne 0 0 0 0) [] within
+at-place lists kept place within = get_or-map (accesses_of lists) kept place (OfOne false 0 0 0) [] within
 
 pub within-all : (lists : List (List Access)) (kept : List Kept) (all : List (List Access)) (place : ℕ)
     → all_of lists kept ≡ all → place < length all → place < length kept
@@ -71,7 +71,7 @@ changed-at clock new lists lists' kept kept' place same within others notes =
 
 others-same : (kept : List Kept) (place : ℕ) (new : Kept) (q : ℕ) → q ≢ place
     → kept_at (slice_set kept place new) q ≡ kept_at kept q
-others-same kept place new q away = get_or-set_other kept place q new (OfOne 0 0 0 0) away
+others-same kept place new q away = get_or-set_other kept place q new (OfOne false 0 0 0) away
 
 -- what is kept of one place changes, and no list
 pub changed-briefly : (clock : List ℕ) (new : Access) (lists : List (List Access)) (kept : List Kept) (place : ℕ)
@@ -82,7 +82,7 @@ changed-briefly clock new lists kept place after within notes =
     changed-at clock new lists lists kept (slice_set kept place after) place (length-set kept place after) within
     (λ q h away. ap (λ (k : Kept). accesses_of lists k) (others-same kept place after q away))
     (subst (λ (k : Kept). NotesAccess clock new (accesses_of lists (kept_at kept place)) (accesses_of lists k))
-    (sym (get_or-set_same kept place after (OfOne 0 0 0 0) within)) notes)
+    (sym (get_or-set_same kept place after (OfOne false 0 0 0) within)) notes)
 
 pub noted-briefly : (clock : List ℕ) (new : Access) (lists : List (List Access)) (kept : List Kept) (place : ℕ)
     (after : Kept) → place < length kept → IsNotedBriefly clock new (kept_at kept place) after
@@ -100,8 +100,10 @@ noted-briefly clock new lists kept place after within is =
 -- a list that is not a place's does not matter to it
 pub other-list : (lists : List (List Access)) (list : ℕ) (new : List Access) (kept : Kept) → kept ≢ InList list
     → accesses_of (slice_set lists list new) kept ≡ accesses_of lists kept
-other-list lists list new (OfOne agent put claim look) other = refl
-other-list lists list new (UpToTwo kind first second first_agent second_agent first_number second_number) other = refl
+other-list lists list new (OfOne claims agent put look) other = refl
+other-list lists list new (UpToTwo ways agents numbers) other = refl
+other-list lists list new (TwoChanges kind agents numbers) other = refl
+other-list lists list new (PutAndChange kind agents numbers) other = refl
 other-list lists list new (InList of) other =
     get_or-set_other lists list of new [] (λ e. other (ap (λ (n : ℕ). InList n) e))
 
@@ -144,7 +146,7 @@ changed-into-list clock new lists kept place list after within there unused note
     (others-same kept place (InList list) q away) ∙ other-list lists list after (kept_at kept q) (unused q h))
     (subst (λ (k : Kept). NotesAccess clock new (accesses_of lists (kept_at kept place))
     (accesses_of (slice_set lists list after) k))
-    (sym (get_or-set_same kept place (InList list) (OfOne 0 0 0 0) within))
+    (sym (get_or-set_same kept place (InList list) (OfOne false 0 0 0) within))
     (subst (λ (own : List Access). NotesAccess clock new (accesses_of lists (kept_at kept place)) own)
     (sym (get_or-set_same lists list after [] there)) notes))
 
@@ -152,7 +154,7 @@ changed-into-list clock new lists kept place list after within there unused note
 pub kept-otherwise : (lists : List (List Access)) (kept : List Kept) (place : ℕ) (after : Kept)
     → accesses_of lists after ≡ accesses_of lists (kept_at kept place)
     → all_of lists (slice_set kept place after) ≡ all_of lists kept
-kept-otherwise lists kept place after e = map-set_same (accesses_of lists) kept place after (OfOne 0 0 0 0) e
+kept-otherwise lists kept place after e = map-set_same (accesses_of lists) kept place after (OfOne false 0 0 0) e
 
 -- the same holds whether there is memory for it or not
 pub kept-or-not : {E : Type 0} (r : Result (Unit {0}) E) (lists : List (List Access)) (kept kept' : List Kept)
@@ -164,8 +166,10 @@ kept-or-not (Err x) lists kept kept' place after e ok err = ap (λ (k : List Kep
 
 -- one more list does not matter to anybody
 more-lists : (lists : List (List Access)) (kept : Kept) → accesses_of (lists ++ [] ∷ []) kept ≡ accesses_of lists kept
-more-lists lists (OfOne agent put claim look) = refl
-more-lists lists (UpToTwo kind first second first_agent second_agent first_number second_number) = refl
+more-lists lists (OfOne claims agent put look) = refl
+more-lists lists (UpToTwo ways agents numbers) = refl
+more-lists lists (TwoChanges kind agents numbers) = refl
+more-lists lists (PutAndChange kind agents numbers) = refl
 more-lists lists (InList list) = more list lists
   where
     more : (i : ℕ) (lists : List (List Access)) → slice_index_or (lists ++ [] ∷ []) i [] ≡ slice_index_or lists i []
@@ -182,14 +186,14 @@ one-more-list lists (k ∷ ks) =
     ∙ ap (λ (all : List (List Access)). accesses_of lists k ∷ all) (one-more-list lists ks)
 
 -- new places keep nothing
-pub nothing-of : (lists : List (List Access)) (n : ℕ) → all_of lists (replicate n (OfOne 0 0 0 0)) ≡ replicate n []
+pub nothing-of : (lists : List (List Access)) (n : ℕ) → all_of lists (replicate n (OfOne false 0 0 0)) ≡ replicate n []
 nothing-of lists zero = refl
 nothing-of lists (suc n) = ap (λ (all : List (List Access)). [] ∷ all) (nothing-of lists n)
 
 pub more-places : (lists : List (List Access)) (kept : List Kept) (n : ℕ)
-    → all_of lists (kept ++ replicate n (OfOne 0 0 0 0)) ≡ all_of lists kept ++ replicate n []
+    → all_of lists (kept ++ replicate n (OfOne false 0 0 0)) ≡ all_of lists kept ++ replicate n []
 more-places lists kept n =
-    map-append (accesses_of lists) kept (replicate n (OfOne 0 0 0 0))
+    map-append (accesses_of lists) kept (replicate n (OfOne false 0 0 0))
     ∙ ap (λ (all : List (List Access)). all_of lists kept ++ all) (nothing-of lists n)
 
 pub on-ok : {T E P Q : Type 0} (r : Result T E) → (P → Q) → OnOk r P → OnOk r Q
@@ -219,15 +223,17 @@ owned-briefly kept lists owners place after are brief = record {
       elim (same-or-not q place) as (λ _. IsOwned owners q (kept_at (slice_set kept place after) q)) [
         | inl e ↦ subst (λ (k : Kept). IsOwned owners q k)
             (sym (ap (λ (i : ℕ). kept_at (slice_set kept place after) i) e
-            ∙ get_or-set_same kept place after (OfOne 0 0 0 0) (omega (arith, below, e)))) (none q after brief)
+            ∙ get_or-set_same kept place after (OfOne false 0 0 0) (omega (arith, below, e)))) (none q after brief)
         | inr away ↦ subst (λ (k : Kept). IsOwned owners q k) (sym (others-same kept place after q away))
             (are.owned q below)
       ]);
 }
   where
     none : (q : ℕ) (k : Kept) → IsBrief k → IsOwned owners q k
-    none q (OfOne agent put claim look) h = tt
-    none q (UpToTwo kind first second first_agent second_agent first_number second_number) h = tt
+    none q (OfOne claims agent put look) h = tt
+    none q (UpToTwo ways agents numbers) h = tt
+    none q (TwoChanges kind agents numbers) h = tt
+    none q (PutAndChange kind agents numbers) h = tt
     none q (InList list) h = absurd h
 
 -- an access was noted in a copy of what is kept of a place

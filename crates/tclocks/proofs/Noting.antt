@@ -1,5 +1,5 @@
 -- What is kept of a place behind an access.
-use Rattle.std.proofs.Common.{◌≡◌, ℕ, ◌<◌, ◌⊎◌, inl, inr, Bool, true, false, not, cond, ◌&&◌, ◌||◌, ◌==◌, List, []}
+use Rattle.std.proofs.Common.{◌≡◌, ◌≢◌, ℕ, ◌<◌, ◌⊎◌, inl, inr, Bool, true, false, not, cond, ◌&&◌, ◌||◌, ◌==◌, List, []}
 use Rattle.std.proofs.Common.{◌∷◌, ◌++◌, ap, refl, sym, ◌∙◌, subst, arith, nat_le, slice_index}
 use Rattle.std.proofs.Common.{None, Some, Contains, eqb, filter, find, true≢false}
 use Rattle.std.proofs.lemmas.Bool.{eqb-true, eq-eqb}
@@ -10,7 +10,7 @@ use Rattle.tclocks.specs.declared.step.Step.{Step}
 use Rattle.tclocks.specs.declared.step.Access.{Access}
 use Rattle.tclocks.specs.Modes.{collide, covers}
 use Rattle.tclocks.specs.Places.{knows_of, races, is_replaced, NotesAccess, IsReplaced}
-use Rattle.tclocks.specs.Kept.{access_by}
+use Rattle.tclocks.specs.Kept.{unless_none}
 use Rattle.tclocks.proofs.Lists.{test, contains-cons, contains-first, contains-rest}
 
 -- what a filter keeps was there
@@ -108,10 +108,6 @@ pub own-known : (agent : ℕ) (clock : List ℕ) (step : Step) → step.agent �
 own-known agent clock step e =
     left-true (step.agent == agent) (nat_le step.number (slice_index clock step.agent)) (eq-eqb step.agent agent e)
 
--- an access that is kept by its agent and number
-abbrev by_step : Mode → ℕ → ℕ → Access
-by_step mode agent n = record { mode = mode; step = record { agent = agent; number = n } }
-
 contains-nothing : (x : Access) → Contains [] x → ⊥
 contains-nothing x h = omega (arith, h.1)
 
@@ -121,21 +117,23 @@ contains-only y x h = elim (contains-cons y [] x h) as (λ _. x ≡ y) [
   | inr rest ↦ absurd (contains-nothing x rest)
 ]
 
-pub in-by : (mode : Mode) (agent n : ℕ) (x : Access) → Contains (access_by mode agent n) x → x ≡ by_step mode agent n
-in-by mode agent n x has = elim (test (eqb n 0)) as (λ _. x ≡ by_step mode agent n) [
+pub in-some : (access x : Access) → Contains (unless_none access) x → x ≡ access
+in-some access x has = elim (test (eqb access.step.number 0)) as (λ _. x ≡ access) [
   | inl none ↦ absurd (contains-nothing x
-      (subst (λ (b : Bool). Contains (cond b [] (by_step mode agent n ∷ [])) x) none has))
-  | inr some ↦ contains-only (by_step mode agent n) x
-      (subst (λ (b : Bool). Contains (cond b [] (by_step mode agent n ∷ [])) x) some has)
+      (subst (λ (b : Bool). Contains (cond b [] (access ∷ [])) x) none has))
+  | inr some ↦ contains-only access x (subst (λ (b : Bool). Contains (cond b [] (access ∷ [])) x) some has)
 ]
 
-not-none : (n : ℕ) → 0 < n → eqb n 0 ≡ false
+not-none : (n : ℕ) → n ≢ 0 → eqb n 0 ≡ false
 not-none n h = elim (test (eqb n 0)) as (λ _. eqb n 0 ≡ false) [
-  | inl e ↦ absurd (omega (arith, eqb-true n 0 e, h))
+  | inl e ↦ absurd (h (eqb-true n 0 e))
   | inr e ↦ e
 ]
 
-pub by-in : (mode : Mode) (agent n : ℕ) → 0 < n → Contains (access_by mode agent n) (by_step mode agent n)
-by-in mode agent n some =
-    subst (λ (b : Bool). Contains (cond b [] (by_step mode agent n ∷ [])) (by_step mode agent n))
-    (sym (not-none n some)) (contains-first (by_step mode agent n) [])
+pub some-alone : (access : Access) → access.step.number ≢ 0 → unless_none access ≡ access ∷ []
+some-alone access some = ap (λ (b : Bool). cond b [] (access ∷ [])) (not-none access.step.number some)
+
+pub some-in : (access : Access) → 0 < access.step.number → Contains (unless_none access) access
+some-in access some =
+    subst (λ (list : List Access). Contains list access)
+    (sym (some-alone access (λ e. omega (arith, e, some)))) (contains-first access [])

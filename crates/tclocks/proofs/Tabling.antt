@@ -15,7 +15,7 @@ use Rattle.tclocks.proofs.Accessing.{same-or-not}
 pub read-all : (pages : List (List Kept)) (count place : ℕ) → place < count
     → kept_at (all_in pages count) place ≡ kept_in pages place
 read-all pages count place within =
-    get_or-map-range_with_len (kept_in pages) 0 count place place (OfOne 0 0 0 0) within (omega arith)
+    get_or-map-range_with_len (kept_in pages) 0 count place place (OfOne false 0 0 0) within (omega arith)
 
 pub length-all : (pages : List (List Kept)) (count : ℕ) → length (all_in pages count) ≡ count
 length-all pages count = length-map-range_with_len (kept_in pages) 0 count
@@ -25,17 +25,17 @@ pub one-set : (pages pages' : List (List Kept)) (count place : ℕ) (kept : Kept
     → kept_in pages' place ≡ kept → ((q : ℕ) → q ≢ place → kept_in pages' q ≡ kept_in pages q)
     → all_in pages' count ≡ slice_set (all_in pages count) place kept
 one-set pages pages' count place kept within is others =
-    ext_get_or (OfOne 0 0 0 0) (all_in pages' count) (slice_set (all_in pages count) place kept)
+    ext_get_or (OfOne false 0 0 0) (all_in pages' count) (slice_set (all_in pages count) place kept)
     (length-all pages' count ∙ sym (length-all pages count) ∙ sym (length-set (all_in pages count) place kept))
     (λ q h. (let below : q < count = omega (arith, h, length-all pages' count) in
     elim (same-or-not q place) as (λ _. kept_at (all_in pages' count) q
     ≡ kept_at (slice_set (all_in pages count) place kept) q) [
       | inl e ↦ read-all pages' count q below ∙ ap (λ (i : ℕ). kept_in pages' i) e ∙ is
-          ∙ sym (get_or-set_same (all_in pages count) place kept (OfOne 0 0 0 0)
+          ∙ sym (get_or-set_same (all_in pages count) place kept (OfOne false 0 0 0)
           (omega (arith, within, length-all pages count)))
           ∙ ap (λ (i : ℕ). kept_at (slice_set (all_in pages count) place kept) i) (sym e)
       | inr away ↦ read-all pages' count q below ∙ others q away ∙ sym (read-all pages count q below)
-          ∙ sym (get_or-set_other (all_in pages count) place q kept (OfOne 0 0 0 0) away)
+          ∙ sym (get_or-set_other (all_in pages count) place q kept (OfOne false 0 0 0) away)
     ]))
 
 -- the place of an index of a page
@@ -92,13 +92,13 @@ pub none-more : (pages : List (List Kept)) (n place : ℕ) → kept_in (pages ++
 none-more pages n place = ap (λ (p : List Kept). kept_at p (place % 256)) (more-pages (place / 256) pages n)
 
 -- more places, of which nothing is kept
-one-more : (list : List Kept) (n : ℕ) → (list ++ replicate n (OfOne 0 0 0 0)) ++ OfOne 0 0 0 0 ∷ []
-    ≡ list ++ replicate (n + 1) (OfOne 0 0 0 0)
-one-more list n = append_assoc list (replicate n (OfOne 0 0 0 0)) (OfOne 0 0 0 0 ∷ [])
-    ∙ ap (λ (rest : List Kept). list ++ rest) (replicate-append-replicate n 1 (OfOne 0 0 0 0))
+one-more : (list : List Kept) (n : ℕ) → (list ++ replicate n (OfOne false 0 0 0)) ++ OfOne false 0 0 0 ∷ []
+    ≡ list ++ replicate (n + 1) (OfOne false 0 0 0)
+one-more list n = append_assoc list (replicate n (OfOne false 0 0 0)) (OfOne false 0 0 0 ∷ [])
+    ∙ ap (λ (rest : List Kept). list ++ rest) (replicate-append-replicate n 1 (OfOne false 0 0 0))
 
 pub more-places : (pages : List (List Kept)) (count n : ℕ) → HavePages pages count
-    → all_in pages (count + n) ≡ all_in pages count ++ replicate n (OfOne 0 0 0 0)
+    → all_in pages (count + n) ≡ all_in pages count ++ replicate n (OfOne false 0 0 0)
 more-places pages count zero have =
     let none : count + 0 ≡ count = omega arith in
     ap (λ (k : ℕ). all_in pages k) none ∙ sym (append-nil (all_in pages count))
@@ -108,13 +108,13 @@ more-places pages count (suc n) have =
     ap (λ (k : ℕ). all_in pages k) places
     ∙ map-range_with_len_more (kept_in pages) 0 (count + n) (count + n) (omega arith)
     ∙ ap (λ (k : Kept). all_in pages (count + n) ++ k ∷ []) (have.clear (count + n) (omega arith))
-    ∙ ap (λ (list : List Kept). list ++ OfOne 0 0 0 0 ∷ []) (more-places pages count n have)
+    ∙ ap (λ (list : List Kept). list ++ OfOne false 0 0 0 ∷ []) (more-places pages count n have)
     ∙ one-more (all_in pages count) n
-    ∙ ap (λ (k : ℕ). all_in pages count ++ replicate k (OfOne 0 0 0 0)) more
+    ∙ ap (λ (k : ℕ). all_in pages count ++ replicate k (OfOne false 0 0 0)) more
 
 pub all-same : (pages pages' : List (List Kept)) (count : ℕ)
     → ((place : ℕ) → kept_in pages' place ≡ kept_in pages place) → all_in pages' count ≡ all_in pages count
-all-same pages pages' count same = ext_get_or (OfOne 0 0 0 0) (all_in pages' count) (all_in pages count)
+all-same pages pages' count same = ext_get_or (OfOne false 0 0 0) (all_in pages' count) (all_in pages count)
     (length-all pages' count ∙ sym (length-all pages count))
     (λ q h. (let below : q < count = omega (arith, h, length-all pages' count) in
     read-all pages' count q below ∙ same q ∙ sym (read-all pages count q below)))
@@ -122,7 +122,7 @@ all-same pages pages' count same = ext_get_or (OfOne 0 0 0 0) (all_in pages' cou
 -- a table with `more` places more
 pub added : (pages pages' : List (List Kept)) (count more n : ℕ) → HavePages pages count
     → pages' ≡ pages ++ replicate n [] → all_in pages' (count + more)
-    ≡ all_in pages count ++ replicate more (OfOne 0 0 0 0)
+    ≡ all_in pages count ++ replicate more (OfOne false 0 0 0)
 added pages pages' count more n have is =
     ap (λ (p : List (List Kept)). all_in p (count + more)) is
     ∙ all-same pages (pages ++ replicate n []) (count + more) (none-more pages n)
@@ -233,9 +233,10 @@ pub noted-at : (kept now : List Kept) (index : ℕ) (old new : Kept) (access : A
     → IsNotedByOwner access index now (slice_set kept index new)
 noted-at kept now index old new access is within read noted = record {
   noted = λ clock. subst (λ (k : Kept). IsNotedBriefly clock access k (kept_at (slice_set kept index new) index))
-      (read ∙ get_or_default kept index old (OfOne 0 0 0 0) within ∙ ap (λ (list : List Kept). kept_at list index) is)
+      (read ∙ get_or_default kept index old (OfOne false 0 0 0) within
+      ∙ ap (λ (list : List Kept). kept_at list index) is)
       (subst (λ (k : Kept). IsNotedBriefly clock access old k)
-      (sym (get_or-set_same kept index new (OfOne 0 0 0 0) within)) (noted clock));
-  others = λ i away. get_or-set_other kept index i new (OfOne 0 0 0 0) away
+      (sym (get_or-set_same kept index new (OfOne false 0 0 0) within)) (noted clock));
+  others = λ i away. get_or-set_other kept index i new (OfOne false 0 0 0) away
       ∙ ap (λ (list : List Kept). kept_at list i) is;
 }

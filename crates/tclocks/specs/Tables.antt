@@ -1,6 +1,6 @@
 -- What is kept of all places, in pages of 256.
 -- Source: own choice.
-use Rattle.std.specs.Prelude.{ℕ, ◌≡◌, ◌≢◌, ◌≤◌, ◌*◌, ◌/◌, ◌%◌, List, [], length, map, slice_index_or, slice_set}
+use Rattle.std.specs.Prelude.{ℕ, ◌≡◌, ◌≢◌, ◌≤◌, ◌*◌, ◌/◌, ◌%◌, false, List, [], length, map, slice_index_or, slice_set}
 use Rattle.std.specs.List.{range_with_len}
 use Rattle.tclocks.specs.declared.step.Access.{Access}
 use Rattle.tclocks.specs.declared.kept.Kept.{Kept}
@@ -9,7 +9,7 @@ use Rattle.tclocks.specs.Kept.{IsNotedBriefly}
 
 -- what is kept of a place, or at an index of a page; nothing, behind the end
 abbrev pub kept_at : List Kept → ℕ → Kept
-kept_at kept place = slice_index_or kept place (OfOne 0 0 0 0)
+kept_at kept place = slice_index_or kept place (OfOne false 0 0 0)
 
 -- what pages keep of a place
 abbrev pub kept_in : List (List Kept) → ℕ → Kept
@@ -22,7 +22,7 @@ all_in pages count = map (kept_in pages) (range_with_len 0 count)
 -- there are pages for `count` places, and nothing is kept behind them
 pub record HavePages (pages : List (List Kept)) (count : ℕ) : Type 0 where
   pub room : count ≤ 256 * length pages
-  pub clear : (place : ℕ) → count ≤ place → kept_in pages place ≡ OfOne 0 0 0 0
+  pub clear : (place : ℕ) → count ≤ place → kept_in pages place ≡ OfOne false 0 0 0
 
 -- this is kept at an index, and what was kept elsewhere
 pub record IsSet (index : ℕ) (kept : Kept) (before after : List Kept) : Type 0 where

@@ -1,13 +1,12 @@
 //! Accesses of a place in a list.
 
 ghost use Rattle.std.specs.Prelude.{◌≡◌, ◌++◌, [], OnErr, OnOk};
-ghost use Rattle.tclocks.specs.Kept.{access_by, accesses_of};
+ghost use Rattle.tclocks.specs.Kept.{accesses_of, unless_none};
 ghost use Rattle.tclocks.specs.Places.{first_race, is_replaced, NotesAccess};
 
 use crate::clock::Clock;
 use crate::kept::{Kept, knows, races};
-use crate::mode::Mode;
-use crate::step::{Access, Step};
+use crate::step::Access;
 use std::alloc::{AllocError, Global};
 use std::marker::Model;
 
@@ -48,48 +47,23 @@ impl AccessList {
         ensures { OnOk result (self.new ≡ accesses_of lists.now kept) }
     {
         self.accesses.clear();
-        match kept {
-            Kept::OfOne {
-                agent,
-                put,
-                claim,
-                look,
-            } => {
-                self.add(Mode::Puts, agent, put)?;
-                self.add(Mode::Claims, agent, claim)?;
-                self.add(Mode::Looks, agent, look)?;
-            }
-            Kept::UpToTwo {
-                kind,
-                first,
-                second,
-                first_agent,
-                second_agent,
-                first_number,
-                second_number,
-            } => {
-                self.add(first.mode(kind), first_agent, first_number)?;
-                self.add(second.mode(kind), second_agent, second_number)?;
-            }
-            Kept::InList(list) => {
-                if let Some(list) = lists.get(list) {
-                    self.accesses.extend_from_slice(list.as_slice())?;
-                }
+        if let Some((first, second)) = kept.two() {
+            self.add(first)?;
+            self.add(second)?;
+        } else if let Kept::InList(list) = kept {
+            if let Some(list) = lists.get(list as usize) {
+                self.accesses.extend_from_slice(list.as_slice())?;
             }
         }
         Ok(())
     }
 
     /// An access is added, unless its number is 0.
-    fn add(&mut self, mode: Mode, agent: u16, number: u32) -> Result<(), AllocError>
-        ensures { OnOk result (self.new ≡ self.old ++ access_by mode agent number) }
+    fn add(&mut self, access: Access) -> Result<(), AllocError>
+        ensures { OnOk result (self.new ≡ self.old ++ unless_none access) }
     {
-        if number != 0 {
-            let step = Step {
-                agent: u32::from(agent),
-                number,
-            };
-            self.accesses.push(Access { mode, step })?;
+        if access.step.number != 0 {
+            self.accesses.push(access)?;
         }
         Ok(())
     }

@@ -1,8 +1,8 @@
-//! What is kept of a place, in 16 bytes or in a list.
+//! What is kept of a place, in 12 bytes or in a list.
 
-ghost use Rattle.std.specs.Prelude.{◌≡◌, ◌<◌, ◌++◌, ◌∷◌, [], ℕ, List, IfSome, false, true};
+ghost use Rattle.std.specs.Prelude.{◌≡◌, ◌<◌, ◌∷◌, ◌++◌, [], ℕ, List, Some, IfSome, false, true};
 ghost use Rattle.tclocks.specs.declared.step.Access.{Access};
-ghost use Rattle.tclocks.specs.Kept.{access_by, accesses_of, is_own, mode_of, unless_none, IsBrief, IsBriefly};
+ghost use Rattle.tclocks.specs.Kept.{accesses_of, is_own, two_by, two_of, unless_none, IsBrief, IsBriefly};
 ghost use Rattle.tclocks.specs.Kept.{IsNotedBriefly, ReplacesAll};
 ghost use Rattle.tclocks.specs.Places.{first_race, knows_of};
 ghost use Rattle.tclocks.specs.Places as spec;
@@ -10,91 +10,54 @@ ghost use Rattle.tclocks.specs.Places as spec;
 use crate::clock::Clock;
 use crate::mode::Mode;
 use crate::step::{Access, Step};
+use crate::ways::Ways;
 
-/// How a step accesses a place, without the kind of a change.
-#[derive(Clone, Copy)]
-pub enum Way {
-    Looks,
-    Checks,
-    Claims,
-    Puts,
-    Lends,
-    Commutes,
-}
-
-/// What is kept of a place. Agents whose numbers do not fit 16 bits need a list.
+/// What is kept of a place. Without a list these are at most two accesses, each by the number of its step, or 0 where
+/// there is none. More need a list, as do two in other modes, and agents whose numbers do not fit.
 #[derive(Clone, Copy)]
 pub enum Kept {
-    /// Of one agent: the numbers of its last steps that put, claimed and looked; 0 where there is none.
+    /// Those of one agent: its last put, and its last look, or its last claim if `claims`.
     OfOne {
+        claims: bool,
         agent: u16,
         put: u32,
-        claim: u32,
         look: u32,
     },
-    /// At most two accesses, each by its way, agent and number; number 0 where there is none. If one changes, it is by
-    /// this kind.
+    /// Two accesses in these ways, by the steps of these agents.
     UpToTwo {
+        ways: Ways,
+        agents: (u8, u8),
+        numbers: (u32, u32),
+    },
+    /// Two changes of this kind.
+    TwoChanges {
         kind: u8,
-        first: Way,
-        second: Way,
-        first_agent: u16,
-        second_agent: u16,
-        first_number: u32,
-        second_number: u32,
+        agents: (u8, u8),
+        numbers: (u32, u32),
+    },
+    /// A put, and a change of this kind.
+    PutAndChange {
+        kind: u8,
+        agents: (u8, u8),
+        numbers: (u32, u32),
     },
     /// The accesses in the list of this number.
-    InList(usize),
+    InList(u32),
 }
 
-const _: () = prove!(size_of::<Kept>() == 16);
+const _: () = prove!(size_of::<Kept>() == 12);
 
 /// Nothing is kept.
 pub const NOTHING: Kept = Kept::OfOne {
+    claims: false,
     agent: 0,
     put: 0,
-    claim: 0,
     look: 0,
 };
 
-/// The step before the first one of each agent: everybody knows of it.
-const NO_STEP: Step = Step {
-    agent: 0,
-    number: 0,
-};
-
-impl Way {
-    /// The way of a mode, if it changes by this kind or does not change.
-    fn of(mode: Mode, kind: u8) -> Option<Way>
-        ensures { IfSome result (λ way. mode_of kind way ≡ mode) }
-    {
-        match mode {
-            Mode::Looks => Some(Way::Looks),
-            Mode::Checks => Some(Way::Checks),
-            Mode::Claims => Some(Way::Claims),
-            Mode::Puts => Some(Way::Puts),
-            Mode::Lends => Some(Way::Lends),
-            Mode::Commutes(other) => (other == kind).then_some(Way::Commutes),
-        }
-    }
-
-    /// The mode, where a change is by this kind.
-    pub fn mode(self, kind: u8) -> Mode
-        ensures { result ≡ mode_of kind self }
-    {
-        match self {
-            Way::Looks => Mode::Looks,
-            Way::Checks => Mode::Checks,
-            Way::Claims => Mode::Claims,
-            Way::Puts => Mode::Puts,
-            Way::Lends => Mode::Lends,
-            Way::Commutes => Mode::Commutes(kind),
-        }
-    }
-}
-
 impl Kept {
-    /// Notes an access, if all that is kept is of the same agent and it puts, claims or looks: whether it did.
+    /// Notes an access, if all that is kept is of the same agent and it puts, claims or looks, but for a look behind a
+    /// claim: whether it did.
     #[inline(always)]
     pub fn note_own(&mut self, step: Step, mode: Mode) -> bool
         requires { 0 < step.number }
@@ -104,9 +67,9 @@ impl Kept {
         ensures kept { result ≡ false → self.new ≡ self.old }
     {
         let Kept::OfOne {
+            claims,
             agent,
             put,
-            claim,
             look,
         } = self
         else {
@@ -116,14 +79,19 @@ impl Kept {
             return false;
         }
         match mode {
-            Mode::Looks => *look = step.number,
+            Mode::Looks => {
+                if *claims {
+                    return false;
+                }
+                *look = step.number;
+            }
             Mode::Claims => {
-                *claim = step.number;
-                *look = 0;
+                *claims = true;
+                *look = step.number;
             }
             Mode::Puts => {
+                *claims = false;
                 *put = step.number;
-                *claim = 0;
                 *look = 0;
             }
             Mode::Checks | Mode::Lends | Mode::Commutes(_) => return false,
@@ -131,89 +99,95 @@ impl Kept {
         true
     }
 
-    /// What is kept behind an access that replaces all that is kept, or that its agent made before, where no list is
-    /// needed.
+    /// The two accesses that are kept without a list.
+    #[inline]
+    pub fn two(self) -> Option<(Access, Access)>
+        ensures { result ≡ two_of self }
+    {
+        match self {
+            Kept::OfOne {
+                claims,
+                agent,
+                put,
+                look,
+            } => {
+                let looks = if claims { Mode::Claims } else { Mode::Looks };
+                let agent = u32::from(agent);
+                Some(two((Mode::Puts, looks), (agent, agent), (put, look)))
+            }
+            Kept::UpToTwo {
+                ways,
+                agents,
+                numbers,
+            } => Some(two(ways.modes(), widened(agents), numbers)),
+            Kept::TwoChanges {
+                kind,
+                agents,
+                numbers,
+            } => {
+                let change = Mode::Commutes(kind);
+                Some(two((change, change), widened(agents), numbers))
+            }
+            Kept::PutAndChange {
+                kind,
+                agents,
+                numbers,
+            } => {
+                let modes = (Mode::Puts, Mode::Commutes(kind));
+                Some(two(modes, widened(agents), numbers))
+            }
+            Kept::InList(_) => None,
+        }
+    }
+
+    /// What is kept without a list behind an access that replaces all that is kept, or that is like one of two, of the
+    /// same agent, and races with neither.
     pub fn with_known(self, clock: &Clock, access: Access) -> Option<Kept>
         requires { 0 < access.step.number }
         ensures { IfSome result (λ kept. IsNotedBriefly clock.now access self kept) }
     {
-        if self.is_replaced(clock, access) {
-            alone(access)
-        } else {
-            self.with_again(clock, access)
+        let (first, second) = self.two()?;
+        if replaces(clock, access, first) && replaces(clock, access, second) {
+            return alone(access);
         }
-    }
-
-    /// Whether an access replaces all that is kept, which is in no list.
-    fn is_replaced(self, clock: &Clock, access: Access) -> bool
-        ensures brief { result ≡ true → IsBrief self }
-        ensures replaced { result ≡ true
-            → (lists : List (List Access)) → ReplacesAll clock.now access (accesses_of lists self) }
-    {
-        match self {
-            Kept::OfOne {
-                agent,
-                put,
-                claim,
-                look,
-            } => {
-                replaces(clock, access, Mode::Puts, agent, put)
-                    && replaces(clock, access, Mode::Claims, agent, claim)
-                    && replaces(clock, access, Mode::Looks, agent, look)
-            }
-            Kept::UpToTwo {
-                kind,
-                first,
-                second,
-                first_agent,
-                second_agent,
-                first_number,
-                second_number,
-            } => {
-                replaces(clock, access, first.mode(kind), first_agent, first_number)
-                    && replaces(
-                        clock,
-                        access,
-                        second.mode(kind),
-                        second_agent,
-                        second_number,
-                    )
-            }
-            Kept::InList(_) => false,
+        if is_again(access, first) && !races(clock, access.step.agent, access.mode, second) {
+            return Some(self.with_numbers((access.step.number, second.step.number)));
         }
-    }
-
-    /// What is kept behind an access that is like one of two that are kept, of the same agent, and races with neither.
-    fn with_again(mut self, clock: &Clock, access: Access) -> Option<Kept>
-        requires { 0 < access.step.number }
-        ensures { IfSome result (λ kept. IsNotedBriefly clock.now access self kept) }
-    {
-        let Kept::UpToTwo {
-            kind,
-            first,
-            second,
-            first_agent,
-            second_agent,
-            first_number,
-            second_number,
-        } = &mut self
-        else {
-            return None;
-        };
-        let (first, second) = (first.mode(*kind), second.mode(*kind));
-        if is_again(access, first, *first_agent)
-            && !races_by(clock, access, second, *second_agent, *second_number)
-        {
-            *first_number = access.step.number;
-            return Some(self);
-        }
-        if is_again(access, second, *second_agent)
-            && !races_by(clock, access, first, *first_agent, *first_number)
-        {
-            *second_number = access.step.number;
-            return Some(self);
+        if is_again(access, second) && !races(clock, access.step.agent, access.mode, first) {
+            return Some(self.with_numbers((first.step.number, access.step.number)));
         }
         None
+    }
+
+    /// The same two accesses by steps of these numbers.
+    fn with_numbers(self, numbers: (u32, u32)) -> Kept
+        ensures { IfSome (two_of self) (λ two. two_of result ≡ Some
+            (two_by (two.0.mode, two.1.mode) (two.0.step.agent, two.1.step.agent) numbers)) }
+    {
+        match self {
+            Kept::OfOne { claims, agent, .. } => Kept::OfOne {
+                claims,
+                agent,
+                put: numbers.0,
+                look: numbers.1,
+            },
+            Kept::UpToTwo { ways, agents, .. } => Kept::UpToTwo {
+                ways,
+                agents,
+                numbers,
+            },
+            Kept::TwoChanges { kind, agents, .. } => Kept::TwoChanges {
+                kind,
+                agents,
+                numbers,
+            },
+            Kept::PutAndChange { kind, agents, .. } => Kept::PutAndChange {
+                kind,
+                agents,
+                numbers,
+            },
+            Kept::InList(list) => Kept::InList(list),
+        }
     }
 
     /// The first that an access races with, of those that are kept without a list.
@@ -221,32 +195,8 @@ impl Kept {
         ensures { IsBrief self → (lists : List (List Access))
             → result ≡ first_race access.step.agent clock.now access.mode (accesses_of lists self) }
     {
-        match self {
-            Kept::OfOne {
-                agent,
-                put,
-                claim,
-                look,
-            } => race_by(clock, access, Mode::Puts, agent, put)
-                .or(race_by(clock, access, Mode::Claims, agent, claim))
-                .or(race_by(clock, access, Mode::Looks, agent, look)),
-            Kept::UpToTwo {
-                kind,
-                first,
-                second,
-                first_agent,
-                second_agent,
-                first_number,
-                second_number,
-            } => race_by(clock, access, first.mode(kind), first_agent, first_number).or(race_by(
-                clock,
-                access,
-                second.mode(kind),
-                second_agent,
-                second_number,
-            )),
-            Kept::InList(_) => None,
-        }
+        let (first, second) = self.two()?;
+        race(clock, access, first).or(race(clock, access, second))
     }
 
     /// Accesses without a list, where they fit.
@@ -263,106 +213,152 @@ impl Kept {
     }
 }
 
+/// Two accesses in these modes by these agents' steps of these numbers.
+#[inline]
+fn two(modes: (Mode, Mode), agents: (u32, u32), numbers: (u32, u32)) -> (Access, Access)
+    ensures { result ≡ two_by modes agents numbers }
+{
+    let first = Step {
+        agent: agents.0,
+        number: numbers.0,
+    };
+    let second = Step {
+        agent: agents.1,
+        number: numbers.1,
+    };
+    (
+        Access {
+            mode: modes.0,
+            step: first,
+        },
+        Access {
+            mode: modes.1,
+            step: second,
+        },
+    )
+}
+
+/// The same numbers of two agents.
+#[inline]
+fn widened(agents: (u8, u8)) -> (u32, u32)
+    ensures { result ≡ agents }
+{
+    (u32::from(agents.0), u32::from(agents.1))
+}
+
+/// The numbers of the agents of two accesses, where they fit.
+fn narrowed(first: Access, second: Access) -> Option<(u8, u8)>
+    ensures { IfSome result (λ agents. agents ≡ (first.step.agent, second.step.agent)) }
+{
+    let first = u8::try_from(first.step.agent).ok()?;
+    let second = u8::try_from(second.step.agent).ok()?;
+    Some((first, second))
+}
+
 /// One access without a list, where it fits.
 fn alone(access: Access) -> Option<Kept>
     requires { 0 < access.step.number }
     ensures { IfSome result (λ kept. IsBriefly (access ∷ []) kept) }
 {
-    let Ok(agent) = u16::try_from(access.step.agent) else {
-        return None;
+    let Step { agent, number } = access.step;
+    let (claims, put, look) = match access.mode {
+        Mode::Puts => (false, number, 0),
+        Mode::Looks => (false, 0, number),
+        Mode::Claims => (true, 0, number),
+        mode => {
+            let step = Step { agent, number: 0 };
+            return of_two(access, Access { mode, step });
+        }
     };
-    let number = access.step.number;
-    match access.mode {
-        Mode::Puts => Some(Kept::OfOne {
-            agent,
-            put: number,
-            claim: 0,
-            look: 0,
-        }),
-        Mode::Claims => Some(Kept::OfOne {
-            agent,
-            put: 0,
-            claim: number,
-            look: 0,
-        }),
-        Mode::Looks => Some(Kept::OfOne {
-            agent,
-            put: 0,
-            claim: 0,
-            look: number,
-        }),
-        mode => up_to_two(
-            access,
-            Access {
-                mode,
-                step: NO_STEP,
-            },
-        ),
-    }
+    let agent = u16::try_from(agent).ok()?;
+    Some(Kept::OfOne {
+        claims,
+        agent,
+        put,
+        look,
+    })
 }
 
 /// Two accesses without a list, where they fit; a step of number 0 is none.
 fn up_to_two(first: Access, second: Access) -> Option<Kept>
     ensures { IfSome result (λ kept. IsBriefly (unless_none first ++ unless_none second) kept) }
 {
-    let kind = match (first.mode, second.mode) {
-        (Mode::Commutes(kind), _) | (_, Mode::Commutes(kind)) => kind,
-        _ => 0,
+    if first.step.agent == second.step.agent {
+        if let Some(kept) = of_one(first, second) {
+            return Some(kept);
+        }
+    }
+    of_two(first, second)
+}
+
+/// A put, and a look or claim, of one agent without a list, where they fit.
+fn of_one(first: Access, second: Access) -> Option<Kept>
+    requires { first.step.agent ≡ second.step.agent }
+    ensures { IfSome result (λ kept. two_of kept ≡ Some (first, second)) }
+{
+    let claims = match (first.mode, second.mode) {
+        (Mode::Puts, Mode::Looks) => false,
+        (Mode::Puts, Mode::Claims) => true,
+        _ => return None,
     };
-    let first_agent = u16::try_from(first.step.agent).ok()?;
-    let second_agent = u16::try_from(second.step.agent).ok()?;
-    Some(Kept::UpToTwo {
-        kind,
-        first: Way::of(first.mode, kind)?,
-        second: Way::of(second.mode, kind)?,
-        first_agent,
-        second_agent,
-        first_number: first.step.number,
-        second_number: second.step.number,
+    let agent = u16::try_from(first.step.agent).ok()?;
+    Some(Kept::OfOne {
+        claims,
+        agent,
+        put: first.step.number,
+        look: second.step.number,
     })
 }
 
-/// Whether an access replaces one in this mode by this agent's step of this number, or that is none.
-fn replaces(clock: &Clock, access: Access, mode: Mode, agent: u16, number: u32) -> bool
-    ensures { result ≡ true → ReplacesAll clock.now access (access_by mode agent number) }
+/// Two accesses by agents of 8 bits without a list, where they fit.
+fn of_two(first: Access, second: Access) -> Option<Kept>
+    ensures { IfSome result (λ kept. two_of kept ≡ Some (first, second)) }
 {
-    let step = Step {
-        agent: u32::from(agent),
-        number,
-    };
-    number == 0 || (access.mode.covers(mode) && knows(clock, access.step.agent, step))
+    let agents = narrowed(first, second)?;
+    let numbers = (first.step.number, second.step.number);
+    match (first.mode, second.mode) {
+        (Mode::Commutes(kind), Mode::Commutes(other)) => {
+            (kind == other).then_some(Kept::TwoChanges {
+                kind,
+                agents,
+                numbers,
+            })
+        }
+        (Mode::Puts, Mode::Commutes(kind)) => Some(Kept::PutAndChange {
+            kind,
+            agents,
+            numbers,
+        }),
+        (first, second) => Some(Kept::UpToTwo {
+            ways: Ways::of(first, second)?,
+            agents,
+            numbers,
+        }),
+    }
 }
 
-/// Whether an access is in this mode and by this agent.
-fn is_again(access: Access, mode: Mode, agent: u16) -> bool
-    ensures mode { result ≡ true → access.mode ≡ mode }
-    ensures agent { result ≡ true → access.step.agent ≡ agent }
+/// Whether an access replaces an earlier one, or that is none.
+fn replaces(clock: &Clock, access: Access, earlier: Access) -> bool
+    ensures { result ≡ true → ReplacesAll clock.now access (unless_none earlier) }
 {
-    access.step.agent == u32::from(agent) && access.mode.is(mode)
+    earlier.step.number == 0
+        || (access.mode.covers(earlier.mode) && knows(clock, access.step.agent, earlier.step))
 }
 
-/// Whether an access races with one in this mode by this agent's step of this number.
-fn races_by(clock: &Clock, access: Access, mode: Mode, agent: u16, number: u32) -> bool
-    ensures { result ≡ spec.races access.step.agent clock.now access.mode
-        (record { mode = mode; step = record { agent = agent; number = number } }) }
+/// Whether an access is in the mode of an earlier one, and by the same agent.
+fn is_again(access: Access, earlier: Access) -> bool
+    ensures mode { result ≡ true → access.mode ≡ earlier.mode }
+    ensures agent { result ≡ true → access.step.agent ≡ earlier.step.agent }
 {
-    let step = Step {
-        agent: u32::from(agent),
-        number,
-    };
-    races(clock, access.step.agent, access.mode, Access { mode, step })
+    access.step.agent == earlier.step.agent && access.mode.is(earlier.mode)
 }
 
-/// The access in this mode by this agent's step of this number, if it is one and an access races with it.
-fn race_by(clock: &Clock, access: Access, mode: Mode, agent: u16, number: u32) -> Option<Access>
-    ensures { result ≡ first_race access.step.agent clock.now access.mode (access_by mode agent number) }
+/// The earlier access, if it is one and an access races with it.
+fn race(clock: &Clock, access: Access, earlier: Access) -> Option<Access>
+    ensures { result ≡ first_race access.step.agent clock.now access.mode (unless_none earlier) }
 {
-    let step = Step {
-        agent: u32::from(agent),
-        number,
-    };
-    let races = number != 0 && races_by(clock, access, mode, agent, number);
-    races.then_some(Access { mode, step })
+    let races = earlier.step.number != 0 && races(clock, access.step.agent, access.mode, earlier);
+    races.then_some(earlier)
 }
 
 /// Whether an agent with this clock knows of a step.

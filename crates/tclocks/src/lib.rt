@@ -2,7 +2,7 @@
 //!
 //! - `mode`, `step`: how a step accesses a place; a step by its agent and its number
 //! - `clock`: how many steps of each agent are known
-//! - `kept`, `access_list`: the accesses of a place that later ones have to know of, in 16 bytes or in a list
+//! - `kept`, `ways`, `access_list`: the accesses of a place that later ones have to know of, in 12 bytes or in a list
 //! - `places`: those of all places
 //! - `race_check`: the check of a run
 //! - `laws`: what passes the check has no race
@@ -18,6 +18,7 @@ mod places;
 pub mod race_check;
 pub mod refusal;
 pub mod step;
+mod ways;
 
 pub use mode::Mode;
 pub use race_check::RaceCheck;

@@ -19,7 +19,7 @@ use std::alloc::{AllocError, Global};
 use std::marker::Model;
 use std::mem;
 
-/// What is kept of all places. A place takes 16 bytes, once something is kept of it or of one of those around it; those
+/// What is kept of all places. A place takes 12 bytes, once something is kept of it or of one of those around it; those
 /// of which more has to be kept have a list besides.
 #[derive(Drop)]
 pub struct Places {
@@ -28,7 +28,7 @@ pub struct Places {
     /// The place to which each list was given last.
     owners: Vec<usize>,
     /// Lists that places have given back.
-    spare: Vec<usize>,
+    spare: Vec<u32>,
     /// A list for the time of one access.
     scratch: AccessList,
 }
@@ -134,7 +134,7 @@ impl Places {
             ≡ first_race access.step.agent clock.now access.mode (slice_index_or self.now place []) }
     {
         match self.kept.get(place) {
-            Kept::InList(list) => self.lists[list].first_race(clock, access),
+            Kept::InList(list) => self.lists[list as usize].first_race(clock, access),
             kept => kept.first_race(clock, access),
         }
     }
@@ -152,7 +152,7 @@ impl Places {
         ensures err { OnErr result (self.new ≡ self.old) }
     {
         if let Kept::InList(list) = self.kept.get(place) {
-            self.lists[list].note(clock, access)?;
+            self.lists[list as usize].note(clock, access)?;
             self.shorten(place);
             return Ok(());
         }
@@ -185,8 +185,8 @@ impl Places {
             &mut self.spare,
         )?;
         self.kept.set(place, Kept::InList(list))?;
-        mem::swap(&mut self.lists[list], &mut self.scratch);
-        self.owners[list] = place;
+        mem::swap(&mut self.lists[list as usize], &mut self.scratch);
+        self.owners[list as usize] = place;
         Ok(())
     }
 
@@ -198,7 +198,7 @@ impl Places {
         let Kept::InList(list) = self.kept.get(place) else {
             return;
         };
-        if let Some(kept) = Kept::of(self.lists[list].as_slice()) {
+        if let Some(kept) = Kept::of(self.lists[list as usize].as_slice()) {
             if self.kept.set(place, kept).is_ok() {
                 // Without memory for its number the list is not used again.
                 let _ = self.spare.push(list);
@@ -213,26 +213,30 @@ fn spare_list(
     kept: &KeptTable,
     lists: &mut Vec<AccessList>,
     owners: &mut Vec<usize>,
-    spare: &mut Vec<usize>,
-) -> Result<usize, AllocError>
+    spare: &mut Vec<u32>,
+) -> Result<u32, AllocError>
     requires { AreOwned kept.now lists.old.items owners.old.items }
     ensures spare { IfOk result (λ list. IsSpare kept.now owners.new.items list) }
     ensures owned { AreOwned kept.now lists.new.items owners.new.items }
     ensures same { map (accesses_of lists.new.items) kept.now ≡ map (accesses_of lists.old.items) kept.now }
 {
     if let Some(list) = spare.pop() {
-        if list < owners.len() && is_spare(kept, owners[list], list) {
+        let number = list as usize;
+        if number < owners.len() && is_spare(kept, owners[number], list) {
             return Ok(list);
         }
     }
+    let Ok(list) = u32::try_from(lists.len()) else {
+        return Err(AllocError);
+    };
     lists.reserve(1)?;
     owners.push(0)?;
     lists.push_reserved(AccessList::new(alloc));
-    Ok(lists.len() - 1)
+    Ok(list)
 }
 
 /// Whether a place does not have this list.
-fn is_spare(kept: &KeptTable, place: usize, list: usize) -> bool
+fn is_spare(kept: &KeptTable, place: usize, list: u32) -> bool
     ensures { result ≡ true → place < length kept.now → slice_index_or kept.now place NOTHING ≢ InList list }
 {
     if kept.len() <= place {

@@ -1,4 +1,4 @@
-use Rattle.std.proofs.Common.{◌≡◌, ℕ, ◌+◌, List, [], ◌∷◌, ◌++◌, replicate, ap, ◌∙◌, arith, append_assoc}
+use Rattle.std.proofs.Common.{false, ◌≡◌, ℕ, ◌+◌, List, [], ◌∷◌, ◌++◌, replicate, ap, ◌∙◌, arith, append_assoc}
 use Rattle.std.proofs.lemmas.List.{replicate-append-replicate}
 use Rattle.tclocks.specs.declared.kept.Kept.{Kept}
 use Rattle.tclocks.specs.declared.kept.Kept.TheVariants.{OfOne}
@@ -12,7 +12,7 @@ one-more list n kept = append_assoc list (replicate n kept) (kept ∷ [])
 pub loop-preserved : goal.loop-preserved
 loop-preserved c = record {
   items = c.push_reserved.ensures.items
-      ∙ ap (λ (list : List Kept). list ++ OfOne 0 0 0 0 ∷ []) c.loop.invariant.items
-      ∙ one-more c.reserve.new.self.items c.loop.counter (OfOne 0 0 0 0);
+      ∙ ap (λ (list : List Kept). list ++ OfOne false 0 0 0 ∷ []) c.loop.invariant.items
+      ∙ one-more c.reserve.new.self.items c.loop.counter (OfOne false 0 0 0);
   room = omega arith;
 }

@@ -1,22 +1,16 @@
 use Rattle.std.proofs.Common.{◌∙◌, sym}
-use Rattle.tclocks.specs.declared.mode.Mode.TheVariants.{Looks, Claims, Puts}
-use Rattle.tclocks.proofs.Briefly.{own_look, own_claim, own_put, noted-same, access-same}
+use Rattle.tclocks.specs.declared.mode.Mode.TheVariants.{Claims, Puts}
+use Rattle.tclocks.proofs.Briefly.{own-claim, own-put, noted-same, access-same}
 use Rattle.tclocks.proofs.kept.Kept.note_own.Goals as goal
-
-pub returns-in-Looks-clause-noted : goal.returns-in-Looks-clause-noted
-returns-in-Looks-clause-noted c h clock =
-    noted-same _ _ _ _ _ _
-    (access-same c.args.mode Looks _ c.args.step c.in-Looks.is (sym c.from.ensures ∙ c.if-from-step.false))
-    c.in-OfOne.is (own_look _ _ _ _ _ _ c.requires)
 
 pub returns-in-Claims-clause-noted : goal.returns-in-Claims-clause-noted
 returns-in-Claims-clause-noted c h clock =
     noted-same _ _ _ _ _ _
     (access-same c.args.mode Claims _ c.args.step c.in-Claims.is (sym c.from.ensures ∙ c.if-from-step.false))
-    c.in-OfOne.is (own_claim _ _ _ _ _ _ c.requires)
+    c.in-OfOne.is (own-claim _ _ _ _ _ _ c.requires)
 
 pub returns-in-Puts-clause-noted : goal.returns-in-Puts-clause-noted
 returns-in-Puts-clause-noted c h clock =
     noted-same _ _ _ _ _ _
     (access-same c.args.mode Puts _ c.args.step c.in-Puts.is (sym c.from.ensures ∙ c.if-from-step.false))
-    c.in-OfOne.is (own_put _ _ _ _ _ _ c.requires)
+    c.in-OfOne.is (own-put _ _ _ _ _ _ c.requires)

@@ -1,4 +1,4 @@
-use Rattle.std.proofs.Common.{◌∙◌, ℕ, ap, sym, subst, List, ◌++◌, replicate}
+use Rattle.std.proofs.Common.{false, ◌∙◌, ℕ, ap, sym, subst, List, ◌++◌, replicate}
 use Rattle.tclocks.specs.declared.kept.Kept.{Kept}
 use Rattle.tclocks.specs.declared.kept.Kept.TheVariants.{OfOne}
 use Rattle.tclocks.specs.Tables.{all_in, HavePages}
@@ -14,4 +14,4 @@ returns-clause-ok c =
     ap (λ (n : ℕ). all_in c.add_pages.new.pages.items n) c.in-Some.ensures.1
     ∙ added c.self.inside.pages.items c.add_pages.new.pages.items c.self.inside.count c.args.count
     c.saturating_sub-more.result c.self.invariant c.in_ok-add_pages.ensures.ok
-    ∙ ap (λ (kept : List Kept). kept ++ replicate c.args.count (OfOne 0 0 0 0)) c.self.view_is
+    ∙ ap (λ (kept : List Kept). kept ++ replicate c.args.count (OfOne false 0 0 0)) c.self.view_is
