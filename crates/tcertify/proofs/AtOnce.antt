@@ -32,7 +32,7 @@ use Rattle.tcertify.proofs.NodeLives.{moves_not}
 use Rattle.tcertify.proofs.NodeRunning.{runs_at_given, runs_at_on, runs_at_stop}
 use Rattle.tword.specs.Words.{plus}
 
-holds_or : (b : Bool) → (b || true) ≡ true
+pub holds_or : (b : Bool) → (b || true) ≡ true
 holds_or true = refl
 holds_or false = refl
 

@@ -120,3 +120,5 @@ pub mod LinkChoices
 pub mod Leaving
 pub mod AtOnce
 pub mod Memory
+pub mod NotedWords
+pub mod QuietSteps

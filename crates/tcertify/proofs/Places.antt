@@ -2,7 +2,7 @@
 use Rattle.std.proofs.Common.{◌≡◌, ◌<◌, ℕ, zero, suc, length, arith, refl, sym, subst, ap, ◌∙◌, Bool, true, false}
 use Rattle.std.proofs.Common.{pos, List, [], ◌∷◌}
 use Rattle.std.proofs.Common.{Option, Some, None, Result, Ok, Err, eq-eqb, ◌⊎◌, inl, inr}
-use Rattle.std.specs.Prelude.{◌==◌, ◌&&◌, slice_get, slice_set, if◌then◌else◌}
+use Rattle.std.specs.Prelude.{◌==◌, ◌&&◌, IfNone, IfSome, slice_get, slice_set, if◌then◌else◌}
 use Rattle.std.proofs.lemmas.Bool.{cases_eq, eqb-true}
 use Rattle.tword.specs.declared.breaks.Break.{Break}
 use Rattle.tword.specs.declared.breaks.Break.TheVariants.{InTransit}
@@ -24,6 +24,7 @@ use Rattle.tcertify.specs.declared.notes.Mode.TheVariants as noted
 use Rattle.tcertify.specs.declared.stored.StoredWord.{StoredWord}
 use Rattle.tcertify.specs.declared.stored.Words.{Words}
 use Rattle.tcertify.specs.declared.word_use.WordUse.{WordUse}
+use Rattle.tcertify.specs.declared.word_use.WordUse.TheVariants as uses
 use Rattle.tcertify.specs.Cells.{cells_of}
 use Rattle.tcertify.specs.Running.{State, changed, run_part}
 use Rattle.tcertify.specs.Walked.{accesses, change_at, look_at}
@@ -285,3 +286,19 @@ module _ (w : Words) (mode : Mode) (a : ℕ) where
 pub word_number_is : (w : Words) (a k : ℕ) → or_break (word_place_break (site_of w).size a) (word_number a) ≡ Ok k
     → word_number a ≡ k
 word_number_is w a k e = (passed (word_place_break (site_of w).size a) (word_number a) k e).1
+
+-- a word that is free may be used
+pub free_so : (x : StoredWord) → x.used ≡ uses.Free
+    → (cells : Store) (s : State) → run_part (free_cells (use_of x.used) cells) s ≡ (Ok cells, s)
+free_so x e cells s =
+    subst (λ (u : WordUse). run_part (free_cells (use_of u) cells) s ≡ (Ok cells, s)) (sym e) refl
+
+-- what is told of a value, if there is one
+pub told_if : {X : Type 0} {P : X → Type 0} (o : Option X) → ((x : X) → o ≡ Some x → P x) → IfSome o P
+told_if None h = tt
+told_if (Some x) h = h x refl
+
+-- what holds in any case, where there is no value
+pub none_so : {X P : Type 0} (o : Option X) → P → IfNone o P
+none_so None p = p
+none_so (Some x) p = tt

@@ -45,6 +45,8 @@ pub mod Scheduling
 pub mod Steps
 -- the commonest instructions
 pub mod Common
+-- steps that touch nothing new
+pub mod Quiet
 -- parts of messages, and of alternatives
 pub mod Messages
 pub mod Choosing

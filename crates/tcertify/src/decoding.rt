@@ -44,7 +44,7 @@ fn function_of(code: u8) -> Option<Function>
 /// # Errors
 /// `NoSuchOperation` where its operation is not listed for the kind.
 #[inline(always)]
-fn single(byte: u8, kind: Kind) -> Result<Option<Instruction>, Break>
+pub(crate) fn single(byte: u8, kind: Kind) -> Result<Option<Instruction>, Break>
     ensures { result ≡ chain_of (spec.decode_bytes kind (byte ∷ [])) }
 {
     let Some(function) = function_of(byte / 16) else {

@@ -58,7 +58,7 @@ pub struct Note {
 }
 
 /// How many hints there are.
-const HINTS: usize = 64;
+const HINTS: usize = 256;
 
 /// What a step has touched. Where memory is out, a note gets lost. Notes of earlier steps may stand first.
 #[derive(Drop)]
@@ -100,7 +100,7 @@ impl Notes {
 
     /// Whether the note at the hint of a place tells of all accesses of which one of this mode tells.
     #[inline(always)]
-    fn tells(&self, place: u32, mode: Mode) -> bool
+    pub(crate) fn tells(&self, place: u32, mode: Mode) -> bool
         ensures { result ≡ true → Tells self.now place mode }
     {
         let hint = self.hints[place as usize % HINTS];

@@ -96,7 +96,7 @@ impl Words {
 
     /// Sets a word, for a use, and notes nothing.
     #[inline(always)]
-    fn set(&mut self, number: usize, cells: Cells, used: WordUse)
+    pub(crate) fn set(&mut self, number: usize, cells: Cells, used: WordUse)
         requires { number < length self.old.items.items }
         ensures { IsSet self.old number cells used self.new }
     {
