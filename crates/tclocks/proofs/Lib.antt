@@ -32,3 +32,5 @@ pub mod Knowing
 pub mod Turning
 -- how long nobody else knows of an access
 pub mod Owning
+-- steps that begin
+pub mod Beginning

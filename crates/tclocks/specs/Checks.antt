@@ -1,7 +1,7 @@
 -- What the check of a run keeps, and what each of its calls does to it.
 -- Source: own choice, after Flanagan and Freund, FastTrack (2009).
 use Rattle.std.specs.Prelude.{ℕ, ◌≡◌, ◌+◌, ◌<◌, ◌≤◌, List, [], ◌∷◌, ◌++◌, None, length, replicate, slice_index}
-use Rattle.std.specs.Prelude.{slice_index_or, slice_set}
+use Rattle.std.specs.Prelude.{slice_index_or, slice_set, suc, zero}
 use Rattle.tagents.specs.Tables.{Access as PlaceAccess}
 use Rattle.tclocks.specs.declared.mode.Mode.{Mode}
 use Rattle.tclocks.specs.declared.step.Step.{Step}
@@ -66,6 +66,11 @@ next_step check agent = record { agent = agent; number = steps_of check agent + 
 -- the agent's next step is begun
 abbrev pub begun : ℕ → Check → Check
 begun agent check = record check { clocks = slice_set check.clocks agent (raised (clock_of check agent) agent) }
+
+-- the agent's next so many steps are begun, one after another
+abbrev pub begun_times : (count agent : ℕ) → Check → Check
+begun_times zero agent check = check
+begun_times (suc count) agent check = begun agent (begun_times count agent check)
 
 -- the agent knows what the clock in the slot knows
 abbrev pub with_joined : ℕ → ℕ → Check → Check

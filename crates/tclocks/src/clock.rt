@@ -2,7 +2,7 @@
 
 ghost use Rattle.std.specs.Prelude.{◌≡◌, ◌+◌, ◌<◌, ◌≤◌, [], length, replicate, slice_index, IfNone, IfOk, IfSome};
 ghost use Rattle.std.specs.Prelude.{OnErr, OnOk, ◌-◌, ◌++◌};
-ghost use Rattle.tclocks.specs.Clocks.{joined, raised};
+ghost use Rattle.tclocks.specs.Clocks.{joined, raised, raised_by};
 
 use std::alloc::{AllocError, Global};
 use std::marker::Model;
@@ -65,6 +65,21 @@ impl Clock {
             return None;
         }
         *count += 1;
+        Some(*count)
+    }
+
+    /// So many more steps are known of an agent that has a count: how many in all, or nothing where the count has no
+    /// room.
+    #[inline]
+    pub fn raise_by(&mut self, agent: u32, steps: u32) -> Option<u32>
+        requires { agent < length self.old }
+        ensures number { IfSome result (λ number. number ≡ slice_index self.old agent + steps) }
+        ensures raised { IfSome result (λ _. self.new ≡ raised_by self.old agent steps) }
+        ensures limit { IfNone result (u32.MAX < slice_index self.old agent + steps) }
+        ensures none { IfNone result (self.new ≡ self.old) }
+    {
+        let count = &mut self.counts[agent as usize];
+        *count = count.checked_add(steps)?;
         Some(*count)
     }
 

@@ -1,10 +1,10 @@
 //! The check of a run, in one pass.
 
 ghost use Rattle.std.specs.Prelude.{◌≡◌, ◌<◌, ◌++◌, [], length, replicate, All, IfErr, IfNone, IfSome, OnErr, OnOk};
-ghost use Rattle.std.specs.Prelude.{◌↔◌, IsTrue, OnSome};
-ghost use Rattle.tclocks.specs.Checks.{accesses_at, begun, clock_of, next_step, nothing_checked, steps_of, IsAccessed};
+ghost use Rattle.std.specs.Prelude.{◌↔◌, ◌+◌, IsTrue, OnSome};
+ghost use Rattle.tclocks.specs.Checks.{accesses_at, begun, begun_times, clock_of, next_step, nothing_checked, steps_of};
 ghost use Rattle.tclocks.specs.Checks.{with_added, with_agent, with_cleared, with_handed, with_joined, with_places};
-ghost use Rattle.tclocks.specs.Checks.{last_step, with_slot, HasCounted};
+ghost use Rattle.tclocks.specs.Checks.{last_step, with_slot, HasCounted, IsAccessed};
 ghost use Rattle.tclocks.specs.Refusals.{IsDue};
 
 use crate::clock::Clock;
@@ -126,6 +126,20 @@ impl RaceCheck {
         ensures none { IfNone result (self.new ≡ self.old) }
     {
         let number = self.clocks[agent as usize].raise(agent)?;
+        Some(Step { agent, number })
+    }
+
+    /// The next `count` steps of an agent begin, and the last one that it has begun is told; nothing, where the agent
+    /// would have done more steps than a check can count.
+    #[inline(always)]
+    pub fn begin_many(&mut self, agent: u32, count: u32) -> Option<Step>
+        requires { agent < length self.old.clocks }
+        ensures step { IfSome result (λ step. step ≡ last_step self.new agent) }
+        ensures begun { OnSome result (self.new ≡ begun_times count agent self.old) }
+        ensures limit { IfNone result (u32.MAX < steps_of self.old agent + count) }
+        ensures none { IfNone result (self.new ≡ self.old) }
+    {
+        let number = self.clocks[agent as usize].raise_by(agent, count)?;
         Some(Step { agent, number })
     }
 

@@ -4,11 +4,11 @@ use Rattle.std.proofs.Common.{◌∷◌, Option, Some, None, Result, Ok, drop, f
 use Rattle.std.specs.Prelude.{option_map, slice_get, slice_set}
 use Rattle.std.proofs.Math.Seq.{drop-length}
 use Rattle.std.proofs.lemmas.Bool.{false≢true}
-use Rattle.std.proofs.lemmas.List.{length-set, set-get_or, set-set}
+use Rattle.std.proofs.lemmas.List.{set-get_or, set-set}
 use Rattle.std.proofs.lemmas.Option.{get_or_from_slice_get, same_Some, slice_get-map}
 use Rattle.std.specs.Vec.{with_item}
 use Rattle.tplan.specs.declared.plan.Plan.{Plan}
-use Rattle.tclocks.specs.Checks.{Check, begun, with_cleared, with_joined}
+use Rattle.tclocks.specs.Checks.{Check, begun, begun_times, with_cleared, with_joined}
 use Rattle.tclocks.specs.Clocks.{joined}
 use Rattle.tclocks.specs.Followed.{IsStep}
 use Rattle.tprocesses.specs.Machine.{is_ready}
@@ -411,18 +411,10 @@ module _ (c : Check) (number : ℕ) where
       (set-get_or clocks number [])
       ∙ ap (λ (x : List (List ℕ)). record empty { clocks = clocks; slots = x }) (set-set c.slots number [] [])
 
--- the check behind still steps has as many clocks and slots
-pub still_clocks : (count number : ℕ) (c : Check) → length (still_checked count number c).clocks ≡ length c.clocks
-still_clocks zero number c = refl
-still_clocks (suc count) number c =
-    length-set _ number _ ∙ length-set _ number _ ∙ still_clocks count number c
-
-pub still_more : (count number : ℕ) (c : Check) → 0 < count
-    → begun number (still_checked count number c) ≡ still_checked (count + 1) number c
-still_more zero number c some = absurd (omega (arith, some))
-still_more (suc count) number c some =
-    sym (begins_still (with_joined number number (begun number (still_checked count number c))) number)
-    ∙ ap (λ (j : ℕ). still_checked j number c) plus_one
-  where
-    plus_one : suc (suc count) ≡ suc count + 1
-    plus_one = omega arith
+-- behind the first of so many still steps the others only begin
+pub still_begun : (count number : ℕ) (c : Check)
+    → begun_times count number (still_checked 1 number c) ≡ still_checked (suc count) number c
+still_begun zero number c = refl
+still_begun (suc count) number c =
+    ap (λ (x : Check). begun number x) (still_begun count number c)
+    ∙ sym (begins_still (with_joined number number (begun number (still_checked count number c))) number)

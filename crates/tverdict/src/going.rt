@@ -33,11 +33,9 @@ fn tell_still(check: &mut RaceCheck, number: u32, count: u32) -> Result<(), Allo
     };
     check.join(number, number as usize)?;
     check.clear(number as usize);
-    for _step in 1..count {
-        let Some(_) = check.begin(number) else {
-            return Err(AllocError);
-        };
-    }
+    let Some(_) = check.begin_many(number, count - 1) else {
+        return Err(AllocError);
+    };
     Ok(())
 }
 
