@@ -56,5 +56,7 @@ pub mod Starting
 pub mod Scripted
 -- Steps of a process that goes on.
 pub mod Still
+-- Quiet steps.
+pub mod Quiet
 -- Steps that were made.
 pub mod Turned

@@ -42,6 +42,12 @@ pub record StaysStill (k processes_before channels_before population_before : �
   pub channels : length node.channels.items.items ≡ channels_before
   pub population : node.population ≡ population_before
 
+-- nothing was noted in the last step of a node, and it leads to nobody
+pub record IsSettled (node : Node) : Type 0 where
+  pub leads : node.leads.items ≡ []
+  pub earlier : node.words.notes.earlier ≡ length node.words.notes.items.items
+  pub kept : node.words.notes.is_lost ≡ false
+
 -- its step touches nothing that was not noted before and leads to nobody, nobody comes, and it goes on behind it
 pub record IsStill (k : ℕ) (old new : Node) : Type 0 where
   pub before : GoesOnAt old k

@@ -6,7 +6,7 @@ ghost use Rattle.tprocesses.specs.Scheduling.{successor_step};
 ghost use Rattle.tcertify.specs.Nodes.{address_at, name_at, node_site};
 ghost use Rattle.tcertify.specs.Steps.{step_of_process};
 ghost use Rattle.tverdict.specs.Calls.{DoesAfresh, IsAfresh, Recalls};
-ghost use Rattle.tverdict.specs.Still.{AreStill, EndsWith, GoesOnAt, StaysStill};
+ghost use Rattle.tverdict.specs.Still.{AreStill, EndsWith, GoesOnAt, IsSettled, StaysStill};
 
 use crate::finishing::Counts;
 use crate::idle::Idle;
@@ -141,7 +141,8 @@ pub(crate) fn do_steps(
             last: None,
         };
     }
-    for still in 0..most {
+    let mut still = 0;
+    while still < most {
         let before = Counts::of(node);
         let population = node.population;
         let outcome = do_process(node, alloc, idle, fresh_place, process, true);
@@ -151,11 +152,28 @@ pub(crate) fn do_steps(
                 last: Some(outcome),
             };
         }
+        still += 1;
+        still += do_quiet_steps(node, process, most - still);
     }
-    Steps {
-        still: most,
-        last: None,
+    Steps { still, last: None }
+}
+
+/// The next steps of a process that runs, as long as they are of the commonest instructions and touch nothing new, and
+/// at most so many: how many were made. Nothing was noted in the last step of the node.
+#[inline(always)]
+fn do_quiet_steps(node: &mut Node, process: u32, most: u32) -> u32
+    requires there { process < length node.old.processes.items.items }
+    requires settled { IsSettled node.old }
+    ensures still { AreStill result process node.old node.new }
+    ensures few { result ≤ most }
+    ensures goes { GoesOnAt node.old process → GoesOnAt node.new process }
+{
+    for done in 0..most {
+        if !node.quiet_step(process) {
+            return done;
+        }
     }
+    most
 }
 
 /// Whether nothing was noted in the last step of a node and it leads to nobody, nobody has come since the node had so

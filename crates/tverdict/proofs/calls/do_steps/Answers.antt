@@ -8,6 +8,7 @@ use Rattle.tcertify.specs.Nodes.{name_at, node_site}
 use Rattle.tcertify.specs.Steps.{step_of_process}
 use Rattle.tverdict.specs.Calls.{DoesAfresh}
 use Rattle.tverdict.specs.Still.{AreStill, GoesOnAt, IsStill, StaysStill}
+use Rattle.tverdict.proofs.Quiet.{settled_so, still_on}
 use Rattle.tverdict.proofs.calls.do_steps.Goals as goal
 
 -- a process that goes on is there
@@ -42,7 +43,7 @@ pub returns-then-not-goes_on-clause-steps : goal.returns-then-not-goes_on-clause
 returns-then-not-goes_on-clause-steps c = (c.args.node.now, refl, refl)
 
 pub loop-still-init : goal.loop-still-init
-loop-still-init c = record { still = refl; goes = c.if-not-goes_on.ensures.0 refl }
+loop-still-init c = record { still = refl; goes = c.if-not-goes_on.ensures.0 refl; few = omega arith }
 
 pub do_process-outcome-requires : goal.do_process-outcome-requires
 do_process-outcome-requires c = is_there c.loop-still.node c.args.process c.loop-still.invariant.goes
@@ -57,20 +58,27 @@ returns-then-is_err-clause-steps c =
     let so_far = c.loop-still.invariant in
     (c.loop-still.node, so_far.still, (so_far.goes, c.do_process-outcome.ensures))
 
+pub do_quiet_steps-still-requires : goal.do_quiet_steps-still-requires
+do_quiet_steps-still-requires c =
+    let so_far = c.loop-still.invariant in let new = c.do_process-outcome.new.node in
+    let stays = c.if-not-is_still.ensures.0 refl in
+    record { there = is_there new c.args.process stays.goes; settled = settled_so _ _ _ _ new stays }
+
 pub loop-still-preserved : goal.loop-still-preserved
 loop-still-preserved c =
-    let so_far = c.loop-still.invariant in let old = c.loop-still.node in let new = c.do_process-outcome.new.node in
+    let so_far = c.loop-still.invariant in let old = c.loop-still.node in let mid = c.do_process-outcome.new.node in
+    let new = c.do_quiet_steps-still.new.node in let some = c.loop-still.still in
     let k = c.args.process in let counts = c.of-before.result in let stays = c.if-not-is_still.ensures.0 refl in
-    let one : IsStill k old new =
-    step_is_still k counts.processes counts.channels old c.do_process-outcome.result new (sym c.if-is_err.ensures.value)
+    let one : IsStill k old mid =
+    step_is_still k counts.processes counts.channels old c.do_process-outcome.result mid (sym c.if-is_err.ensures.value)
     c.of-before.ensures.processes c.of-before.ensures.channels so_far.goes c.do_process-outcome.ensures stays in
-    record { still = one_more c.loop-still.still k c.args.node.now old new so_far.still one; goes = one.stays.goes }
+    let quiet = c.do_quiet_steps-still.ensures in
+    record {
+      still = still_on c.do_quiet_steps-still.result (some + 1) k c.args.node.now mid new _ refl
+          (one_more some k c.args.node.now old mid so_far.still one) quiet.still;
+      goes = quiet.goes one.stays.goes;
+      few = omega (arith, quiet.few);
+    }
 
 pub returns-clause-steps : goal.returns-clause-steps
-returns-clause-steps c =
-    let count = c.loop-still.still in let new = c.loop-still.node in
-    let all : count ≡ c.args.most = omega arith in (
-      new,
-      subst (λ (n : ℕ). AreStill n c.args.process c.args.node.now new) all c.loop-still.invariant.still,
-      refl,
-    )
+returns-clause-steps c = (c.loop-still.node, c.loop-still.invariant.still, refl)
