@@ -69,7 +69,7 @@ pub(crate) fn single(byte: u8, kind: Kind) -> Result<Option<Instruction>, Break>
 /// `LongPrefix` where the first sixteen are all prefixes, `NoSuchOperation` where its operation is not listed for the
 /// kind.
 #[inline(always)]
-fn chain(bytes: &[u8], kind: Kind) -> Result<Option<Instruction>, Break>
+pub(crate) fn chain(bytes: &[u8], kind: Kind) -> Result<Option<Instruction>, Break>
     ensures { result ≡ chain_of (spec.decode_bytes kind bytes.now) }
 {
     match decode_bytes(bytes, kind) {

@@ -27,7 +27,7 @@ impl Node {
         self.words.notes.tells(place, Mode::Puts)
     }
 
-    /// The instruction of one byte at an address, if its touch is noted.
+    /// The instruction of one or two bytes at an address, if their touch is noted.
     #[inline(always)]
     fn decodes_noted(&self, iptr: Word) -> Option<Instruction>
         ensures { IfSome result (λ instruction. RunsAt (decoded (node_site self.now) iptr) self.now (Ok instruction)

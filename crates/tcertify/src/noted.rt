@@ -1,20 +1,21 @@
 //! Touches of words that notes tell of already: they are done without a note, or not at all.
 
-ghost use Rattle.std.specs.Prelude.{◌≡◌, ◌<◌, ◌∷◌, [], IfNone, IfSome, Ok, Some, false, length, true};
+ghost use Rattle.std.specs.Prelude.{◌≡◌, ◌<◌, ◌∷◌, [], IfNone, IfSome, None, Ok, Some, false, length, true};
+ghost use Rattle.tcode.specs.Decoding.{decode_bytes};
 ghost use Rattle.tword.specs.Touches.{Reads, Writes};
 ghost use Rattle.tprocesses.specs.Touching.{touch_word, touch_word_at, write_word_at};
 ghost use Rattle.tcertify.specs.Cells.{cells_of};
 ghost use Rattle.tcertify.specs.Carried.{with_left};
 ghost use Rattle.tcertify.specs.Contexts.{context_of};
 ghost use Rattle.tcertify.specs.Quiet.{LeavesNoted};
-ghost use Rattle.tcertify.specs.Instructions.{decoded, touch_byte};
+ghost use Rattle.tcertify.specs.Instructions.{chain_of, decoded, decoded_behind, touch_byte};
 ghost use Rattle.tcertify.specs.Words.{IsTouched, Runs, site_of};
 ghost use Rattle.tcertify.specs.declared.notes.Mode.TheVariants.{Puts};
 
 use crate::cells::Cells;
 use crate::common::left_alone;
 use crate::context::{Context, Left, known_value};
-use crate::decoding::single;
+use crate::decoding::{chain, single};
 use crate::notes::Mode;
 use crate::performing::word_address;
 use crate::stored::Words;
@@ -111,7 +112,7 @@ impl Words {
         true
     }
 
-    /// The instruction of one byte at an address, if its touch is noted.
+    /// The instruction of one or two bytes at an address, if their touch is noted.
     #[inline(always)]
     pub(crate) fn decodes_noted(&self, iptr: Word) -> Option<Instruction>
         ensures { IfSome result (λ instruction. Runs (decoded (site_of self.now) iptr) self.now (Ok instruction)
@@ -119,6 +120,22 @@ impl Words {
     {
         let first = self.byte_noted(iptr)?;
         match single(first, self.kind) {
+            Ok(Some(instruction)) => Some(instruction),
+            Ok(None) => self.decodes_behind_noted(iptr, first),
+            Err(_) => None,
+        }
+    }
+
+    /// The instruction of two bytes at an address of which the first was read, a prefix, if the touch of the other is
+    /// noted.
+    #[inline(always)]
+    fn decodes_behind_noted(&self, iptr: Word, first: u8) -> Option<Instruction>
+        requires { chain_of (decode_bytes self.now.kind (first ∷ [])) ≡ Ok None }
+        ensures { IfSome result (λ instruction. Runs (decoded_behind (site_of self.now) iptr first) self.now
+            (Ok instruction) self.now) }
+    {
+        let second = self.byte_noted(iptr.plus(Word::new(1)))?;
+        match chain(&[first, second], self.kind) {
             Ok(found) => found,
             Err(_) => None,
         }

@@ -70,6 +70,8 @@ pub struct Notes {
     pub earlier: usize,
     /// Where the last note of a place may be. It is only a hint, so the note that is there is looked at.
     hints: [u16; HINTS],
+    /// Where that of another place may be which has the same hint.
+    older_hints: [u16; HINTS],
 }
 
 impl Notes {
@@ -83,6 +85,7 @@ impl Notes {
             is_lost: false,
             earlier: 0,
             hints: [0; HINTS],
+            older_hints: [0; HINTS],
         }
     }
 
@@ -98,16 +101,25 @@ impl Notes {
         self.note(place, mode);
     }
 
-    /// Whether the note at the hint of a place tells of all accesses of which one of this mode tells.
+    /// Whether the note of this number is one of the place, and tells of all accesses of which one of this mode tells.
+    #[inline(always)]
+    fn tells_at(&self, number: u16, place: u32, mode: Mode) -> bool
+        ensures { result ≡ true → Tells self.now place mode }
+    {
+        match self.items.get(number as usize) {
+            Some(known) => known.place == place && known.mode.tells(mode),
+            None => false,
+        }
+    }
+
+    /// Whether a note at a hint of a place tells of all accesses of which one of this mode tells.
     #[inline(always)]
     pub(crate) fn tells(&self, place: u32, mode: Mode) -> bool
         ensures { result ≡ true → Tells self.now place mode }
     {
-        let hint = self.hints[place as usize % HINTS];
-        match self.items.get(hint as usize) {
-            Some(known) => known.place == place && known.mode.tells(mode),
-            None => false,
-        }
+        let slot = place as usize % HINTS;
+        self.tells_at(self.hints[slot], place, mode)
+            || self.tells_at(self.older_hints[slot], place, mode)
     }
 
     /// Whether the note of this number is one of this step at the place, and one of this mode tells of all accesses of
@@ -148,7 +160,9 @@ impl Notes {
             return;
         }
         if let Ok(hint) = u16::try_from(count) {
-            self.hints[place as usize % HINTS] = hint;
+            let slot = place as usize % HINTS;
+            self.older_hints[slot] = self.hints[slot];
+            self.hints[slot] = hint;
         }
     }
 
