@@ -26,11 +26,6 @@ pub kept_known : (o : Option ℕ) → known_value (is_some o) (unwrap_or o 0) �
 kept_known None = refl
 kept_known (Some v) = refl
 
--- a register that is not known
-pub none_known : (o : Option ℕ) → ((v : ℕ) → o ≡ Some v → ⊥) → is_some o ≡ false
-none_known None not = refl
-none_known (Some v) not = absurd (not v refl)
-
 -- a number that is not 0
 pub no_zero : (n : ℕ) → (n ≡ 0 → ⊥) → (n == 0) ≡ false
 no_zero n ne = by (n == 0) refl

@@ -119,6 +119,5 @@ pub mod LinkChoices
 -- The commonest instructions.
 pub mod Leaving
 pub mod AtOnce
-pub mod Memory
 pub mod NotedWords
 pub mod QuietSteps

@@ -1,5 +1,5 @@
 -- The commonest instructions where all that they touch is noted.
-use Rattle.std.proofs.Common.{◌≡◌, ◌<◌, ℕ, refl, sym, ap, ◌∙◌, subst, length, Bool, true, Option, Some, Ok, List, [], ◌∷◌}
+use Rattle.std.proofs.Common.{◌≡◌, ◌<◌, ℕ, refl, sym, ap, ◌∙◌, subst, length, Bool, true, Option, Some, Ok, [], ◌∷◌}
 use Rattle.std.specs.Int.{w32, from_le_bytes, to_le_bytes}
 use Rattle.std.specs.Prelude.{is_some, unwrap_or}
 use Rattle.tword.specs.Actions.{Action}
@@ -16,7 +16,7 @@ use Rattle.tcpu.specs.Functions.{function_effect}
 use Rattle.tcpu.specs.Outcomes.{Outcome, goes, one_to, pop, push}
 use Rattle.tprocesses.specs.Changes.{are_known}
 use Rattle.tprocesses.specs.Instructions as spec
-use Rattle.tprocesses.specs.Performing.{Performed, bytes_if, perform}
+use Rattle.tprocesses.specs.Performing.{bytes_if, perform}
 use Rattle.tprocesses.specs.Touching.{touch_word_at, write_word_at}
 use Rattle.tprocesses.specs.Uses.{known_value, known_writes}
 use Rattle.tprocesses.specs.Values.{Context}
@@ -25,7 +25,6 @@ use Rattle.tcertify.specs.declared.stored.Words.{Words}
 use Rattle.tcertify.specs.Common.{LeavesAlone, unseen, used}
 use Rattle.tcertify.specs.Nodes.{AreBesides}
 use Rattle.tcertify.specs.Quiet.{IsExecuted, LeavesNoted}
-use Rattle.tcertify.specs.Steps.{performed}
 use Rattle.tcertify.specs.Words.{Runs, site_of}
 use Rattle.tcertify.proofs.Actions.{reads_alone, writes_on}
 use Rattle.tcertify.proofs.AtOnce.{ends, holds_or}

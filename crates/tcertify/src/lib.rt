@@ -25,7 +25,6 @@ mod node;
 mod node_channels;
 mod node_choosing;
 mod node_chosen;
-mod node_common;
 mod node_disabling;
 mod node_firing;
 mod node_flags;

@@ -17,7 +17,6 @@ ghost use Rattle.tcertify.specs.Words.{told};
 use crate::alone::IdleMemory;
 use crate::carrying::{Carried, has_flags};
 use crate::choosing::may_move;
-use crate::common::left_alone;
 use crate::context::Context;
 use crate::decoding::decode;
 use crate::fault::Fault;
@@ -29,7 +28,7 @@ use crate::standing::Stand;
 use crate::stop::Stop;
 use crate::uses::Uses;
 use std::alloc::Global;
-use tcode::{Function, Instruction};
+use tcode::Instruction;
 use tcpu::{Next, Registers};
 use tword::Word;
 
@@ -41,7 +40,6 @@ impl Node {
     #[inline(always)]
     fn decodes(&mut self, iptr: Word) -> Result<Instruction, Stop>
         ensures done { RunsAt (decoded (node_site self.old) iptr) self.old (told (λ i. i) result) self.new }
-        ensures processes { self.new.processes ≡ self.old.processes }
         ensures kind { self.new.words.kind ≡ self.old.words.kind }
     {
         decode(&mut self.words, iptr)
@@ -198,41 +196,6 @@ impl Node {
         instruction: Instruction,
     ) -> Result<(), Fault>
         requires there { process < length self.old.processes.items.items }
-        requires runs { IsRunning self.old process context.now }
-        requires kind { idle.old.memory.kind ≡ self.old.words.kind }
-        ensures done { Does (spec.executed (node_site self.old) (name_at self.old process) (context_of context.now)
-            instruction) nothing self.old result self.new }
-        ensures idle { idle.new.memory.kind ≡ idle.old.memory.kind }
-    {
-        match instruction.function {
-            Function::Ldl => self.loads_local(process, context, &instruction),
-            Function::Ldnl => self.loads_non_local(process, context, &instruction),
-            Function::Stl => self.stores_local(process, context, &instruction),
-            Function::Stnl => self.stores_non_local(process, context, &instruction),
-            _ => match left_alone(context, &instruction, self.words.kind) {
-                Some(left) => {
-                    self.goes_on_alone(process, context, &instruction, left);
-                    Ok(())
-                }
-                None => self.executes_any(alloc, idle, process, context, instruction),
-            },
-        }
-    }
-
-    /// Does an instruction of a process, whichever it is. idle: a memory of the node's kind that is not touched.
-    ///
-    /// # Errors
-    /// Those of `instructs` and of what follows.
-    #[inline(never)]
-    fn executes_any(
-        &mut self,
-        alloc: Global,
-        idle: &mut IdleMemory,
-        process: u32,
-        context: &Context,
-        instruction: Instruction,
-    ) -> Result<(), Fault>
-        requires there { process < length self.old.processes.items.items }
         requires kind { idle.old.memory.kind ≡ self.old.words.kind }
         ensures done { Does (spec.executed (node_site self.old) (name_at self.old process) (context_of context.now)
             instruction) nothing self.old result self.new }
@@ -257,7 +220,6 @@ impl Node {
         context: &Context,
     ) -> Result<(), Fault>
         requires there { process < length self.old.processes.items.items }
-        requires runs { IsRunning self.old process context.now }
         requires kind { idle.old.memory.kind ≡ self.old.words.kind }
         ensures done { Does (spec.runs (node_site self.old) (name_at self.old process) (context_of context.now)) nothing
             self.old result self.new }
@@ -272,9 +234,8 @@ impl Node {
     fn sees_running(&mut self, process: u32, context: &Context)
         requires there { process < length self.old.processes.items.items }
         requires runs { IsRunning self.old process context.now }
-        ensures seen { RunsAt (see (Standing (name_at self.old process))) self.old
+        ensures { RunsAt (see (Standing (name_at self.old process))) self.old
             (Ok (IsStand (Runs (context_of context.now)))) self.new }
-        ensures processes { self.new.processes ≡ self.old.processes }
     {
         let place = self.processes.items[process as usize].place;
         self.words.notes.add(place, Mode::Looks);

@@ -24,9 +24,7 @@ impl Node {
     /// Those of `Words::read_word`.
     #[inline(always)]
     pub(crate) fn read_word(&mut self, address: Word) -> Result<Cells, Stop>
-        ensures done { RunsAt (touch_word_at (node_site self.old) Reads address) self.old (told cells_of result)
-            self.new }
-        ensures processes { self.new.processes ≡ self.old.processes }
+        ensures { RunsAt (touch_word_at (node_site self.old) Reads address) self.old (told cells_of result) self.new }
     {
         self.words.read_word(address)
     }
@@ -37,9 +35,8 @@ impl Node {
     /// Those of `Words::store`; nothing is changed then.
     #[inline(always)]
     pub(crate) fn store(&mut self, address: Word, known: bool, value: Word) -> Result<(), Stop>
-        ensures done { RunsAt (write_word_at (node_site self.old) address (bytes_if known (to_le_bytes w32 value)))
-            self.old (told nothing result) self.new }
-        ensures processes { self.new.processes ≡ self.old.processes }
+        ensures { RunsAt (write_word_at (node_site self.old) address (bytes_if known (to_le_bytes w32 value))) self.old
+            (told nothing result) self.new }
     {
         self.words.store(address, known, value)
     }

@@ -1,4 +1,3 @@
-use Rattle.std.proofs.Common.{sym, ap, ◌∙◌}
 use Rattle.tcertify.specs.Contexts.{context_of}
 use Rattle.tcertify.proofs.Leaving.{adds_constant, loads_address, loads_constant, loads_non_local_address}
 use Rattle.tcertify.proofs.Leaving.{tests_equal}

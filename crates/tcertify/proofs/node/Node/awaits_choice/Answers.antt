@@ -35,7 +35,7 @@ returns-in_err-store c =
     rw (p.1, p.2)
     (runs_at_stop (write_word_at (node_site a) ctx.wptr (as_cells (to_le_bytes w32 none_selected)))
     ((asks ctx) (node_site a) (name_at a k)) a b (reason_of c.in_err-store.field-0.0)
-    (rw c.new.ensures at c.in_err-store.ensures.done))
+    (rw c.new.ensures at c.in_err-store.ensures))
 
 pub returns-in_err-choice : goal.returns-in_err-choice
 returns-in_err-choice c =
@@ -44,11 +44,11 @@ returns-in_err-choice c =
     let b = c.store.new.self in
     let d = c.under_way.new.self in
     let in_a : k < length a.processes.items.items = c.requires in
-    let in_b = inside_still a b k (rw c.new.ensures at c.in_ok-store.ensures.done).grows in_a in
+    let in_b = inside_still a b k (rw c.new.ensures at c.in_ok-store.ensures).grows in_a in
     let p = err_from_is_err_and c.from_residual-in_err-choice.result c.from_residual-in_err-choice.ensures.1 in
     rw (p.1, p.2)
     (runs_then a b d k (write_word_at (node_site a) ctx.wptr (as_cells (to_le_bytes w32 none_selected))) (asks ctx)
-    (tt) (rw c.new.ensures at c.in_ok-store.ensures.done) in_a (Err (reason_of c.in_err-choice.field-0.0))
+    (tt) (rw c.new.ensures at c.in_ok-store.ensures) in_a (Err (reason_of c.in_err-choice.field-0.0))
     (runs_at_stop (spec.under_way (node_site b) ctx) ((waits ctx) (node_site b) (name_at b k)) b d
     (reason_of c.in_err-choice.field-0.0) (c.in_err-choice.ensures)))
 
@@ -59,11 +59,11 @@ returns-then-choice c =
     let b = c.store.new.self in
     let d = c.under_way.new.self in
     let in_a : k < length a.processes.items.items = c.requires in
-    let in_b = inside_still a b k (rw c.new.ensures at c.in_ok-store.ensures.done).grows in_a in
+    let in_b = inside_still a b k (rw c.new.ensures at c.in_ok-store.ensures).grows in_a in
     let in_d = inside_still b d k (c.in_ok-choice.ensures).grows in_b in
     let e = c.goes_on.new.self in
     (does_then a b e k (write_word_at (node_site a) ctx.wptr (as_cells (to_le_bytes w32 none_selected))) (asks ctx)
-    (tt) (rw c.new.ensures at c.in_ok-store.ensures.done) in_a nothing (Ok tt)
+    (tt) (rw c.new.ensures at c.in_ok-store.ensures) in_a nothing (Ok tt)
     (does_then b d e k (spec.under_way (node_site b) ctx) (waits ctx) (choice_of c.in_ok-choice.choice)
     (c.in_ok-choice.ensures) in_b nothing (Ok tt)
     (does_first (goes_on (name_at d k) ctx) (spec.waits_for_ports (node_site d) (name_at d k) ctx)
@@ -76,11 +76,11 @@ returns c =
     let b = c.store.new.self in
     let d = c.under_way.new.self in
     let in_a : k < length a.processes.items.items = c.requires in
-    let in_b = inside_still a b k (rw c.new.ensures at c.in_ok-store.ensures.done).grows in_a in
+    let in_b = inside_still a b k (rw c.new.ensures at c.in_ok-store.ensures).grows in_a in
     let in_d = inside_still b d k (c.in_ok-choice.ensures).grows in_b in
     let e = c.waits_for_ports.new.self in
     (does_then a b e k (write_word_at (node_site a) ctx.wptr (as_cells (to_le_bytes w32 none_selected))) (asks ctx)
-    (tt) (rw c.new.ensures at c.in_ok-store.ensures.done) in_a nothing (c.waits_for_ports.result)
+    (tt) (rw c.new.ensures at c.in_ok-store.ensures) in_a nothing (c.waits_for_ports.result)
     (does_then b d e k (spec.under_way (node_site b) ctx) (waits ctx) (choice_of c.in_ok-choice.choice)
     (c.in_ok-choice.ensures) in_b nothing (c.waits_for_ports.result)
     (does_second (goes_on (name_at d k) ctx) (spec.waits_for_ports (node_site d) (name_at d k) ctx)

@@ -92,7 +92,7 @@ returns-in_err-cells c =
     (ports_same b d k c.sees_ports.ensures.processes) c.in_ok-has_no_port.ensures) in_d
     (Err (reason_of c.in_err-cells.field-0.0))
     (runs_at_stop (touch_word_at (node_site d) Reads ctx.wptr) ((knows ctx) (node_site d) (name_at d k)) d e
-    (reason_of c.in_err-cells.field-0.0) (c.in_err-cells.ensures.done)))))
+    (reason_of c.in_err-cells.field-0.0) (c.in_err-cells.ensures)))))
 
 pub returns-in_err-offset : goal.returns-in_err-offset
 returns-in_err-offset c =
@@ -104,7 +104,7 @@ returns-in_err-offset c =
     let in_a : k < length a.processes.items.items = c.requires in
     let in_b = inside_still a b k (c.in_ok-under_way.ensures).grows in_a in
     let in_d = inside_still b d k (c.sees_ports.ensures.looks).grows in_b in
-    let in_e = inside_still d e k (c.in_ok-cells.ensures.done).grows in_d in
+    let in_e = inside_still d e k (c.in_ok-cells.ensures).grows in_d in
     let p = err_from_is_err_and c.from_residual-in_err-offset.result c.from_residual-in_err-offset.ensures.1 in
     rw (p.1, p.2)
     (runs_then a b e k (spec.under_way (node_site a) ctx) (sees ctx) (choice_of c.in_ok-under_way.field-0)
@@ -116,7 +116,7 @@ returns-in_err-offset c =
     (ports_same b d k c.sees_ports.ensures.processes) c.in_ok-has_no_port.ensures) in_d
     (Err (reason_of c.in_err-offset.field-0.0))
     (runs_then d e e k (touch_word_at (node_site d) Reads ctx.wptr) (knows ctx) (cells_of c.in_ok-cells.cells)
-    (c.in_ok-cells.ensures.done) in_d (Err (reason_of c.in_err-offset.field-0.0))
+    (c.in_ok-cells.ensures) in_d (Err (reason_of c.in_err-offset.field-0.0))
     (runs_at_stop (known (known_word (cells_of c.in_ok-cells.cells))) ((frees ctx) (node_site e) (name_at e k)) e e
     (reason_of c.in_err-offset.field-0.0) (c.in_err-offset.ensures e))))))
 
@@ -131,7 +131,7 @@ returns-in_err-puts_state c =
     let in_a : k < length a.processes.items.items = c.requires in
     let in_b = inside_still a b k (c.in_ok-under_way.ensures).grows in_a in
     let in_d = inside_still b d k (c.sees_ports.ensures.looks).grows in_b in
-    let in_e = inside_still d e k (c.in_ok-cells.ensures.done).grows in_d in
+    let in_e = inside_still d e k (c.in_ok-cells.ensures).grows in_d in
     let p = err_from_is_err_and c.from_residual-in_err-puts_state.result c.from_residual-in_err-puts_state.ensures.1 in
     rw (p.1, p.2)
     (does_then a b f k (spec.under_way (node_site a) ctx) (sees ctx) (choice_of c.in_ok-under_way.field-0)
@@ -143,7 +143,7 @@ returns-in_err-puts_state c =
     (ports_same b d k c.sees_ports.ensures.processes) c.in_ok-has_no_port.ensures) in_d nothing
     (Err c.in_err-puts_state.field-0.0)
     (does_then d e f k (touch_word_at (node_site d) Reads ctx.wptr) (knows ctx) (cells_of c.in_ok-cells.cells)
-    (c.in_ok-cells.ensures.done) in_d nothing (Err c.in_err-puts_state.field-0.0)
+    (c.in_ok-cells.ensures) in_d nothing (Err c.in_err-puts_state.field-0.0)
     (does_then e e f k (known (known_word (cells_of c.in_ok-cells.cells))) (frees ctx) (c.in_ok-offset.offset)
     (c.in_ok-offset.ensures e) in_e nothing (Err c.in_err-puts_state.field-0.0)
     (does_stop (puts_state (node_site e) (spec.state_address ctx) Free)
@@ -162,7 +162,7 @@ returns c =
     let in_a : k < length a.processes.items.items = c.requires in
     let in_b = inside_still a b k (c.in_ok-under_way.ensures).grows in_a in
     let in_d = inside_still b d k (c.sees_ports.ensures.looks).grows in_b in
-    let in_e = inside_still d e k (c.in_ok-cells.ensures.done).grows in_d in
+    let in_e = inside_still d e k (c.in_ok-cells.ensures).grows in_d in
     let in_f = inside_still e f k (rw c.below.ensures at c.in_ok-puts_state.ensures).grows in_e in
     let g = c.goes_on.new.self in
     (runs_then a b g k (spec.under_way (node_site a) ctx) (sees ctx) (choice_of c.in_ok-under_way.field-0)
@@ -173,7 +173,7 @@ returns c =
     (subst (λ (l : List ℕ). RunsAt (require (spec.has_none l) WordInUse) d (Ok tt) d)
     (ports_same b d k c.sees_ports.ensures.processes) c.in_ok-has_no_port.ensures) in_d (Ok tt)
     (runs_then d e g k (touch_word_at (node_site d) Reads ctx.wptr) (knows ctx) (cells_of c.in_ok-cells.cells)
-    (c.in_ok-cells.ensures.done) in_d (Ok tt)
+    (c.in_ok-cells.ensures) in_d (Ok tt)
     (runs_then e e g k (known (known_word (cells_of c.in_ok-cells.cells))) (frees ctx) (c.in_ok-offset.offset)
     (c.in_ok-offset.ensures e) in_e (Ok tt)
     (runs_then e f g k (puts_state (node_site e) (spec.state_address ctx) Free) (goes ctx c.in_ok-offset.offset) (tt)

@@ -10,15 +10,15 @@ returns-in_err-cells c =
     let p = err_from_is_err_and c.from_residual.result c.from_residual.ensures.1 in
     rw (p.1, p.2)
     (address_not c.args.self.now c.read_word.new.self c.args.address (reason_of c.in_err-cells.field-0.0)
-    c.in_err-cells.ensures.done)
+    c.in_err-cells.ensures)
 
 pub returns-then-not-are_known : goal.returns-then-not-are_known
 returns-then-not-are_known c =
     address_hidden c.args.self.now c.read_word.new.self c.args.address (cells_of c.in_ok-cells.cells)
-    c.in_ok-cells.ensures.done (sym c.are_known.ensures ∙ c.if-not-are_known.true)
+    c.in_ok-cells.ensures (sym c.are_known.ensures ∙ c.if-not-are_known.true)
 
 pub returns : goal.returns
 returns c =
     rw c.word.ensures
     (address_seen c.args.self.now c.read_word.new.self c.args.address (cells_of c.in_ok-cells.cells)
-    c.in_ok-cells.ensures.done (sym c.are_known.ensures ∙ c.if-not-are_known.false))
+    c.in_ok-cells.ensures (sym c.are_known.ensures ∙ c.if-not-are_known.false))

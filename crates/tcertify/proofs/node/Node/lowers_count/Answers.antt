@@ -11,7 +11,7 @@ returns-in_err-read_word c =
     let p = err_from_is_err_and c.from_residual.result c.from_residual.ensures.1 in
     rw (p.1, p.2)
     (counts_not c.args.self.now c.read_word.new.self c.args.workspace (number_of c.args.priority)
-    (reason_of c.in_err-read_word.field-0.0) c.in_err-read_word.ensures.done)
+    (reason_of c.in_err-read_word.field-0.0) c.in_err-read_word.ensures)
 
 pub returns-in_err-number : goal.returns-in_err-number
 returns-in_err-number c =
@@ -21,7 +21,7 @@ returns-in_err-number c =
     c.plus-count.ensures ∙ ap (λ (n : ℕ). plus c.args.workspace n) c.new.ensures in
     rw (p.1, p.2)
     (counts_nowhere c.args.self.now c.read_word.new.self c.args.workspace (number_of c.args.priority)
-    (cells_of c.in_ok-read_word.field-0) c.in_ok-read_word.ensures.done _ c.in_err-number.field-0.0
+    (cells_of c.in_ok-read_word.field-0) c.in_ok-read_word.ensures _ c.in_err-number.field-0.0
     (rw at at (sym c.in_err-number.ensures.checks)))
 
 pub unsent-requires-clause-tells : goal.unsent-requires-clause-tells
@@ -44,7 +44,7 @@ returns-in_err-unsent c =
     let same = numbered _ _ _ (sym c.in_ok-number.ensures.checks) in
     rw (p.1, p.2)
     (counts_sent c.args.self.now c.read_word.new.self c.args.workspace (number_of c.args.priority)
-    (cells_of c.in_ok-read_word.field-0) c.in_ok-read_word.ensures.done _ _
+    (cells_of c.in_ok-read_word.field-0) c.in_ok-read_word.ensures _ _
     (rw at at (sym c.in_ok-number.ensures.checks)) c.unsent.new.self (reason_of c.in_err-unsent.field-0.0)
     (rw at at (rw same at c.in_err-unsent.ensures.done)))
 
@@ -54,6 +54,6 @@ returns c =
     c.plus-count.ensures ∙ ap (λ (n : ℕ). plus c.args.workspace n) c.new.ensures in
     let same = numbered _ _ _ (sym c.in_ok-number.ensures.checks) in
     counts c.args.self.now c.read_word.new.self c.args.workspace (number_of c.args.priority)
-    (cells_of c.in_ok-read_word.field-0) c.in_ok-read_word.ensures.done _ _
+    (cells_of c.in_ok-read_word.field-0) c.in_ok-read_word.ensures _ _
     (rw at at (sym c.in_ok-number.ensures.checks)) c.unsent.new.self _
     (rw at at (rw same at c.in_ok-unsent.ensures.done)) (rw at at c.decrement.ensures)

@@ -1,8 +1,7 @@
-use Rattle.std.proofs.Common.{◌≡◌, refl, sym, ap, ◌∙◌, length, inl, Some}
+use Rattle.std.proofs.Common.{◌≡◌, refl, ap, ◌∙◌, length, Some}
 use Rattle.std.specs.Prelude.{option_map, slice_get}
 use Rattle.std.proofs.lemmas.Option.{slice_get_read}
 use Rattle.tcertify.specs.declared.process.Process.{Process}
-use Rattle.tcertify.specs.Contexts.{context_of}
 use Rattle.tcertify.proofs.QuietSteps.{quiet}
 use Rattle.tcertify.proofs.node.Node.quiet_step.Goals as goal
 

@@ -13,8 +13,8 @@ use Rattle.tcertify.proofs.NodeChanging.{looks_at}
 use Rattle.tcertify.proofs.NodeStands.{running_there, stand_number, stand_seen}
 use Rattle.tcertify.proofs.node.Node.sees_running.Goals as goal
 
-pub returns-clause-seen : goal.returns-clause-seen
-returns-clause-seen c =
+pub returns : goal.returns
+returns c =
     let a = c.args.self.now in let k = c.args.process in let p = c.index.result.now in
     let ps = a.processes.items.items in
     let there = slice_get_read ps (length ps) k p refl c.requires.there c.index.ensures in

@@ -25,7 +25,7 @@ returns-in_err-store c =
     ∙ ap (λ (n : ℕ). bytes_if (is_some ctx.a) (to_le_bytes w32 n)) value ∙ laid_so ctx.a in
     rw (p.1, p.2)
     (lays_not c.args.self.now c.args.process ctx c.args.size c.in-Some.channel c.in-Some.is c.store.new.self
-    (reason_of c.in_err-store.field-0.0) (rw laid at c.in_err-store.ensures.done))
+    (reason_of c.in_err-store.field-0.0) (rw laid at c.in_err-store.ensures))
 
 pub returns : goal.returns
 returns c =
@@ -36,4 +36,4 @@ returns c =
     ap (λ (t : Bool). bytes_if t (to_le_bytes w32 c.unwrap_or-value.result)) c.is_some.ensures
     ∙ ap (λ (n : ℕ). bytes_if (is_some ctx.a) (to_le_bytes w32 n)) value ∙ laid_so ctx.a in
     sends c.args.self.now c.args.process ctx c.args.size c.in-Some.channel c.in-Some.is c.store.new.self _ _
-    c.requires (rw laid at c.in_ok-store.ensures.done) c.communicates.ensures
+    c.requires (rw laid at c.in_ok-store.ensures) c.communicates.ensures

@@ -1,10 +1,9 @@
-use Rattle.std.proofs.Common.{◌≡◌, ℕ, refl, sym, ap, ◌∙◌, length, rules, Option, Some}
+use Rattle.std.proofs.Common.{◌≡◌, refl, sym, ap, ◌∙◌, length, Some}
 use Rattle.std.proofs.lemmas.Option.{slice_get_read}
 use Rattle.std.specs.HashMap.{get}
 use Rattle.std.specs.Prelude.{nat_eq, option_map, slice_get}
 use Rattle.tcertify.specs.declared.context.Context.{Context}
 use Rattle.tcertify.specs.declared.process.Process.{Process}
-use Rattle.tcertify.specs.declared.standing.Stand.{Stand}
 use Rattle.tcertify.specs.declared.standing.Stand.TheVariants.{Runs}
 use Rattle.tcertify.specs.Carried.{with_registers}
 use Rattle.tcertify.proofs.Indexing.{apart_set, indexed_set}

@@ -1,4 +1,4 @@
-use Rattle.std.proofs.Common.{◌≡◌, ℕ, refl, sym, ap, ◌∙◌, subst, [], ◌∷◌, Some, Ok, pos}
+use Rattle.std.proofs.Common.{◌≡◌, ℕ, refl, sym, ap, ◌∙◌, subst, [], ◌∷◌, Ok, pos}
 use Rattle.tword.specs.Actions.{answer}
 use Rattle.tword.specs.Words.{plus}
 use Rattle.tcode.specs.declared.instruction.Instruction.{Instruction}

@@ -1,4 +1,3 @@
-use Rattle.std.proofs.Common.{refl, sym}
 use Rattle.tcertify.specs.Contexts.{context_of}
 use Rattle.tcertify.proofs.NotedWords.{stores_noted}
 use Rattle.tcertify.proofs.stored.Words.stores_local_noted.Goals as goal
