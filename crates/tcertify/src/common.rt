@@ -125,7 +125,7 @@ fn jumped(context: &Context, instruction: &Instruction, a: Word) -> Left
     }
 }
 
-/// What an operation makes of B and A, if it is one of the commonest of those that leave one value in the place of both.
+/// What an operation makes of B and A, if it is one of the commonest that leave one value in the place of both.
 #[inline(always)]
 fn made_of_two(operation: Operation, b: Word, a: Word) -> Option<Word>
     ensures { IfSome result (λ value. MakesOne operation b a value) }

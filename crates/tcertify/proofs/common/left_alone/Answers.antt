@@ -18,7 +18,8 @@ pub returns-in_ok-context-in-Ldnlp : goal.returns-in_ok-context-in-Ldnlp
 returns-in_ok-context-in-Ldnlp c =
     rw c.replaced.ensures
     (loads_non_local_address c.args.kind (context_of c.args.context.now) c.args.instruction.now
-    c.in_ok-context-in-Ldnlp.field-0 c.in_ok-context-in-Ldnlp.was _ c.word_address-address-in-Ldnlp.ensures c.in-Ldnlp.is)
+    c.in_ok-context-in-Ldnlp.field-0 c.in_ok-context-in-Ldnlp.was _
+    c.word_address-address-in-Ldnlp.ensures c.in-Ldnlp.is)
 
 pub returns-in_ok-sum-in-Adc : goal.returns-in_ok-sum-in-Adc
 returns-in_ok-sum-in-Adc c =

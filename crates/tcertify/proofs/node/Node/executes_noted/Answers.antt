@@ -9,8 +9,8 @@ pub returns-clause-done : goal.returns-clause-done
 returns-clause-done c =
     let ctx = context_of c.args.context.now in
     IfSome_then c.executes_noted.result c.executes_noted.ensures.done
-    (λ left l. executed_noted c.args.self.now _ c.args.process ctx (with_left ctx left) c.args.instruction.now c.requires
-    (search rules) l)
+    (λ left l. executed_noted c.args.self.now _ c.args.process ctx (with_left ctx left) c.args.instruction.now
+    c.requires (search rules) l)
 
 pub returns-clause-workspace : goal.returns-clause-workspace
 returns-clause-workspace c =

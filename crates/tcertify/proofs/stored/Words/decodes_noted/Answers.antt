@@ -22,7 +22,8 @@ returns-in-Ok-Some c =
     let w : Words = c.args.self.now in let i : Instruction = c.in-Ok-Some.instruction in
     ended_by (part w c.args.iptr) w w w c.args.iptr [] refl (λ u r h. h) refl c.in_ok-first.first (answer i) (Ok i)
     c.in_ok-first.ensures (ap (ended w.kind)
-    (sym (which c.in-Ok-Some.field-0 (Some i) _ c.in-Ok-Some.field-0-is (sym c.in-Ok-Some.is ∙ c.single.ensures)))) (runs_given i w)
+    (sym (which c.in-Ok-Some.field-0 (Some i) _ c.in-Ok-Some.field-0-is (sym c.in-Ok-Some.is ∙ c.single.ensures))))
+    (runs_given i w)
 
 pub returns-in-Ok-None : goal.returns-in-Ok-None
 unfolding decode

@@ -13,4 +13,5 @@ returns-in-Free-clause-change c =
     let noted = c.is_noted.ensures c.if-not-is_noted.false in
     touched_word w w c.args.number Writes Puts _ noted
     (writes w c.args.number stored there (has_look w c.args.number Puts noted.tells refl)
-    (has_outputs w c.args.number Puts noted.tells refl) (free_so stored c.in-Free.is) (eq-eqb stored.sending 0 c.if-stored-eq0.true))
+    (has_outputs w c.args.number Puts noted.tells refl) (free_so stored c.in-Free.is)
+    (eq-eqb stored.sending 0 c.if-stored-eq0.true))
